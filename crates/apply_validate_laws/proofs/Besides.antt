@@ -1,13 +1,11 @@
 -- What is found beside the changes of a plan: nothing, exactly where some tests of the tree that a run reads hold.
-use Rattle.std.proofs.Common.{◌≡◌, ℕ, zero, suc, ◌+◌, ◌-◌, ◌<◌, ◌≤◌, List, [], ◌∷◌, ◌++◌, length, map, Bool, true, false, not, ◌&&◌, is_some, Option, Some, None, if◌then◌else◌, refl, sym, ap, ◌∙◌, ⊎_elim, arith}
+use Rattle.std.proofs.Common.{◌≡◌, ℕ, suc, ◌+◌, ◌-◌, ◌≤◌, List, [], ◌∷◌, length, map, Bool, true, false, not, ◌&&◌, Option, Some, None, if◌then◌else◌, refl, sym, ap, ◌∙◌, arith}
 use Rattle.std.specs.Prelude.{codes, is_none, nat_lt, nat_le}
-use Rattle.std.specs.List.{list_all, sum_by}
-use Rattle.std.specs.Option.{option_and_then, option_copied, option_map_or}
+use Rattle.std.specs.List.{sum_by}
+use Rattle.std.specs.Option.{option_and_then, option_map_or}
 use Rattle.std.specs.Str.{bytes_eq}
-use Rattle.std.proofs.lemmas.Bool.{cases_Bool, le-ltb}
 use Rattle.std.proofs.lemmas.Bool.Decides.{nat_tests}
 use Rattle.std.proofs.lemmas.List.Sums.{sum_by-cons}
-use denote.Ref.{Bor}
 use Rattle.serde_json.specs.Data.{Data}
 use Rattle.serde_json.specs.Find.{as_str}
 use Rattle.apply_json.specs.Tree.{◌>>=◌, is_word, member_of, text_of, text_or, unless_empty}
@@ -15,14 +13,13 @@ use Rattle.apply_model.specs.declared.plan.step_kind.StepKind.{StepKind}
 use Rattle.apply_model.specs.declared.plan.step_kind.StepKind.TheVariants.{Read}
 use Rattle.apply_model.specs.Plan.ResourceChange.{ResourceChange}
 use Rattle.apply_model.specs.Plan.StepKind.{is_kind}
-use Rattle.apply_model.specs.Script.Limits.{max_waits}
 use Rattle.apply_plan.specs.Script.Refusals.{takes_provisioners}
 use Rattle.apply_validate.specs.declared.findings.finding.Finding.{Finding}
 use Rattle.apply_validate.specs.declared.findings.name.Name.TheVariants as name
 use Rattle.apply_validate.specs.declared.findings.part.Part.TheVariants.{Item, Member}
 use Rattle.apply_validate.specs.declared.findings.what.What.TheVariants as what
 use Rattle.apply_validate.specs.declared.walks.mark.Mark.{Mark}
-use Rattle.apply_validate.specs.Beside.{again_mark, beyond_at, beyond_in, change_at, change_named, has_address, is_deposed, kind_marks, kind_of, object_named, only_warns, step_mark, steps_mark, unknown_mark, unknown_marks, waits_behind, waits_beyond, waits_in, waits_in_all, waits_left}
+use Rattle.apply_validate.specs.Beside.{beyond_at, beyond_in, change_at, change_named, has_address, is_deposed, kind_marks, kind_of, object_named, only_warns, step_mark, steps_mark, unknown_mark, unknown_marks, waits_beyond, waits_in, waits_in_all}
 use Rattle.apply_validate.specs.Findings.{finding_here, is_refusal_of, under}
 use Rattle.apply_validate.specs.ObjectNames.{Named}
 use Rattle.apply_validate.specs.PlanFindings.{name_read}

@@ -1,5 +1,5 @@
 -- What is found in what a script says for Terraform's form alone stands in its place.
-use Rattle.std.proofs.Common.{◌≡◌, ℕ, suc, List, [], ◌∷◌, ◌++◌, length, map, Bool, true, false, Option, Some, None, if◌then◌else◌, refl}
+use Rattle.std.proofs.Common.{ℕ, suc, List, [], ◌∷◌, ◌++◌, length, map, Bool, true, false, Option, Some, None, if◌then◌else◌, refl}
 use Rattle.std.specs.Prelude.{nat_lt}
 use Rattle.std.specs.Option.{option_map_or}
 use Rattle.serde_json.specs.Data.{Data, Members, no_members, member}
@@ -16,7 +16,7 @@ use Rattle.apply_validate.specs.declared.findings.want.Want.TheVariants as want
 use Rattle.apply_validate.specs.declared.findings.what.What.TheVariants.{UnknownOutput}
 use Rattle.apply_validate.specs.Extras.{extras_findings, in_extras, in_note, in_plan_output, in_plan_outputs, members_from, note_names, note_table, plan_output_names, plan_output_table, unless_planned}
 use Rattle.apply_validate.specs.Findings.{finding_here, under}
-use Rattle.apply_validate.specs.Walks.{fault_of, faults_of, in_items, in_list, inside, known, unread, where_suits}
+use Rattle.apply_validate.specs.Walks.{fault_of, faults_of, in_items, inside, known, unread, where_suits}
 use Rattle.apply_validate_laws.specs.Paths.{values_in}
 use Rattle.apply_validate_laws.proofs.BytesPlaced.{AreTold}
 use Rattle.apply_validate_laws.proofs.Placing.{AreRight, StandFrom, all_under, below, both, first_there, inside_right, items_right, of_table, of_unread, optional_right, rest_there, unread_right, where_right, whole_there}

@@ -1,12 +1,12 @@
 -- What a script says for Terraform's form alone: nothing is found for which a run refuses, exactly where a run reads it.
 use Rattle.std.proofs.Common.{◌≡◌, ◌≤◌, ℕ, suc, List, [], ◌∷◌, ◌++◌, map, Bool, true, false, not, ◌&&◌, is_ok, is_some, Option, Some, None, Result, Ok, Err, refl, sym, ap, subst, ◌∙◌, if◌then◌else◌, arith}
-use Rattle.std.specs.Prelude.{codes, is_none, option_map, option_and_then}
+use Rattle.std.specs.Prelude.{codes, is_none, option_map}
 use Rattle.std.specs.List.{list_all}
 use Rattle.std.specs.Str.{bytes_eq}
 use Rattle.json.specs.Json as json
 use Rattle.json.specs.Json.{Json}
 use Rattle.json.specs.Print.{print_from}
-use Rattle.json.specs.Tree.{HasNumbers, ItemsHaveNumbers, depth, items_depth}
+use Rattle.json.specs.Tree.{ItemsHaveNumbers, items_depth}
 use Rattle.serde_json.specs.Data.{Data, null, boolean, number, string, array, object, Items, no_items, item, Members, no_members, member}
 use Rattle.serde_json.specs.Find.{as_object, get}
 use Rattle.serde_json.specs.Read.{max_depth, number_of, of_items, of_json, of_members}
@@ -18,7 +18,7 @@ use Rattle.apply_plan.specs.declared.script.script_error.ScriptError.{ScriptErro
 use Rattle.apply_plan.specs.declared.script.script_error.ScriptError.TheVariants.{BadDiagnostic, BadOutput, BadShape, UnknownOutput}
 use Rattle.apply_plan.specs.Results as results
 use Rattle.apply_form_plan.specs.declared.texts.part.Part.TheVariants as part
-use Rattle.apply_form_plan.specs.Extras.{extras_found, extras_of_script, with_notes}
+use Rattle.apply_form_plan.specs.Extras.{extras_of_script, with_notes}
 use Rattle.apply_form_plan.specs.Notes as noted
 use Rattle.apply_form_plan.specs.Notes.{items_of, kept_at, note_in, notes_from, notes_in_script, object_or_none, said_at, said_or_empty, severity_in}
 use Rattle.apply_form_plan.specs.Outputs.{OutputsOfPlan, fault_of, has_output, is_flag_or_absent, is_output, is_typed, outputs_in_script, text_at, unless_faulty}
@@ -36,7 +36,6 @@ use Rattle.apply_validate.specs.Wants.{is_met}
 use Rattle.apply_validate_laws.proofs.Clean.{all_items, appended, clean, clean-append, clean-fault_of, clean-faults_of, clean-in_list, clean-inside, clean-then_unread, clean-under, clean-where_suits, is_absent_or}
 use Rattle.apply_validate_laws.proofs.Diagnostics.{two}
 use Rattle.apply_validate_laws.proofs.KeptBeside.{AreOf, AreOutputs, all_outputs, at_part, behind, kept_whole, member_spelt, text_spelt}
-use Rattle.apply_validate.proofs.Options.{and_false, and_true}
 use Rattle.apply_validate_laws.proofs.Spelt.{IsOf, flag_met, mapped, null_text, object_met, read_back, severity_met, text_met, text_or_met, typed_met}
 use Rattle.apply_validate_laws.proofs.Wanted.{needs_object}
 

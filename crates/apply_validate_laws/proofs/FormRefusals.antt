@@ -1,6 +1,6 @@
 -- Where a run refuses what a script says for Terraform's form alone, something is found where the refusal says.
-use Rattle.std.proofs.Common.{◌≡◌, ◌≤◌, ℕ, suc, List, [], ◌∷◌, ◌++◌, length, map, Bool, true, false, not, ◌&&◌, ◌||◌, is_err, is_ok, is_some, Option, Some, None, Result, Ok, Err, refl, sym, ap, subst, ◌∙◌, if◌then◌else◌, arith}
-use Rattle.std.specs.Prelude.{codes, nat_eq, nat_lt, option_map, option_and_then}
+use Rattle.std.proofs.Common.{◌≡◌, ◌≤◌, ℕ, suc, List, [], ◌∷◌, ◌++◌, map, Bool, true, false, not, ◌&&◌, ◌||◌, is_err, is_ok, is_some, Option, Some, None, Result, Ok, Err, refl, sym, ap, subst, ◌∙◌, if◌then◌else◌, arith}
+use Rattle.std.specs.Prelude.{codes, nat_eq, option_map}
 use Rattle.std.specs.List.{list_any}
 use Rattle.std.specs.Option.{option_map_or}
 use Rattle.std.specs.Str.{bytes_eq}
@@ -11,14 +11,13 @@ use Rattle.json.specs.Json as json
 use Rattle.json.specs.Json.{Json}
 use Rattle.json.specs.Print.{print_from}
 use Rattle.json.specs.Tree.{ItemsHaveNumbers, items_depth}
-use Rattle.serde_json.specs.Data.{Data, null, boolean, number, string, array, object, Items, no_items, item, Members, no_members, member}
+use Rattle.serde_json.specs.Data.{Data, boolean, number, string, array, object, Items, item, Members, no_members, member}
 use Rattle.serde_json.specs.Find.{get}
 use Rattle.serde_json.specs.Read.{max_depth, number_of, of_items, of_json, of_members}
 use Rattle.apply_json.specs.Tree.{◌>>=◌, list_of, tree_of, unless_null}
 use Rattle.apply_model.specs.declared.details.note.Note.{Note}
 use Rattle.apply_model.specs.Plan.SavedPlan.{SavedPlan}
 use Rattle.apply_model.specs.Script.OutcomeMap.{OutcomeMap}
-use Rattle.apply_plan.specs.Bytes.{max_bytes}
 use Rattle.apply_plan.specs.declared.plan.plan_error.PlanError.{PlanError}
 use Rattle.apply_plan.specs.declared.script.script_error.ScriptError.{ScriptError}
 use Rattle.apply_plan.specs.declared.script.script_error.ScriptError.TheVariants.{BadDiagnostic, BadOutput, BadShape, UnknownOutput}
@@ -26,7 +25,7 @@ use Rattle.apply_plan.specs.Plan.SavedPlan.{plan_of}
 use Rattle.apply_plan.specs.Results as results
 use Rattle.apply_plan.specs.Script.OutcomeMap.{script_of}
 use Rattle.apply_form_plan.specs.declared.texts.part.Part.TheVariants as part
-use Rattle.apply_form_plan.specs.Extras.{ExtrasOfScript, extras_of_bytes, extras_of_json, extras_of_script, with_notes}
+use Rattle.apply_form_plan.specs.Extras.{extras_of_bytes, extras_of_json, extras_of_script, with_notes}
 use Rattle.apply_form_plan.specs.Notes as noted
 use Rattle.apply_form_plan.specs.Notes.{items_of, note_in, notes_from, notes_in_script}
 use Rattle.apply_form_plan.specs.Outputs.{OutputsOfPlan, fault_of, has_output, is_output, outputs_in_script, unless_faulty}

@@ -12,7 +12,7 @@ use Rattle.json.proofs.Nesting.{value-depth}
 use Rattle.serde_json.specs.Data.{Data}
 use Rattle.serde_json.specs.Read.{max_depth, of_json, read}
 use Rattle.apply_json.specs.Keeping.{keeping_tree_of}
-use Rattle.apply_json.specs.Tree.{◌>>=◌, tree_of}
+use Rattle.apply_json.specs.Tree.{tree_of}
 use Rattle.apply_model.specs.Plan.SavedPlan.{SavedPlan}
 use Rattle.apply_model.specs.Script.OutcomeMap.{OutcomeMap}
 use Rattle.apply_plan.specs.Bytes.{max_bytes}
@@ -23,8 +23,7 @@ use Rattle.apply_plan.specs.Plan.SavedPlan.{plan_of, plan_of_tree}
 use Rattle.apply_plan.specs.Results as results
 use Rattle.apply_plan.specs.Script.Entry.{is_kept}
 use Rattle.apply_plan.specs.Script.OutcomeMap.{script_of}
-use Rattle.apply_form_plan.specs.declared.texts.part.Part.TheVariants as part
-use Rattle.apply_form_plan.specs.Extras.{ExtrasOfScript, extras_of_bytes, extras_of_json}
+use Rattle.apply_form_plan.specs.Extras.{extras_of_bytes, extras_of_json}
 use Rattle.apply_form_plan.specs.Outputs.{OutputsOfPlan}
 use Rattle.apply_form_plan.specs.Texts.{json_of, json_of_text}
 use Rattle.apply_form_plan.specs.Told.{DetailsOfPlan, details_of}
@@ -34,10 +33,9 @@ use Rattle.apply_validate.specs.declared.form.Form.TheVariants.{Applystream, Ter
 use Rattle.apply_validate.specs.Extras.{extras_findings, in_extras, outputs_unless}
 use Rattle.apply_validate.specs.Findings.{is_refusal}
 use Rattle.apply_validate.specs.InForm.{extras_for, findings_in}
-use Rattle.apply_validate_laws.specs.Laws.{has_refusal, refuses_besides, refuses_extras, refuses_given, refuses_read, run_refuses, run_refuses_in}
+use Rattle.apply_validate_laws.specs.Laws.{has_refusal, refuses_extras, refuses_given, refuses_read, run_refuses, run_refuses_in}
 use Rattle.apply_validate.specs.Whole.{given_findings, plan_findings}
 use Rattle.apply_validate_laws.proofs.Alike.{both_trees, has_numbers, last_is}
-use Rattle.apply_validate_laws.proofs.Clean.{clean}
 use Rattle.apply_validate_laws.proofs.ExtrasRead.{clean_extras}
 use Rattle.apply_validate_laws.proofs.KeptBeside.{behind}
 use Rattle.apply_validate.proofs.Options.{not_not}

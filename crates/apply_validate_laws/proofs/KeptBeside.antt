@@ -1,11 +1,10 @@
 -- The tree of a script, and the one in which a run in Terraform's form keeps values as their texts: what stands at a name in both.
 use Rattle.std.proofs.Common.{◌≡◌, ◌≤◌, ℕ, List, Bool, true, false, Option, Some, None, refl, sym, ap, subst, ◌∙◌, Ordering, Less, Equal, Greater, arith, true≢false}
-use Rattle.std.specs.Prelude.{option_map, option_and_then}
+use Rattle.std.specs.Prelude.{option_and_then}
 use Rattle.std.specs.Option.{option_map_or}
 use Rattle.std.specs.Ordering.{nat_cmp, match_ordering}
 use Rattle.std.specs.Cmp.Lexicographic.{slice_cmp}
 use Rattle.std.specs.Str.{bytes_eq}
-use Rattle.std.proofs.lemmas.Map.Lookups.{exact_bytes}
 use Rattle.std.proofs.lemmas.Slice.Eq.{bytes_eq-Decides}
 use Rattle.json.specs.Json as json
 use Rattle.json.specs.Json.{Json}
@@ -14,7 +13,7 @@ use Rattle.serde_json.specs.Data.{Data, null, boolean, number, string, array, ob
 use Rattle.serde_json.specs.Find.{as_str, get, get_member}
 use Rattle.serde_json.proofs.Views.{get_member-put, get_member-put_other}
 use Rattle.serde_json.specs.Read.{max_depth, number_of, of_items, of_json, of_members}
-use Rattle.apply_json.specs.Tree.{◌>>=◌, member_of, unless_null}
+use Rattle.apply_json.specs.Tree.{◌>>=◌, member_of}
 use Rattle.apply_form_plan.specs.declared.texts.part.Part.{Part}
 use Rattle.apply_form_plan.specs.declared.texts.part.Part.TheVariants.{Output, Outputs, Text}
 use Rattle.apply_form_plan.specs.Notes.{kept_at}

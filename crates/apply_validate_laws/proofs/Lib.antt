@@ -4,6 +4,7 @@ pub mod BytesPlaced
 pub mod Clean
 pub mod CleanSteps
 pub mod Diagnostics
+pub mod EachCounts
 pub mod ElementRefusals
 pub mod Elements
 pub mod ElementsTold
@@ -17,14 +18,17 @@ pub mod FormRuns
 pub mod Found
 pub mod Joined
 pub mod KeptBeside
+pub mod KeptNames
 pub mod Marks
 pub mod Members
+pub mod NoneLeft
 pub mod Outputs
 pub mod Placing
 pub mod PlanRefusals
 pub mod Plans
 pub mod PlansPlaced
 pub mod Provisioners
+pub mod ReadAlone
 pub mod Refusals
 pub mod RefusalsPlaced
 pub mod Refused

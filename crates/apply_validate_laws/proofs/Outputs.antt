@@ -1,14 +1,11 @@
 -- Items of `output`: nothing is found for which a run refuses, exactly where they are read and come in time.
-use Rattle.std.proofs.Common.{◌≡◌, ℕ, suc, ◌+◌, ◌<◌, List, [], ◌∷◌, ◌++◌, length, map, take, get_or, Bool, true, false, not, ◌&&◌, ◌||◌, if◌then◌else◌, is_some, Option, Some, None, unwrap_or, refl, sym, ap, ◌∙◌, ⊎_elim, append_assoc, arith}
+use Rattle.std.proofs.Common.{◌≡◌, ℕ, suc, List, [], ◌∷◌, ◌++◌, map, Bool, true, false, not, ◌&&◌, ◌||◌, if◌then◌else◌, is_some, Option, Some, None, unwrap_or, refl, sym, ap, ◌∙◌, ⊎_elim, arith}
 use Rattle.std.specs.Prelude.{codes, nat_le, nat_lt}
 use Rattle.std.specs.List.{list_all}
 use Rattle.std.specs.Option.{option_and_then, option_map, option_map_or}
 use Rattle.std.proofs.lemmas.Bool.{cases_Bool, le-leb, lt-leb, ltb-false, ltb-true}
-use Rattle.std.proofs.lemmas.List.{append-nil}
 use Rattle.serde_json.specs.Data.{Data, Items, no_items, item, null, boolean, number, string, array, object}
 use Rattle.serde_json.specs.Find.{as_number, as_object, as_str, as_u64}
-use Rattle.serde_json.specs.View.{items_view, view}
-use Rattle.serde_json.specs.declared.value.Value.{Value}
 use Rattle.apply_json.specs.Seen.{items_in}
 use Rattle.apply_json.specs.Tree.{◌>>=◌, list_of, member_of, text_of}
 use Rattle.apply_model.specs.declared.script.timed_text.TimedText.{TimedText}
@@ -26,7 +23,6 @@ use Rattle.apply_validate_laws.proofs.Alike.{Alike, AlikeItems, AreAlike, as_str
 use Rattle.apply_validate_laws.proofs.Clean.{all_items, clean, clean-append, clean-faults_of, clean-marked, clean-then_unread, clean-under, clean-where, is_absent_or}
 use Rattle.apply_validate_laws.proofs.Members.{is_there_same, text_there, whole_or_there, whole_same}
 use Rattle.apply_validate.proofs.Options.{and_comm, and_false, and_right, and_then_is, and_true}
-use Rattle.apply_validate.proofs.Trees.{length_so_far, listed_more}
 
 -- ---- one item, of the tree that a run reads
 

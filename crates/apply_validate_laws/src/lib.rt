@@ -2,7 +2,7 @@
 //! does nothing; its contract is the law.
 #![tactic(auto)]
 
-ghost use Rattle.std.specs.Prelude.{◌≡◌, ◌↔◌, [], ◌∷◌, ◌++◌, ℕ, All, Bool, List, Result, Some, false, length, nat_lt, slice_get, true};
+ghost use Rattle.std.specs.Prelude.{◌≡◌, ◌↔◌, [], ◌∷◌, ◌++◌, ℕ, All, Bool, List, Result, Some, false, is_some, length, nat_lt, slice_get, true};
 ghost use Rattle.std.specs.List.{Contains};
 ghost use Rattle.serde_json.specs.Data.{Data};
 ghost use Rattle.apply_json.specs.Seen.{members_in};
@@ -10,8 +10,14 @@ ghost use Rattle.apply_json.specs.Tree.{tree_of};
 ghost use Rattle.apply_model.specs.Plan.SavedPlan.{SavedPlan};
 ghost use Rattle.apply_plan.specs.Bytes.{max_bytes};
 ghost use Rattle.apply_plan.specs.declared.plan.plan_error.PlanError.{PlanError};
+ghost use Rattle.apply_plan.specs.Script.Entry.{diag_from, entry_of, failure_from, output_from, provisioner_from, step_from, wait_from};
+ghost use Rattle.apply_plan.specs.Script.OutcomeMap.{script_of_tree};
+ghost use Rattle.apply_form_plan.specs.Texts.{part_named};
+ghost use Rattle.apply_form_plan.specs.declared.texts.part.Part.TheVariants as part;
+ghost use Rattle.apply_validate.specs.Extras.{note_names, plan_output_names};
 ghost use Rattle.apply_validate.specs.Findings.{is_refusal};
 ghost use Rattle.apply_validate.specs.InForm.{findings_in};
+ghost use Rattle.apply_validate.specs.ScriptFindings.{diagnostic_names, entry_names, failure_names, output_names, provisioner_names, step_names, wait_names};
 ghost use Rattle.apply_validate.specs.Walks.{is_known, texts_in};
 ghost use Rattle.apply_validate.specs.Whole.{given_findings, plan_findings};
 ghost use Rattle.apply_validate.specs.declared.findings.name.Name.{Name};
@@ -19,6 +25,7 @@ ghost use Rattle.apply_validate.specs.declared.findings.part.Part.{Part};
 ghost use Rattle.apply_validate.specs.declared.findings.part.Part.TheVariants.{Other};
 ghost use Rattle.apply_validate.specs.declared.form.Form.{Form};
 ghost use Rattle.apply_validate_laws.specs.Paths.{ArePlaced, value_at};
+ghost use Rattle.apply_validate_laws.specs.Reading.{Counts, without_unknown};
 ghost use Rattle.apply_validate_laws.specs.Unread.{IsRead, IsUnread, warning_at};
 ghost use Rattle.apply_validate_laws.specs.UnreadInForm.{IsReadIn};
 
@@ -75,4 +82,18 @@ pub fn warnings_are_told_of_what_no_run_in_a_form_reads()
         → nat_lt max_bytes (length script) ≡ false → tree_of script ≡ Some tree → IsReadIn form front names
         → value_at front tree ≡ Some value → slice_get (texts_in (members_in value)) n ≡ Some text
         → Contains (findings_in form lanes plan (Some script)) (warning_at (front ++ Other n ∷ [])) ↔ (is_known names text ≡ false) }
+{}
+
+/// A run reads the same of a script's tree without the members of which a warning is told (`same`), and of what is left none is told
+/// (`none`); each of the others counts: there are an object, and a value of that member, with which the run reads another thing than
+/// without (`each`). In Terraform's form it keeps of an output and of a diagnostic of no step those members of which none is told,
+/// and no other one.
+pub fn what_is_warned_of_is_what_no_run_reads()
+    ensures same { (plan : SavedPlan) (script : Data) → script_of_tree plan (without_unknown script) ≡ script_of_tree plan script }
+    ensures none { (script : Data) (path : List Part) → IsUnread IsRead (without_unknown script) path → ⊥ }
+    ensures each { All (Counts entry_of) entry_names × All (Counts step_from) step_names × All (Counts diag_from) diagnostic_names
+        × All (Counts failure_from) failure_names × All (Counts provisioner_from) provisioner_names
+        × All (Counts output_from) output_names × All (Counts wait_from) wait_names }
+    ensures outputs { (text : List ℕ) → is_known plan_output_names text ≡ is_some (part_named part.Output text) }
+    ensures diagnostics { (text : List ℕ) → is_known note_names text ≡ is_some (part_named part.Diagnostic text) }
 {}
