@@ -1,5 +1,5 @@
 -- Which value names an object first, among values that are looked at one after another.
-use Rattle.std.proofs.Common.{◌≡◌, ℕ, suc, ◌+◌, Bool, true, false, cond, List, [], ◌∷◌, ◌++◌, ◌<◌, length, map, take, BTreeMap, Option, Some, None, Ordering, is_some, option_map, refl, sym, ap, ◌∙◌, ⊎_elim, arith}
+use Rattle.std.proofs.Common.{◌≡◌, ℕ, suc, ◌+◌, Bool, true, false, cond, List, [], ◌∷◌, ◌++◌, ◌<◌, length, map, take, BTreeMap, Option, Some, None, Ordering, is_some, refl, sym, ap, ◌∙◌, ⊎_elim, arith}
 use Rattle.std.specs.Prelude.{◌&&◌, ◌||◌, find, slice_get}
 use Rattle.std.specs.BTreeMap.{IsEmpty, Updates, get_by}
 use Rattle.std.specs.Cmp.Lexicographic.{slice_cmp}

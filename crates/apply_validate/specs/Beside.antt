@@ -4,7 +4,7 @@ use Rattle.std.specs.List.{list_any, position_from}
 use Rattle.std.specs.Option.{option_map_or}
 use Rattle.std.specs.Str.{bytes_eq}
 use Rattle.serde_json.specs.Data.{Data}
-use Rattle.serde_json.specs.Find.{as_number, as_str, as_u64}
+use Rattle.serde_json.specs.Find.{as_str}
 use Rattle.apply_json.specs.Tree.{is_word}
 use Rattle.apply_model.specs.declared.plan.step_kind.StepKind.{StepKind}
 use Rattle.apply_model.specs.declared.plan.step_kind.StepKind.TheVariants.{Create, Read}
@@ -18,14 +18,12 @@ use Rattle.apply_validate.specs.declared.findings.name.Name.{Name}
 use Rattle.apply_validate.specs.declared.findings.name.Name.TheVariants as name
 use Rattle.apply_validate.specs.declared.findings.part.Part.{Part}
 use Rattle.apply_validate.specs.declared.findings.part.Part.TheVariants.{Item, Member}
-use Rattle.apply_validate.specs.declared.findings.what.What.{What}
 use Rattle.apply_validate.specs.declared.findings.what.What.TheVariants as what
 use Rattle.apply_validate.specs.declared.walks.mark.Mark.{Mark}
 use Rattle.apply_validate.specs.Findings.{finding_here, under}
-use Rattle.apply_validate.specs.Names.{name_text}
 use Rattle.apply_validate.specs.PlanFindings.{first_named, name_read}
 use Rattle.apply_validate.specs.Skipped.{is_skipped}
-use Rattle.apply_validate.specs.Walks.{items_at, marked, member_at}
+use Rattle.apply_validate.specs.Walks.{items_at, member_at}
 
 -- ---- objects
 

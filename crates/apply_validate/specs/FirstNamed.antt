@@ -1,5 +1,5 @@
 -- Which value names an object first, for the private type that keeps the numbers.
-use Rattle.std.specs.Prelude.{◌≡◌, ℕ, List, map, Bool, Option, Some, None}
+use Rattle.std.specs.Prelude.{◌≡◌, List, map, Bool, Option, Some, None}
 use Rattle.std.specs.List.{position_from}
 use Rattle.std.specs.Map.{lookup}
 use Rattle.apply_model.specs.Plan.ResourceChange.{ResourceChange}

@@ -1,6 +1,5 @@
 -- What is found in a script, by itself and beside the changes of a plan, where that is not refused. All paths are from the value.
 use Rattle.std.specs.Prelude.{ℕ, suc, ◌+◌, List, [], ◌∷◌, ◌++◌, length, map, sum_by, Bool, true, false, ◌&&◌, is_some, nat_lt, if◌then◌else◌, Option, Some, None, option_and_then, unwrap_or}
-use Rattle.std.specs.Option.{option_map_or}
 use Rattle.serde_json.specs.Data.{Data}
 use Rattle.serde_json.specs.Find.{as_number, as_object, as_str, as_u64}
 use Rattle.apply_json.specs.Tree.{non_empty_text_of}
@@ -10,7 +9,6 @@ use Rattle.apply_validate.specs.declared.findings.finding.Finding.{Finding}
 use Rattle.apply_validate.specs.declared.findings.name.Name.{Name}
 use Rattle.apply_validate.specs.declared.findings.name.Name.TheVariants as name
 use Rattle.apply_validate.specs.declared.findings.part.Part.TheVariants.{Item, Member}
-use Rattle.apply_validate.specs.declared.findings.want.Want.{Want}
 use Rattle.apply_validate.specs.declared.findings.want.Want.TheVariants as want
 use Rattle.apply_validate.specs.declared.findings.what.What.TheVariants as what
 use Rattle.apply_validate.specs.declared.walks.known.Known.{Known}

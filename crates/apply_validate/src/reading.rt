@@ -15,7 +15,7 @@ ghost use Rattle.apply_validate.specs.Whole.{behind_first, beside_plan, changes_
 use crate::beside::planned::Planned;
 use crate::beside::waiting::{place_of_waits, waits_told};
 use crate::extras::bytes::extras_for;
-use crate::findings::list::Findings;
+use crate::findings::list::{Findings, joined};
 use crate::findings::name::Name;
 use crate::findings::part::Part;
 use crate::findings::path::Path;
@@ -143,9 +143,8 @@ fn findings_for(
 fn findings_alone(alloc: Global, bytes: &[u8], lanes: bool) -> Result<Findings, AllocError>
     ensures { IfOk result (λ f. f ≡ told (script_findings None bytes.now ++ waits_said lanes None bytes.now)) }
 {
-    let found = findings_beside(alloc, None, bytes)?;
-    let waits = waits_said(alloc, lanes, None, bytes)?;
-    found.then(waits)
+    let found = findings_beside(alloc, None, bytes);
+    joined(found, waits_said(alloc, lanes, None, bytes))
 }
 
 /// What is found in a script for a plan.
@@ -195,11 +194,9 @@ fn refused_with(
     ensures { IfOk result (λ f. f ≡ told (refused_for refusal ++ stuck_entries (behind_first (never_beginning_of plan.now bytes.now))
         ++ waits_said lanes (Some plan.now.changes) bytes.now)) }
 {
-    let first = refused_for(alloc, refusal)?;
-    let others = stuck_behind_first(alloc, plan, bytes)?;
-    let all = first.then(others)?;
-    let waits = waits_said(alloc, lanes, Some(plan), bytes)?;
-    all.then(waits)
+    let first = refused_for(alloc, refusal);
+    let all = joined(first, stuck_behind_first(alloc, plan, bytes));
+    joined(all, waits_said(alloc, lanes, Some(plan), bytes))
 }
 
 /// Each entry that has a step which could never begin, but for the first.

@@ -10,7 +10,7 @@ ghost use Rattle.apply_validate.specs.Findings.{told};
 ghost use Rattle.apply_validate.specs.Walks.{faults_of, where_suits};
 ghost use Rattle.apply_validate.specs.declared.findings.want.Want.TheVariants as want;
 
-use crate::findings::list::Findings;
+use crate::findings::list::{Findings, joined};
 use crate::findings::name::Name;
 use crate::findings::part::Part;
 use crate::findings::want::Want;
@@ -80,10 +80,9 @@ fn walk_output(
     requires { IfSome (option_copied planned) (λ plan. KnowsAs (seen_outputs plan) names.now) }
     ensures { IfOk result (λ f. f ≡ told (in_plan_output (option_map seen_outputs (option_copied planned.entry)) name.now (view output.now))) }
 {
-    let all = walk_table(alloc, output)?;
-    let all = all.then(unless_planned(alloc, planned, names, name)?)?;
-    let all = all.then(walk_unread(alloc, output, &NAMES)?)?;
-    Ok(all)
+    let all = walk_table(alloc, output);
+    let all = joined(all, unless_planned(alloc, planned, names, name));
+    joined(all, walk_unread(alloc, output, &NAMES))
 }
 
 /// What is found in outputs, by their names.

@@ -9,7 +9,7 @@ ghost use Rattle.apply_validate.specs.Findings.{told};
 
 use crate::extras::note::Note;
 use crate::extras::outputs::Outputs;
-use crate::findings::list::Findings;
+use crate::findings::list::{Findings, joined};
 use crate::findings::name::Name;
 use crate::findings::want::Want;
 use crate::walks::known::Known;
@@ -39,8 +39,7 @@ pub fn walk_extras(
     ensures { IfOk result (λ f. f ≡ told (in_extras (option_map seen_outputs (option_copied planned.entry)) (view script.now))) }
 {
     let outputs = Outputs { planned };
-    let all = fault(alloc, script, OUTPUTS)?;
-    let all = all.then(walk_inside(alloc, &outputs, script, Name::Outputs)?)?;
-    let all = all.then(walk_list(alloc, &Note, script, DIAGNOSTICS)?)?;
-    Ok(all)
+    let all = fault(alloc, script, OUTPUTS);
+    let all = joined(all, walk_inside(alloc, &outputs, script, Name::Outputs));
+    joined(all, walk_list(alloc, &Note, script, DIAGNOSTICS))
 }

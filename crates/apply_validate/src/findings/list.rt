@@ -132,3 +132,14 @@ fn begin_with(kept: &mut [Finding], part: Part) -> Result<(), AllocError>
     }
     Ok(())
 }
+
+/// What is found in one place, and behind it what is found in another. `Err` where memory was refused for either, or is for both.
+pub fn joined(
+    these: Result<Findings, AllocError>,
+    others: Result<Findings, AllocError>,
+) -> Result<Findings, AllocError>
+    ensures { (all more : List found) → IfOk these (λ f. f ≡ told all) → IfOk others (λ f. f ≡ told more)
+        → IfOk result (λ f. f ≡ told (all ++ more)) }
+{
+    these?.then(others?)
+}

@@ -6,7 +6,7 @@ ghost use Rattle.apply_plan.specs.Plan.Steps.{steps_alone, steps_together};
 ghost use Rattle.apply_validate.specs.Findings.{told};
 ghost use Rattle.apply_validate.specs.PlanFindings.{actions_mark, address_marks, by_itself, has_empty_address, in_change, is_one_of_eight, misplaces};
 
-use crate::findings::list::Findings;
+use crate::findings::list::{Findings, joined};
 use crate::findings::name::Name;
 use crate::findings::want::Want;
 use crate::findings::what::What;
@@ -125,9 +125,8 @@ impl<'a> Walk<'a> for Change {
         if !value.is_object() {
             return Ok(Findings::none(alloc));
         }
-        let all = faults(alloc, value, &ACTIONS)?;
-        let all = all.then(walk_marks(alloc, &[actions_mark(value)])?)?;
-        Ok(all)
+        let all = faults(alloc, value, &ACTIONS);
+        joined(all, walk_marks(alloc, &[actions_mark(value)]))
     }
 }
 
@@ -177,8 +176,7 @@ fn address_marks(element: &Value) -> [Mark; 2]
 pub fn walk_by_itself(alloc: Global, element: &Value) -> Result<Findings, AllocError>
     ensures { IfOk result (λ f. f ≡ told (by_itself (view element.now))) }
 {
-    let all = faults(alloc, element, &TABLE)?;
-    let all = all.then(walk_inside(alloc, &Change, element, Name::Change)?)?;
-    let all = all.then(walk_marks(alloc, &address_marks(element))?)?;
-    Ok(all)
+    let all = faults(alloc, element, &TABLE);
+    let all = joined(all, walk_inside(alloc, &Change, element, Name::Change));
+    joined(all, walk_marks(alloc, &address_marks(element)))
 }

@@ -6,7 +6,7 @@ ghost use Rattle.apply_json.specs.Tree.{list_of};
 ghost use Rattle.apply_validate.specs.Findings.{told};
 ghost use Rattle.apply_validate.specs.PlanFindings.{in_elements, in_plan};
 
-use crate::findings::list::Findings;
+use crate::findings::list::{Findings, joined};
 use crate::findings::name::Name;
 use crate::findings::part::Part;
 use crate::findings::want::Want;
@@ -55,7 +55,9 @@ pub fn walk_plan(alloc: Global, plan: &Value) -> Result<Findings, AllocError>
     if !Want::Plan.suits(plan) {
         return Findings::here(alloc, What::IsNot(Want::Plan));
     }
-    let all = faults(alloc, plan, &TABLE)?;
-    let all = all.then(walk_changes(alloc, items_at(plan, Name::ResourceChanges))?)?;
-    Ok(all)
+    let all = faults(alloc, plan, &TABLE);
+    joined(
+        all,
+        walk_changes(alloc, items_at(plan, Name::ResourceChanges)),
+    )
 }

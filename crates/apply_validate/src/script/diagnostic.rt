@@ -5,7 +5,7 @@ ghost use Rattle.serde_json.specs.View.{view};
 ghost use Rattle.apply_validate.specs.Findings.{told};
 ghost use Rattle.apply_validate.specs.ScriptFindings.{in_diagnostic};
 
-use crate::findings::list::Findings;
+use crate::findings::list::{Findings, joined};
 use crate::findings::name::Name;
 use crate::findings::want::Want;
 use crate::findings::what::What;
@@ -54,8 +54,9 @@ impl<'a> Walk<'a> for Diagnostic {
         if !Want::Diagnostic.suits(value) {
             return Findings::here(alloc, What::IsNot(Want::Diagnostic));
         }
-        let wrong = faults(alloc, value, &TABLE)?;
-        let all = wrong.then(walk_unread(alloc, value, &NAMES)?)?;
-        Ok(all)
+        joined(
+            faults(alloc, value, &TABLE),
+            walk_unread(alloc, value, &NAMES),
+        )
     }
 }

@@ -9,7 +9,7 @@ ghost use Rattle.apply_validate.specs.ScriptFindings.{in_entry};
 use crate::beside::marks::{again_mark, change_at, steps_mark, walk_unknown};
 use crate::beside::planned::Planned;
 use crate::beside::waits::walk_beyond_in;
-use crate::findings::list::Findings;
+use crate::findings::list::{Findings, joined};
 use crate::findings::name::Name;
 use crate::findings::want::Want;
 use crate::findings::what::What;
@@ -55,13 +55,12 @@ pub fn walk_entry<'a>(
     }
     let change = change_at(planned, entry);
     let step = Step { planned, change };
-    let all = faults(alloc, entry, &TABLE)?;
-    let all = all.then(walk_unknown(alloc, planned, entry)?)?;
-    let all = all.then(walk_marks(alloc, &[again_mark(change, first)])?)?;
-    let all = all.then(fault(alloc, entry, STEPS)?)?;
-    let all = all.then(walk_marks(alloc, &[steps_mark(change, entry)])?)?;
-    let all = all.then(walk_items_at(alloc, &step, entry, Name::Steps)?)?;
-    let all = all.then(walk_beyond_in(alloc, planned.is_some(), left, entry)?)?;
-    let all = all.then(walk_unread(alloc, entry, &NAMES)?)?;
-    Ok(all)
+    let all = faults(alloc, entry, &TABLE);
+    let all = joined(all, walk_unknown(alloc, planned, entry));
+    let all = joined(all, walk_marks(alloc, &[again_mark(change, first)]));
+    let all = joined(all, fault(alloc, entry, STEPS));
+    let all = joined(all, walk_marks(alloc, &[steps_mark(change, entry)]));
+    let all = joined(all, walk_items_at(alloc, &step, entry, Name::Steps));
+    let all = joined(all, walk_beyond_in(alloc, planned.is_some(), left, entry));
+    joined(all, walk_unread(alloc, entry, &NAMES))
 }

@@ -2,7 +2,7 @@
 
 ghost use Rattle.apply_validate.specs.ScriptFindings.{in_failure};
 
-use crate::findings::list::Findings;
+use crate::findings::list::{Findings, joined};
 use crate::findings::name::Name;
 use crate::findings::want::Want;
 use crate::findings::what::What;
@@ -61,8 +61,9 @@ impl<'a> Walk<'a> for Failure {
         if !Want::Diagnostic.suits(value) {
             return Findings::here(alloc, What::IsNot(Want::Diagnostic));
         }
-        let wrong = faults(alloc, value, &TABLE)?;
-        let all = wrong.then(walk_unread(alloc, value, &NAMES)?)?;
-        Ok(all)
+        joined(
+            faults(alloc, value, &TABLE),
+            walk_unread(alloc, value, &NAMES),
+        )
     }
 }

@@ -7,7 +7,7 @@ ghost use Rattle.apply_json.specs.Tree.{list_of};
 ghost use Rattle.apply_validate.specs.Findings.{told};
 ghost use Rattle.apply_validate.specs.ScriptFindings.{comes_after, in_output, in_outputs, is_over, output_marks, outputs_behind, whole_at};
 
-use crate::findings::list::Findings;
+use crate::findings::list::{Findings, joined};
 use crate::findings::name::Name;
 use crate::findings::part::Part;
 use crate::findings::want::Want;
@@ -92,10 +92,9 @@ fn walk_output(
     if !item.is_object() {
         return Ok(Findings::none(alloc));
     }
-    let all = faults(alloc, item, &TABLE)?;
-    let all = all.then(walk_marks(alloc, &marks(seconds, before, item))?)?;
-    let all = all.then(walk_unread(alloc, item, &NAMES)?)?;
-    Ok(all)
+    let all = faults(alloc, item, &TABLE);
+    let all = joined(all, walk_marks(alloc, &marks(seconds, before, item)));
+    joined(all, walk_unread(alloc, item, &NAMES))
 }
 
 /// What is found in the items of a provisioner of so many seconds.

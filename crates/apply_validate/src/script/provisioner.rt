@@ -4,7 +4,7 @@ ghost use Rattle.std.specs.Prelude.{◌≡◌};
 ghost use Rattle.serde_json.specs.View.{view};
 ghost use Rattle.apply_validate.specs.ScriptFindings.{growth_of_provisioner, in_provisioner, provisioner_mark};
 
-use crate::findings::list::Findings;
+use crate::findings::list::{Findings, joined};
 use crate::findings::name::Name;
 use crate::findings::want::Want;
 use crate::findings::what::What;
@@ -76,12 +76,11 @@ impl<'a> Walk<'a> for Provisioner {
         if !Want::Provisioner.suits(value) {
             return Findings::here(alloc, What::IsNot(Want::Provisioner));
         }
-        let all = faults(alloc, value, &TABLE)?;
-        let all = all.then(walk_list(alloc, &Leaf(Want::Output), value, OUTPUT)?)?;
-        let all = all.then(walk_marks(alloc, &[mark(value)])?)?;
-        let all = all.then(walk_inside(alloc, &Diagnostic, value, Name::Failed)?)?;
-        let all = all.then(walk_unread(alloc, value, &NAMES)?)?;
-        Ok(all)
+        let all = faults(alloc, value, &TABLE);
+        let all = joined(all, walk_list(alloc, &Leaf(Want::Output), value, OUTPUT));
+        let all = joined(all, walk_marks(alloc, &[mark(value)]));
+        let all = joined(all, walk_inside(alloc, &Diagnostic, value, Name::Failed));
+        joined(all, walk_unread(alloc, value, &NAMES))
     }
 }
 
@@ -100,8 +99,7 @@ impl<'a> Walk<'a> for ProvisionerGrowth {
         _number: usize,
         value: &'a Value,
     ) -> Result<Findings, AllocError> {
-        let all = faults(alloc, value, &GROWTH)?;
-        let all = all.then(walk_outputs(alloc, value)?)?;
-        Ok(all)
+        let all = faults(alloc, value, &GROWTH);
+        joined(all, walk_outputs(alloc, value))
     }
 }

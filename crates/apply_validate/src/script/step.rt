@@ -7,7 +7,7 @@ ghost use Rattle.apply_validate.specs.ScriptFindings.{beside, beside_skipped, is
 
 use crate::beside::marks::kind_marks;
 use crate::beside::planned::Planned;
-use crate::findings::list::Findings;
+use crate::findings::list::{Findings, joined};
 use crate::findings::name::Name;
 use crate::findings::want::Want;
 use crate::findings::what::What;
@@ -220,17 +220,22 @@ impl<'a> Walk<'a> for Step<'_, 'a> {
         let wait = Wait {
             planned: self.planned,
         };
-        let all = faults(alloc, value, table(is_skipped(value)))?;
-        let all = all.then(walk_inside(alloc, &Diagnostic, value, Name::Warning)?)?;
-        let all = all.then(walk_inside(alloc, &Failure, value, Name::Failed)?)?;
-        let all = all.then(walk_list(alloc, &Provisioner, value, PROVISIONERS)?)?;
-        let all = all.then(walk_marks(alloc, &marks(value))?)?;
-        let all = all.then(walk_marks(alloc, &kind_marks(self.change, number, value))?)?;
-        let all = all.then(faults(alloc, value, &GROWTH)?)?;
-        let all = all.then(walk_marks(alloc, &skipped_marks(value))?)?;
-        let all = all.then(walk_items_at(alloc, &ProvisionerGrowth, value, Name::Provisioners)?)?;
-        let all = all.then(walk_list(alloc, &wait, value, AFTER)?)?;
-        let all = all.then(walk_unread(alloc, value, &NAMES)?)?;
-        Ok(all)
+        let all = faults(alloc, value, table(is_skipped(value)));
+        let all = joined(all, walk_inside(alloc, &Diagnostic, value, Name::Warning));
+        let all = joined(all, walk_inside(alloc, &Failure, value, Name::Failed));
+        let all = joined(all, walk_list(alloc, &Provisioner, value, PROVISIONERS));
+        let all = joined(all, walk_marks(alloc, &marks(value)));
+        let all = joined(
+            all,
+            walk_marks(alloc, &kind_marks(self.change, number, value)),
+        );
+        let all = joined(all, faults(alloc, value, &GROWTH));
+        let all = joined(all, walk_marks(alloc, &skipped_marks(value)));
+        let all = joined(
+            all,
+            walk_items_at(alloc, &ProvisionerGrowth, value, Name::Provisioners),
+        );
+        let all = joined(all, walk_list(alloc, &wait, value, AFTER));
+        joined(all, walk_unread(alloc, value, &NAMES))
     }
 }

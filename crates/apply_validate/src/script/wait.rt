@@ -2,7 +2,7 @@
 
 use crate::beside::marks::{change_at, step_mark, walk_unknown};
 use crate::beside::planned::Planned;
-use crate::findings::list::Findings;
+use crate::findings::list::{Findings, joined};
 use crate::findings::name::Name;
 use crate::findings::want::Want;
 use crate::findings::what::What;
@@ -57,10 +57,12 @@ impl<'a> Walk<'a> for Wait<'_, 'a> {
             return Findings::here(alloc, What::IsNot(Want::Wait));
         }
         let change = change_at(self.planned, value);
-        let all = faults(alloc, value, &TABLE)?;
-        let all = all.then(walk_unknown(alloc, self.planned, value)?)?;
-        let all = all.then(walk_marks(alloc, &[step_mark(change, whole_at(value, Name::Step))])?)?;
-        let all = all.then(walk_unread(alloc, value, &NAMES)?)?;
-        Ok(all)
+        let all = faults(alloc, value, &TABLE);
+        let all = joined(all, walk_unknown(alloc, self.planned, value));
+        let all = joined(
+            all,
+            walk_marks(alloc, &[step_mark(change, whole_at(value, Name::Step))]),
+        );
+        joined(all, walk_unread(alloc, value, &NAMES))
     }
 }

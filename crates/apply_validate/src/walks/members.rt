@@ -6,7 +6,7 @@ ghost use Rattle.apply_json.specs.Tree.{list_of};
 ghost use Rattle.apply_validate.specs.Findings.{told};
 ghost use Rattle.apply_validate.specs.Walks.{fault_of, faults_of, found_by, in_items, in_list, inside, items_at, lack, marked};
 
-use crate::findings::list::Findings;
+use crate::findings::list::{Findings, joined};
 use crate::findings::name::Name;
 use crate::findings::part::Part;
 use crate::findings::want::Want;
@@ -108,9 +108,8 @@ pub fn walk_list<'a, W: Walk<'a>>(
 ) -> Result<Findings, AllocError>
     ensures { IfOk result (λ f. f ≡ told (in_list (W.found walk.now) known (view value.now))) }
 {
-    let itself = fault(alloc, value, known)?;
-    let found = walk_items_at(alloc, walk, value, known.name)?;
-    itself.then(found)
+    let itself = fault(alloc, value, known);
+    joined(itself, walk_items_at(alloc, walk, value, known.name))
 }
 
 /// The items of a member, no items where it is no array.

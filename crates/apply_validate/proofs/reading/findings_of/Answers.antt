@@ -1,4 +1,4 @@
-use Rattle.std.proofs.Common.{◌≡◌, Bool, ap, ◌∙◌}
+use Rattle.std.proofs.Common.{Bool, ap, ◌∙◌}
 use Rattle.std.specs.Option.{option_copied}
 use Rattle.apply_validate.specs.Findings.{told}
 use Rattle.apply_validate.specs.InForm.{extras_for}

@@ -1,6 +1,6 @@
 use Rattle.std.proofs.Common.{◌≡◌, ◌<◌, ◌+◌, ◌∷◌, ◌++◌, [], List, Option, length, map, option_map, take, subst, sym, ap, ◌∙◌, arith}
 use Rattle.std.proofs.lemmas.List.{length-map}
-use Rattle.serde_json.specs.View.{items_view, view}
+use Rattle.serde_json.specs.View.{items_view}
 use Rattle.apply_json.specs.Tree.{list_of}
 use Rattle.apply_validate.specs.Findings.{told}
 use Rattle.apply_validate.specs.FirstNamed.{AreFirst}

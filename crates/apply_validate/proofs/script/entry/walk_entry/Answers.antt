@@ -1,4 +1,5 @@
-use Rattle.std.proofs.Common.{◌≡◌, ◌∷◌, [], Bool, Option, true, ap, is_some, sym, ◌∙◌, rules}
+use Rattle.std.proofs.Common.{◌≡◌, ◌∷◌, [], Bool, Option, true, ap, is_some, subst, sym, ◌∙◌, rules}
+use Rattle.std.specs.Prelude.{IfOk}
 use Rattle.std.specs.Option.{option_copied}
 use Rattle.serde_json.specs.Find.{as_object}
 use Rattle.serde_json.specs.View.{view}
@@ -19,25 +20,28 @@ returns c =
     let changes = option_copied c.args.planned in
     let there : is_some (as_object d) ≡ true = search (rules, c.suits, c.if-not-suits) in
     let change : option_copied c.change_at-change.result ≡ change_at changes d = c.change_at-change.ensures in
-    let again : c.in_ok-walk_marks.field-0 ≡ told (marked (again_mark (change_at changes d) c.args.first ∷ [])) =
-    c.in_ok-walk_marks.ensures ∙ ap (λ (mark : Mark). told (marked (mark ∷ []))) (c.again_mark.ensures ∙ ap (λ (o : Option ResourceChange). again_mark o c.args.first) change) in
-    let many : c.in_ok-walk_marks-2.field-0 ≡ told (marked (steps_mark (change_at changes d) d ∷ [])) =
-    c.in_ok-walk_marks-2.ensures ∙ ap (λ (mark : Mark). told (marked (mark ∷ []))) (c.steps_mark.ensures ∙ ap (λ (o : Option ResourceChange). steps_mark o d) change) in
-    let steps : c.in_ok-walk_items_at.field-0 ≡ told (inside (in_items (in_step changes (change_at changes d))) name.Steps d) =
-    c.in_ok-walk_items_at.ensures ∙ ap (λ (o : Option ResourceChange). told (inside (in_items (in_step changes o)) name.Steps d)) change in
-    let beyond : c.in_ok-walk_beyond_in.field-0 ≡ told (beyond_in (is_some changes) c.args.left d) =
-    c.in_ok-walk_beyond_in.ensures ∙ ap (λ (b : Bool). told (beyond_in b c.args.left d)) (c.is_some.ensures ∙ sym (some_copied c.args.planned)) in
+    let again : IfOk c.walk_marks.result (λ f. f ≡ told (marked (again_mark (change_at changes d) c.args.first ∷ []))) =
+    subst (λ (mark : Mark). IfOk c.walk_marks.result (λ f. f ≡ told (marked (mark ∷ []))))
+    (c.again_mark.ensures ∙ ap (λ (o : Option ResourceChange). again_mark o c.args.first) change) c.walk_marks.ensures in
+    let many : IfOk c.walk_marks-2.result (λ f. f ≡ told (marked (steps_mark (change_at changes d) d ∷ []))) =
+    subst (λ (mark : Mark). IfOk c.walk_marks-2.result (λ f. f ≡ told (marked (mark ∷ []))))
+    (c.steps_mark.ensures ∙ ap (λ (o : Option ResourceChange). steps_mark o d) change) c.walk_marks-2.ensures in
+    let steps : IfOk c.walk_items_at.result (λ f. f ≡ told (inside (in_items (in_step changes (change_at changes d))) name.Steps d)) =
+    subst (λ (o : Option ResourceChange). IfOk c.walk_items_at.result (λ f. f ≡ told (inside (in_items (in_step changes o)) name.Steps d))) change c.walk_items_at.ensures in
+    let beyond : IfOk c.walk_beyond_in.result (λ f. f ≡ told (beyond_in (is_some changes) c.args.left d)) =
+    subst (λ (b : Bool). IfOk c.walk_beyond_in.result (λ f. f ≡ told (beyond_in b c.args.left d)))
+    (c.is_some.ensures ∙ sym (some_copied c.args.planned)) c.walk_beyond_in.ensures in
     rw there
-    (c.in_ok-all-8.ensures _ _
-    (c.in_ok-all-7.ensures _ _
-    (c.in_ok-all-6.ensures _ _
-    (c.in_ok-all-5.ensures _ _
-    (c.in_ok-all-4.ensures _ _
-    (c.in_ok-all-3.ensures _ _
-    (c.in_ok-all-2.ensures _ _ c.in_ok-all.ensures c.in_ok-walk_unknown.ensures)
+    (c.joined.ensures _ _
+    (c.joined-all-6.ensures _ _
+    (c.joined-all-5.ensures _ _
+    (c.joined-all-4.ensures _ _
+    (c.joined-all-3.ensures _ _
+    (c.joined-all-2.ensures _ _
+    (c.joined-all.ensures _ _ c.faults-all.ensures c.walk_unknown.ensures)
     again)
-    c.in_ok-fault.ensures)
+    c.fault.ensures)
     many)
     steps)
     beyond)
-    c.in_ok-walk_unread.ensures)
+    c.walk_unread.ensures)

@@ -1,4 +1,4 @@
-use Rattle.std.proofs.Common.{List, Option, Some, is_some, ap, sym, ◌∙◌}
+use Rattle.std.proofs.Common.{List, Some, is_some, ap, ◌∙◌}
 use Rattle.apply_model.specs.Plan.ResourceChange.{ResourceChange}
 use Rattle.apply_validate.specs.Beside.{has_address}
 use Rattle.apply_validate.specs.FirstNamed.{at_addresses}

@@ -1,5 +1,4 @@
-use Rattle.std.proofs.Common.{◌≡◌, ◌<◌, ◌≤◌, ◌+◌, ◌∷◌, ◌++◌, [], List, Option, Some, None, length, map, take, ap, subst, sym, ◌∙◌, arith}
-use Rattle.apply_model.specs.Plan.ResourceChange.{ResourceChange}
+use Rattle.std.proofs.Common.{◌∷◌, ◌++◌, [], Some, None, take, ap, subst, ◌∙◌}
 use Rattle.apply_validate.specs.FirstNamed.{AreFirst, at_addresses, of_objects}
 use Rattle.apply_validate.specs.ObjectNames.{Named}
 use Rattle.apply_validate.proofs.FirstNames.{address_of, object_of, one_more, so_many}
