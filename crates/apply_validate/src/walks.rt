@@ -3,5 +3,6 @@
 pub mod known;
 pub mod mark;
 pub mod members;
+pub mod object;
 pub mod unread;
 pub mod walk;

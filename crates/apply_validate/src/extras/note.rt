@@ -2,13 +2,11 @@
 
 ghost use Rattle.apply_validate.specs.Extras.{in_note};
 
-use crate::findings::list::{Findings, joined};
+use crate::findings::list::Findings;
 use crate::findings::name::Name;
 use crate::findings::want::Want;
-use crate::findings::what::What;
 use crate::walks::known::Known;
-use crate::walks::members::faults;
-use crate::walks::unread::walk_unread;
+use crate::walks::object::walk_object;
 use crate::walks::walk::Walk;
 use serde_json::Value;
 use std::alloc::{AllocError, Global};
@@ -63,12 +61,6 @@ impl<'a> Walk<'a> for Note {
         _number: usize,
         value: &'a Value,
     ) -> Result<Findings, AllocError> {
-        if !Want::Note.suits(value) {
-            return Findings::here(alloc, What::IsNot(Want::Note));
-        }
-        joined(
-            faults(alloc, value, &TABLE),
-            walk_unread(alloc, value, &NAMES),
-        )
+        walk_object(alloc, value, Want::Note, &TABLE, &NAMES)
     }
 }

@@ -2,13 +2,11 @@
 
 ghost use Rattle.apply_validate.specs.ScriptFindings.{in_failure};
 
-use crate::findings::list::{Findings, joined};
+use crate::findings::list::Findings;
 use crate::findings::name::Name;
 use crate::findings::want::Want;
-use crate::findings::what::What;
 use crate::walks::known::Known;
-use crate::walks::members::faults;
-use crate::walks::unread::walk_unread;
+use crate::walks::object::walk_object;
 use crate::walks::walk::Walk;
 use serde_json::Value;
 use std::alloc::{AllocError, Global};
@@ -58,12 +56,6 @@ impl<'a> Walk<'a> for Failure {
         _number: usize,
         value: &'a Value,
     ) -> Result<Findings, AllocError> {
-        if !Want::Diagnostic.suits(value) {
-            return Findings::here(alloc, What::IsNot(Want::Diagnostic));
-        }
-        joined(
-            faults(alloc, value, &TABLE),
-            walk_unread(alloc, value, &NAMES),
-        )
+        walk_object(alloc, value, Want::Diagnostic, &TABLE, &NAMES)
     }
 }
