@@ -3,11 +3,10 @@
 use Rattle.std.specs.Prelude.{◌≡◌, ℕ, List, [], ◌∷◌, Option, Some, None, IfErr, IfSome, OnOk, IsSome, Result, true, false, codes, option_map, string_bytes}
 use Rattle.std.specs.Io.KnownBytes.{IsAtEnd}
 use Rattle.clap.specs.Faults.{fault_of}
-use Rattle.clap.specs.Simple.{App, matches_of, new_rule, new_shape}
-use Rattle.clap.specs.Walk.{Row, Rule, Text, first_of, one_of}
-use Rattle.clap.specs.declared.builder.action.ArgAction.TheVariants.{SetTrue}
+use Rattle.clap.specs.Simple.{App, matches_of, new_shape}
+use Rattle.clap.specs.Walk.{Row, Text, first_of, one_of}
 use Rattle.apply_lines.specs.Cut.{cut_lines}
-use Rattle.apply_words.specs.Words.{IsGivenBy, WasNotFollowed, file_rule, unless_dash}
+use Rattle.apply_words.specs.Words.{IsGivenBy, WasNotFollowed, file_rule, flag_rule, unless_dash}
 use Rattle.apply_check.specs.Reading.{IsAnswer}
 use Rattle.apply_check.specs.Telling.{IsTold}
 use Rattle.apply_check.specs.declared.command.followed.Followed.{Followed}
@@ -17,10 +16,6 @@ use Rattle.apply_check.specs.declared.command.settings.Settings.{Settings}
 use Rattle.apply_check.specs.declared.verdict.whole.Whole.{Whole}
 
 -- ---- the options
-
--- an option that is given or not
-abbrev pub flag_rule : (name : List ℕ) → Rule
-flag_rule name = record (new_rule name) { long = Some name; action = Some SetTrue }
 
 -- the command, whose words are those behind `check`
 abbrev pub command_line : App

@@ -4,6 +4,7 @@ pub mod Gathered
 pub mod Held
 pub mod Keeping
 pub mod KeepingTurns
+pub mod Scalars
 pub mod Trees
 pub mod Trimmed
 pub mod Turns

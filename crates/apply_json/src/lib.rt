@@ -29,6 +29,6 @@ pub use own_text::read_own_text;
 pub use parsing::{parse, parse_trimmed, read_kept_slots, read_slots};
 pub use passing::pass;
 pub use read_fault::ReadFault;
-pub use scalar::{Scalar, read_scalar};
+pub use scalar::{Scalar, read_scalar, read_scalar_into};
 pub use shape::Shape;
-pub use slots::{Slots, read_object};
+pub use slots::{Slots, pass_member, read_object};

@@ -1,6 +1,6 @@
 //! A value of which only a scalar is looked at.
 
-ghost use Rattle.std.specs.Prelude.{◌≡◌, ◌<◌, length, IfOk, OnErr, OnOk, Some};
+ghost use Rattle.std.specs.Prelude.{◌≡◌, ◌<◌, length, Err, IfOk, OnErr, OnOk, Some};
 ghost use Rattle.std.specs.Option.{option_copied};
 ghost use Rattle.serde_json.specs.Data.{Data};
 ghost use Rattle.apply_json.specs.Seen.{scalar_view, seen, text_seen, text_seen_or, whole_seen};
@@ -8,6 +8,7 @@ ghost use Rattle.apply_json.specs.Tokens.{IsNoValue, IsRead};
 
 use crate::begun::{Begun, begin};
 use crate::passing::{pass_items, pass_members};
+use crate::read_fault::ReadFault;
 use json::{Invalid, Reader};
 use serde_json::Number;
 
@@ -75,4 +76,19 @@ pub fn read_scalar<'a>(reader: &mut Reader<'a>, depth: usize) -> Result<Scalar<'
             Ok(Scalar::Other)
         }
     }
+}
+
+/// Reads a value as `read_scalar` does, into its slot.
+#[inline(always)]
+pub fn read_scalar_into<'a>(
+    reader: &mut Reader<'a>,
+    depth: usize,
+    slot: &mut Scalar<'a>,
+) -> Result<(), ReadFault>
+    ensures ok { OnOk result ((d : Data) × IsRead depth reader.old d reader.new × (scalar_view slot.new ≡ seen (Some d))) }
+    ensures shorter { OnOk result (length reader.new < length reader.old) }
+    ensures err { result ≡ Err ReadFault.NotJson → IsNoValue depth reader.old }
+{
+    *slot = read_scalar(reader, depth)?;
+    Ok(())
 }

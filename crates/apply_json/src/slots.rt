@@ -6,7 +6,7 @@ ghost use Rattle.apply_json.specs.Seen.{members_in, scalar_view, seen};
 ghost use Rattle.apply_json.specs.Tokens.{AreMembers, AreNoMembers, IsNoValue, IsRead};
 
 use crate::begun::{Begun, begin};
-use crate::passing::pass_items;
+use crate::passing::{pass, pass_items};
 use crate::read_fault::ReadFault;
 use crate::scalar::Scalar;
 use json::Reader;
@@ -31,6 +31,17 @@ pub trait Slots<'a> {
             × ((start : Self) → (ms : Members) → holds start self.old ms → holds start self.new (put name.now d ms))) }
         ensures shorter { OnOk result (length reader.new < length reader.old) }
         ensures err { result ≡ Err ReadFault.NotJson → IsNoValue depth reader.old };
+}
+
+/// Passes over the value of a member that has no slot.
+#[inline(always)]
+pub fn pass_member(reader: &mut Reader<'_>, depth: usize) -> Result<(), ReadFault>
+    ensures ok { OnOk result ((d : Data) × IsRead depth reader.old d reader.new) }
+    ensures shorter { OnOk result (length reader.new < length reader.old) }
+    ensures err { result ≡ Err ReadFault.NotJson → IsNoValue depth reader.old }
+{
+    pass(reader, depth)?;
+    Ok(())
 }
 
 /// Reads the rest of an object into slots.

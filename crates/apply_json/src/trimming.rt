@@ -5,15 +5,17 @@ ghost use Rattle.json.specs.Json.{items, members, value};
 ghost use Rattle.serde_json.specs.Data.{Data, Items, Members, no_members};
 ghost use Rattle.serde_json.specs.Read.{converted, of_items, of_json, of_members, read as read_text};
 ghost use Rattle.serde_json.specs.View.{view, items_view, members_view};
+ghost use Rattle.apply_json.specs.Seen.{IsScalar, scalar_view, seen};
 ghost use Rattle.apply_json.specs.Trimmed.{is_within, trimmed, trimmed_items, trimmed_members};
 
-use crate::number::number;
+use crate::begun::{Begun, begin};
 use crate::passing::pass;
 use crate::read_fault::ReadFault;
+use crate::scalar::Scalar;
 use crate::shape::Shape;
-use json::{Reader, Scratch, Token};
+use json::{Reader, Scratch};
 use serde_json::{Map, Value};
-use std::alloc::Global;
+use std::alloc::{AllocError, Global};
 
 /// How deep arrays and objects may nest.
 pub const MAX_DEPTH: usize = 127;
@@ -53,28 +55,23 @@ fn read<S: Shape>(
     ensures err { result ≡ Err ReadFault.NotJson
         → converted of_json (value depth reader.old) ≡ None }
 {
-    let token = reader.next().ok_or(ReadFault::NotJson)?;
-    match token {
-        Token::String(text) => Ok(Value::String(String::from_str(alloc, text)?)),
-        Token::Number(text) => match number(text) {
-            Some(number) => Ok(Value::Number(number)),
-            None => Err(ReadFault::NotJson),
-        },
-        Token::Bool(b) => Ok(Value::Bool(b)),
-        Token::Null => Ok(Value::Null),
-        Token::EndObject | Token::EndArray | Token::Key(_) | Token::Bad => Err(ReadFault::NotJson),
-        Token::BeginArray => {
-            if depth == 0 {
-                return Err(ReadFault::NotJson);
-            }
-            Ok(Value::Array(read_items(alloc, reader, depth - 1, shape)?))
-        }
-        Token::BeginObject => {
-            if depth == 0 {
-                return Err(ReadFault::NotJson);
-            }
-            Ok(Value::Object(read_members(alloc, reader, depth - 1, shape)?))
-        }
+    match begin(reader, depth)? {
+        Begun::Scalar(scalar) => Ok(value_of(alloc, scalar)?),
+        Begun::Array => Ok(Value::Array(read_items(alloc, reader, depth - 1, shape)?)),
+        Begun::Object => Ok(Value::Object(read_members(alloc, reader, depth - 1, shape)?)),
+    }
+}
+
+/// The tree that a scalar is.
+fn value_of(alloc: Global, scalar: Scalar<'_>) -> Result<Value, AllocError>
+    ensures { IfOk result (λ v. (d : Data) → IsScalar d → scalar_view scalar.entry ≡ seen (Some d) → view v ≡ d) }
+{
+    match scalar {
+        // An array and an object are no scalars.
+        Scalar::Absent | Scalar::Other => Ok(Value::Null),
+        Scalar::Bool(b) => Ok(Value::Bool(b)),
+        Scalar::Number(number) => Ok(Value::Number(number)),
+        Scalar::Text(text) => Ok(Value::String(String::from_str(alloc, text)?)),
     }
 }
 

@@ -8,12 +8,11 @@ use Rattle.std.specs.Str.Parse.{IsNumeral, digits_value, without_leading_plus}
 use Rattle.clap.specs.Faults.{fault_of}
 use Rattle.clap.specs.Simple.{App, matches_of, new_rule, new_shape}
 use Rattle.clap.specs.Walk.{Row, Rule, Text, first_of, one_of, texts}
-use Rattle.clap.specs.declared.builder.action.ArgAction.TheVariants.{SetTrue}
 use Rattle.clap.specs.declared.builder.value_parser.ValueParser.{ValueParser}
 use Rattle.clap.specs.declared.builder.value_parser.ValueParser.TheVariants as values
 use Rattle.clap.specs.declared.parser.matches.ValueSource.{ValueSource}
 use Rattle.clap.specs.declared.parser.matches.ValueSource.TheVariants as source
-use Rattle.apply_words.specs.Words.{AskForHelp, WereNotTaken, file_rule, unless_dash}
+use Rattle.apply_words.specs.Words.{AskForHelp, WereNotTaken, file_rule, flag_rule, unless_dash}
 use Rattle.apply_words.specs.declared.usage.Usage.{Usage}
 use Rattle.apply_words.specs.declared.usage.Usage.TheVariants as usage
 use Rattle.apply_picture.specs.declared.command.colour.Colour.{Colour}
@@ -23,10 +22,6 @@ use Rattle.apply_picture.specs.declared.command.form.Form.TheVariants as form
 use Rattle.apply_picture.specs.declared.command.settings.Settings.{Settings}
 
 -- ---- the options
-
--- `--NAME`
-abbrev pub flag_named : Text → Rule
-flag_named name = record (new_rule name) { long = Some name; action = Some SetTrue }
 
 -- `--NAME VALUE`
 abbrev pub option_named : Text → Rule
@@ -56,7 +51,7 @@ abbrev pub command_line : (colours : ValueParser) → App
 command_line colours = record {
   top = record (new_shape (codes "applystream view")) {
     no_binary_name = true;
-    rules = flag_named (codes "svg") ∷ number_named (codes "rows") 1 100000 ∷ flag_named (codes "all") ∷ width_rule ∷ colour_rule colours
+    rules = flag_rule (codes "svg") ∷ number_named (codes "rows") 1 100000 ∷ flag_rule (codes "all") ∷ width_rule ∷ colour_rule colours
         ∷ file_rule ∷ [];
   };
   subs = [];

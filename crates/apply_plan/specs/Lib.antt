@@ -1,3 +1,4 @@
+pub mod Both
 pub mod Bytes
 pub mod FilledText
 pub mod Found

@@ -2,6 +2,7 @@
 //! and is passed on.
 #![tactic(auto)]
 
+mod both;
 mod bytes;
 mod filled_text;
 mod found;

@@ -2,16 +2,14 @@
 
 /// Reads the value of the member of that name into its slot. One of another name is passed over.
 macro_rules! take_member {
-    ($slots:ident, $name:ident, $reader:ident, $depth:ident,) => {{
-        apply_json::pass($reader, $depth)?;
-        Ok(())
-    }};
-    ($slots:ident, $name:ident, $reader:ident, $depth:ident, $member:literal => $slot:ident: $value:expr, $($others:tt)*) => {
+    ($name:ident, $reader:ident, $depth:ident,) => {
+        apply_json::pass_member($reader, $depth)
+    };
+    ($name:ident, $reader:ident, $depth:ident, $member:literal => $read:expr, $($others:tt)*) => {
         if crate::text_test::is_text($name, $member) {
-            $slots.$slot = $value;
-            Ok(())
+            $read
         } else {
-            take_member!($slots, $name, $reader, $depth, $($others)*)
+            take_member!($name, $reader, $depth, $($others)*)
         }
     };
 }

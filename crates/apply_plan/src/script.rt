@@ -9,6 +9,7 @@ pub mod found_items;
 pub mod hashed_id;
 pub mod limit;
 pub mod list_item;
+pub mod named;
 pub mod number_or_none;
 pub mod object_text;
 pub mod output_slots;

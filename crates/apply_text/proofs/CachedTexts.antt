@@ -1,6 +1,6 @@
 -- Texts that are kept, and the pieces of a line.
-use Rattle.std.proofs.Common.{◌≡◌, ℕ, ◌+◌, ◌-◌, ◌/◌, ◌%◌, ◌<◌, List, [], ◌∷◌, ◌++◌, codes, length, take, Ok, OnOk, refl, sym, ap, ap₂, ◌∙◌, append_assoc, append-nil, length-append, arith}
-use Rattle.std.specs.Prelude.{Bool, true, false, Result, Err, if◌then◌else◌, is_ok, slice_index}
+use Rattle.std.proofs.Common.{◌≡◌, ℕ, ◌+◌, ◌-◌, ◌/◌, ◌%◌, ◌<◌, List, [], ◌∷◌, ◌++◌, codes, length, take, Ok, OnOk, refl, sym, ap, ap₂, ◌∙◌, append_assoc, append-nil, length-append, arith, Result, subst}
+use Rattle.std.specs.Prelude.{Bool, true, false, Result, Err, if◌then◌else◌, is_ok, slice_index, IfOk}
 use Rattle.std.specs.Option.{option_map_or}
 use Rattle.std.specs.Str.{IsUtf8}
 use Rattle.std.proofs.lemmas.Str.{IsUtf8-append}
@@ -146,3 +146,9 @@ appended (Err u) old new piece e = tt
 pub grown_utf8 : (grows : Bool) (bytes text : List ℕ) → IsUtf8 bytes → IsUtf8 text → IsUtf8 (if grows then bytes ++ text else bytes)
 grown_utf8 true bytes text before more = IsUtf8-append bytes text before more
 grown_utf8 false bytes text before more = before
+
+-- ---- what was made
+
+-- what holds of each that is made holds of this one
+pub made : {T E : Type 0} (P : T → Type 0) (r : Result T E) (x : T) → r ≡ Ok x → IfOk r P → P x
+made P r x is holds = subst (λ s. IfOk s P) is holds

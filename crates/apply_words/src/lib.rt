@@ -3,6 +3,7 @@
 
 mod arguments;
 mod file_fault;
+mod options;
 mod parsing;
 mod reading_on;
 mod refusals;
@@ -11,6 +12,7 @@ mod status;
 mod usage;
 
 pub use arguments::{file, file_of};
+pub use options::{flag, is_given, with_option};
 pub use parsing::matches_of;
 pub use reading_on::read_on;
 pub use refusals::{answer_usage, refuse_file, refuse_memory, refuse_unread};

@@ -1,18 +1,18 @@
 //! The words of the command line.
 
-ghost use Rattle.std.specs.Prelude.{◌≡◌, Some, true, false, IfOk, IfErr, codes, map, string_bytes};
+ghost use Rattle.std.specs.Prelude.{◌≡◌, Some, IfOk, IfErr, codes, map, string_bytes};
 ghost use Rattle.clap.specs.Matches.{found_of};
 ghost use Rattle.clap.specs.Simple.{app_of};
-ghost use Rattle.clap.specs.Walk.{one_of, rows_of, rule_of};
+ghost use Rattle.clap.specs.Walk.{one_of, rows_of};
 ghost use Rattle.apply_words.specs.Words.{WereRefused};
-ghost use Rattle.apply_check.specs.CommandLine.{AreSaid, HaveSaid, command_line, flag_rule};
+ghost use Rattle.apply_check.specs.CommandLine.{AreSaid, HaveSaid, command_line};
 ghost use Rattle.apply_check.specs.declared.command.form.Form.TheVariants as forms;
 
 use crate::command::form::Form;
 use crate::command::settings::Settings;
 use crate::rules::mode::Mode;
-use apply_words::{Usage, file, file_of, matches_of};
-use clap::{Arg, ArgAction, ArgMatches, Command};
+use apply_words::{Usage, file, file_of, flag, is_given, matches_of, with_option};
+use clap::{ArgMatches, Command};
 use std::alloc::{AllocError, Global};
 
 const ABOUT: &str =
@@ -64,24 +64,16 @@ pub fn read_words(alloc: Global, words: &[String]) -> Result<Settings, Usage>
 fn command<'a>(alloc: Global) -> Result<Command<'a>, AllocError>
     ensures { IfOk result (λ command. app_of command ≡ command_line) }
 {
-    Command::new(alloc, "applystream check")
-        .no_binary_name(true)
-        .about(ABOUT)
-        .after_help(AFTER)
-        .arg(flag(alloc, "json", JSON))?
-        .arg(flag(alloc, "find", FIND))?
-        .arg(flag(alloc, "plan", PLAN))?
-        .arg(file(alloc))
-}
-
-/// An option that is given or not.
-fn flag<'a>(alloc: Global, name: &'a str, help: &'a str) -> Arg<'a>
-    ensures { (rule_of result ≡ flag_rule name.now) × (result.global ≡ false) }
-{
-    Arg::new(alloc, name)
-        .long(name)
-        .action(ArgAction::SetTrue)
-        .help(help)
+    let line = Ok(
+        Command::new(alloc, "applystream check")
+            .no_binary_name(true)
+            .about(ABOUT)
+            .after_help(AFTER),
+    );
+    let line = with_option(line, flag(alloc, "json", JSON));
+    let line = with_option(line, flag(alloc, "find", FIND));
+    let line = with_option(line, flag(alloc, "plan", PLAN));
+    with_option(line, file(alloc))
 }
 
 /// What the matches say.
@@ -109,12 +101,4 @@ fn form_of(matches: &ArgMatches<'_>) -> Form
     } else {
         Form::Text
     }
-}
-
-/// Whether the option of that name is given.
-fn is_given(matches: &ArgMatches<'_>, name: &str) -> bool
-    ensures yes { one_of name.now (rows_of (found_of matches.now)) ≡ Some (codes "true") → result ≡ true }
-    ensures no { one_of name.now (rows_of (found_of matches.now)) ≡ Some (codes "false") → result ≡ false }
-{
-    matches.get_flag(name)
 }

@@ -4,7 +4,7 @@ ghost use Rattle.std.specs.Prelude.{◌≡◌, ◌≤◌, ◌⊎◌, ◌∷◌, 
 ghost use Rattle.std.specs.Io.KnownBytes.{IsAtEnd, Keeps};
 ghost use Rattle.clap.specs.Faults.{fault_of};
 ghost use Rattle.clap.specs.declared.error.kind.ErrorKind.TheVariants.{DisplayHelp};
-ghost use Rattle.apply_check.specs.CommandLine.{WasChecked, WasNotChecked, command_line};
+ghost use Rattle.apply_check.specs.CommandLine.{HaveSaid, WasChecked, WasNotChecked, command_line};
 ghost use Rattle.apply_lines.specs.Cut.{cut_lines};
 ghost use Rattle.apply_check.specs.Judged.{Stops};
 ghost use Rattle.apply_check.specs.Reading.{IsAnswer};
@@ -17,6 +17,7 @@ use crate::command::findings::tell_finding;
 use crate::command::followed::Followed;
 use crate::command::form::Form;
 use crate::command::refusals::refuse;
+use crate::command::settings::Settings;
 use crate::command::status::ERRORS;
 use crate::command::telling::whole_line;
 use crate::command::writing::write_line;
@@ -55,14 +56,33 @@ pub fn follow<F: Files, R: Read, W: Write, E: Write>(
     ensures statuses { result.status ≤ 4 }
     ensures read { result.answer ≡ None → 1 ≤ result.status → is_terminal ≡ false → OnOk result.rest (IsAtEnd (R.remaining input.new)) }
 {
-    let settings = match read_words(alloc, words) {
-        Ok(settings) => settings,
+    match read_words(alloc, words) {
+        Ok(settings) => follow_settings(files, alloc, &settings, is_terminal, input, out, faults),
         Err(usage) => {
             let status = answer_usage(&usage, out, faults);
             let is_awaited = status > 0 && !is_terminal;
-            return Followed::without_answer(status, read_on(is_awaited, input, faults));
+            Followed::without_answer(status, read_on(is_awaited, input, faults))
         }
-    };
+    }
+}
+
+/// The same where the words say these settings.
+fn follow_settings<F: Files, R: Read, W: Write, E: Write>(
+    files: &F,
+    alloc: Global,
+    settings: &Settings,
+    is_terminal: bool,
+    input: &mut R,
+    out: &mut W,
+    faults: &mut E,
+) -> Followed
+    ensures told { (words : List (List ℕ)) → HaveSaid words settings.now
+        → WasChecked F.File.remaining words (R.remaining input.old) (R.remaining input.new) (W.contents out.old) (W.contents out.new) result
+        ⊎ WasNotChecked words (W.contents out.old) (W.contents out.new) result.status }
+    ensures quiet { result.status ≤ 1 → Keeps (E.contents faults.old) (E.contents faults.new) }
+    ensures statuses { result.status ≤ 4 }
+    ensures read { result.answer ≡ None → 1 ≤ result.status → is_terminal ≡ false → OnOk result.rest (IsAtEnd (R.remaining input.new)) }
+{
     let Some(name) = &settings.file else {
         let checked = check_input(
             alloc,

@@ -1,6 +1,6 @@
 //! What is kept of the members of `hook`.
 
-ghost use Rattle.std.specs.Prelude.{◌≡◌, ◌<◌, Err, IfOk, OnOk, Some, length, option_map};
+ghost use Rattle.std.specs.Prelude.{◌≡◌, ◌<◌, Err, OnOk, Some, length, option_map};
 ghost use Rattle.serde_json.specs.Data.{Data};
 ghost use Rattle.apply_json.specs.Tokens.{IsNoValue, IsRead};
 ghost use Rattle.apply_check.specs.Kept.{HoldsHook, inside, provision_held, refresh_held, start_held, subject_held, timed_held};
@@ -13,7 +13,7 @@ use crate::messages::named_slot::read_member;
 use crate::messages::stage::Stage;
 use crate::messages::text_test::is_text;
 use crate::messages::timed_stage::TimedStage;
-use apply_json::{ReadFault, Reader, Scalar, Slots, pass, read_object, read_scalar};
+use apply_json::{ReadFault, Reader, Scalar, Slots, pass_member, read_object, read_scalar_into};
 use std::alloc::Global;
 
 /// The members of `hook` that tell of a step or of a provisioner.
@@ -39,19 +39,21 @@ impl<'a> HookSlots<'a> {
         }
     }
 
-    /// Reads `hook`, in which arrays and objects nest at most `depth` deep.
+    /// Reads `hook`, in which arrays and objects nest at most `depth` deep, into its slots.
     pub fn read(
         alloc: Global,
         reader: &mut Reader<'a>,
         depth: usize,
-    ) -> Result<HookSlots<'a>, ReadFault>
-        ensures ok { IfOk result (λ slots. (d : Data) × IsRead depth reader.old d reader.new × HoldsHook slots (inside (Some d))) }
+        hook: &mut HookSlots<'a>,
+    ) -> Result<(), ReadFault>
+        ensures ok { OnOk result ((d : Data) × IsRead depth reader.old d reader.new × HoldsHook hook.new (inside (Some d))) }
         ensures shorter { OnOk result (length reader.new < length reader.old) }
         ensures err { result ≡ Err ReadFault.NotJson → IsNoValue depth reader.old }
     {
         let mut slots: HookSlots<'a> = HookSlots::new();
         read_object(alloc, reader, depth, &mut slots)?;
-        Ok(slots)
+        *hook = slots;
+        Ok(())
     }
 
     /// The address and the action word of a step.
@@ -112,17 +114,13 @@ impl<'a> Slots<'a> for HookSlots<'a> {
         depth: usize,
     ) -> Result<(), ReadFault> {
         if is_text(name, "resource") {
-            self.address = read_member(alloc, reader, depth, "addr")?;
-            Ok(())
+            read_member(alloc, reader, depth, "addr", &mut self.address)
         } else if is_text(name, "action") {
-            self.action = read_scalar(reader, depth)?;
-            Ok(())
+            read_scalar_into(reader, depth, &mut self.action)
         } else if is_text(name, "elapsed_seconds") {
-            self.seconds = read_scalar(reader, depth)?;
-            Ok(())
+            read_scalar_into(reader, depth, &mut self.seconds)
         } else {
-            pass(reader, depth)?;
-            Ok(())
+            pass_member(reader, depth)
         }
     }
 }

@@ -13,7 +13,9 @@ use crate::messages::named_slot::read_member;
 use crate::messages::text_test::is_text;
 use crate::messages::timed_stage::TimedStage;
 use crate::rules::limits::MAX_BYTES;
-use apply_json::{ReadFault, Reader, Scalar, Scratch, Slots, pass, read_scalar, read_slots};
+use apply_json::{
+    ReadFault, Reader, Scalar, Scratch, Slots, pass_member, read_scalar_into, read_slots,
+};
 use std::alloc::Global;
 
 /// The members of a line that nearly all messages are made of (Machine-Readable UI, "Message Types"). What a summary and a
@@ -90,17 +92,13 @@ impl<'a> Slots<'a> for LineSlots<'a> {
         depth: usize,
     ) -> Result<(), ReadFault> {
         if is_text(name, "hook") {
-            self.hook = HookSlots::read(alloc, reader, depth)?;
-            Ok(())
+            HookSlots::read(alloc, reader, depth, &mut self.hook)
         } else if is_text(name, "type") {
-            self.type_name = read_scalar(reader, depth)?;
-            Ok(())
+            read_scalar_into(reader, depth, &mut self.type_name)
         } else if is_text(name, "change") {
-            self.planned = read_member(alloc, reader, depth, "action")?;
-            Ok(())
+            read_member(alloc, reader, depth, "action", &mut self.planned)
         } else {
-            pass(reader, depth)?;
-            Ok(())
+            pass_member(reader, depth)
         }
     }
 }

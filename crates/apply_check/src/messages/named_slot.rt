@@ -1,13 +1,13 @@
 //! One member of an object.
 
-ghost use Rattle.std.specs.Prelude.{◌≡◌, ◌<◌, Err, IfOk, OnOk, Some, length};
+ghost use Rattle.std.specs.Prelude.{◌≡◌, ◌<◌, Err, OnOk, Some, length};
 ghost use Rattle.serde_json.specs.Data.{Data};
 ghost use Rattle.apply_json.specs.Seen.{scalar_view};
 ghost use Rattle.apply_json.specs.Tokens.{IsNoValue, IsRead};
 ghost use Rattle.apply_check.specs.Kept.{HoldsNamed, seen_in};
 
 use crate::messages::text_test::is_text;
-use apply_json::{ReadFault, Reader, Scalar, Slots, pass, read_object, read_scalar};
+use apply_json::{ReadFault, Reader, Scalar, Slots, pass_member, read_object, read_scalar_into};
 use std::alloc::Global;
 
 /// The member of that name.
@@ -28,31 +28,32 @@ impl<'a> Slots<'a> for NamedSlot<'a> {
         depth: usize,
     ) -> Result<(), ReadFault> {
         if is_text(name, self.name) {
-            self.found = read_scalar(reader, depth)?;
-            Ok(())
+            read_scalar_into(reader, depth, &mut self.found)
         } else {
-            pass(reader, depth)?;
-            Ok(())
+            pass_member(reader, depth)
         }
     }
 }
 
-/// Reads the member of that name in a value, in which arrays and objects nest at most `depth` deep. Only an object has one.
+/// Reads the member of that name in a value, in which arrays and objects nest at most `depth` deep, into its slot. Only an object
+/// has one.
 pub fn read_member<'a>(
     alloc: Global,
     reader: &mut Reader<'a>,
     depth: usize,
     name: &'a str,
-) -> Result<Scalar<'a>, ReadFault>
-    ensures ok { IfOk result (λ found. (d : Data) × IsRead depth reader.old d reader.new
-        × (scalar_view found ≡ seen_in name.now (Some d))) }
+    slot: &mut Scalar<'a>,
+) -> Result<(), ReadFault>
+    ensures ok { OnOk result ((d : Data) × IsRead depth reader.old d reader.new
+        × (scalar_view slot.new ≡ seen_in name.now (Some d))) }
     ensures shorter { OnOk result (length reader.new < length reader.old) }
     ensures err { result ≡ Err ReadFault.NotJson → IsNoValue depth reader.old }
 {
-    let mut slot = NamedSlot {
+    let mut named = NamedSlot {
         name,
         found: Scalar::Absent,
     };
-    read_object(alloc, reader, depth, &mut slot)?;
-    Ok(slot.found)
+    read_object(alloc, reader, depth, &mut named)?;
+    *slot = named.found;
+    Ok(())
 }

@@ -2,8 +2,9 @@
 
 ghost use Rattle.std.specs.Prelude.{◌≡◌, ◌++◌, codes, string_bytes, IfOk};
 ghost use Rattle.serde_json.specs.Written.{compact_text};
-ghost use Rattle.apply_text.specs.CachedParts.{kept_step};
+ghost use Rattle.apply_text.specs.CachedParts.{front_text, kept_step};
 ghost use Rattle.apply_form.specs.CachedParts.{middle_text};
+ghost use Rattle.apply_form.specs.Escapes.{escaped};
 ghost use Rattle.apply_form.specs.Objects.{resource_object};
 
 use crate::escaping::escaped_text;
@@ -52,15 +53,13 @@ impl StepFrame for FormFrame {
     ) -> Result<FormFrame, AllocError>
         ensures { IfOk result (λ frame. frame ≡ kept_step change.now step) }
     {
-        let front = progress_front(alloc, change.address(), step)?;
-        let front = escaped_text(String::new(alloc), front.as_str())?;
-        let middle = middle_of(alloc, change, step)?;
-        let middle = escaped_text(String::new(alloc), middle.as_str())?;
-        let back = String::from_str(alloc, "},\"type\":\"apply_progress\"}\n")?;
-        let shown = ShownStep::new(alloc, change, step)?;
-        Ok(FormFrame {
-            texts: StepTexts::new(shown, front, middle, back),
-        })
+        let texts = StepTexts::joined(
+            ShownStep::new(alloc, change, step),
+            front_of(alloc, change, step),
+            middle_of(alloc, change, step),
+            back_of(alloc),
+        )?;
+        Ok(FormFrame { texts })
     }
 
     fn texts(&self) -> &StepTexts {
@@ -68,8 +67,31 @@ impl StepFrame for FormFrame {
     }
 }
 
-/// A line from behind the second of its moment up to its seconds, before its escapes.
+/// A line up to the time in its message, its escapes done.
+fn front_of(alloc: Global, change: &Change, step: StepKind) -> Result<String, AllocError>
+    ensures { IfOk result (λ front. string_bytes front ≡ escaped (front_text change.now.address step)) }
+{
+    let front = progress_front(alloc, change.address(), step)?;
+    escaped_text(String::new(alloc), front.as_str())
+}
+
+/// A line from behind its seconds on.
+fn back_of(alloc: Global) -> Result<String, AllocError>
+    ensures { IfOk result (λ back. string_bytes back ≡ codes "},\"type\":\"apply_progress\"}\n") }
+{
+    Ok(String::from_str(alloc, "},\"type\":\"apply_progress\"}\n")?)
+}
+
+/// A line from behind the second of its moment up to its seconds, its escapes done.
 fn middle_of(alloc: Global, change: &Change, step: StepKind) -> Result<String, AllocError>
+    ensures { IfOk result (λ middle. string_bytes middle ≡ escaped (middle_text change.now step)) }
+{
+    let middle = plain_middle(alloc, change, step)?;
+    escaped_text(String::new(alloc), middle.as_str())
+}
+
+/// The same before its escapes.
+fn plain_middle(alloc: Global, change: &Change, step: StepKind) -> Result<String, AllocError>
     ensures { IfOk result (λ middle. string_bytes middle ≡ middle_text change.now step) }
 {
     let resource = resource_of(alloc, change)?;

@@ -2,18 +2,19 @@
 
 ghost use Rattle.std.specs.Prelude.{◌≡◌, None, Some, false, true, IfErr, IfOk, IfSome, codes, map, string_bytes};
 ghost use Rattle.clap.specs.Matches.{found_of};
-ghost use Rattle.clap.specs.Simple.{App, app_of, with_rule};
-ghost use Rattle.clap.specs.Walk.{Rule, one_of, rows_of as found_rows, rule_of};
-ghost use Rattle.apply_picture.specs.CommandLine.{AreRowsSaid, AreSaid, HaveSaid, IsNumber, IsTextSaid, SayNoSettings, TakesColours, are_beside, colour_of_word, colour_rule, colour_said, command_line, flag_named, is_given, number_named, option_named, rows_of_form, width_rule};
+ghost use Rattle.clap.specs.Simple.{app_of};
+ghost use Rattle.clap.specs.Walk.{one_of, rows_of as found_rows, rule_of};
+ghost use Rattle.apply_picture.specs.CommandLine.{AreRowsSaid, AreSaid, HaveSaid, IsNumber, IsTextSaid, SayNoSettings, TakesColours, are_beside, colour_of_word, colour_rule, colour_said, command_line, is_given, number_named, option_named, rows_of_form, width_rule};
 ghost use Rattle.apply_picture.specs.Usages.{IsWordsOrMemory};
+ghost use Rattle.apply_words.specs.Words.{flag_rule};
 ghost use Rattle.apply_picture.specs.declared.command.form.Form.TheVariants as form;
 
 use crate::command::colour::Colour;
 use crate::command::form::Form;
 use crate::command::settings::Settings;
-use apply_words::{Usage, file, file_of, matches_of};
+use apply_words::{Usage, file, file_of, flag, is_given, matches_of, with_option};
 use clap::parser::ValueSource;
-use clap::{Arg, ArgAction, ArgMatches, Command, value_parser};
+use clap::{Arg, ArgMatches, Command, value_parser};
 use std::alloc::{AllocError, Global};
 
 /// When there are colours, as words.
@@ -93,8 +94,8 @@ fn strict_command<'a>(alloc: Global) -> Result<Command<'a>, AllocError> {
 
 /// That of these two options and the others.
 fn command_of<'a>(alloc: Global, svg: Arg<'a>, all: Arg<'a>) -> Result<Command<'a>, AllocError>
-    ensures { rule_of svg.entry ≡ flag_named (codes "svg") → svg.entry.global ≡ false
-        → rule_of all.entry ≡ flag_named (codes "all") → all.entry.global ≡ false
+    ensures { rule_of svg.entry ≡ flag_rule (codes "svg") → svg.entry.global ≡ false
+        → rule_of all.entry ≡ flag_rule (codes "all") → all.entry.global ≡ false
         → (colours : _) × TakesColours colours × IfOk result (λ command. app_of command ≡ command_line colours) }
 {
     let line = Ok(
@@ -103,37 +104,12 @@ fn command_of<'a>(alloc: Global, svg: Arg<'a>, all: Arg<'a>) -> Result<Command<'
             .about(ABOUT)
             .after_help(AFTER),
     );
-    let line = add(line, svg);
-    let line = add(line, rows(alloc));
-    let line = add(line, all);
-    let line = add(line, width(alloc));
-    let line = add(line, color(alloc));
-    add(line, file(alloc))
-}
-
-/// The command, where there is one, with an option more. A list of options by this has one way out, and not one for each.
-fn add<'a>(
-    command: Result<Command<'a>, AllocError>,
-    option: Arg<'a>,
-) -> Result<Command<'a>, AllocError>
-    ensures { (app : App) (rule : Rule) → IfOk command.entry (λ without. app_of without ≡ app)
-        → rule_of option.entry ≡ rule → option.entry.global ≡ false
-        → IfOk result (λ with. app_of with ≡ with_rule app rule) }
-{
-    match command {
-        Ok(command) => command.arg(option),
-        Err(refused) => Err(refused),
-    }
-}
-
-/// `--NAME`, and what is said of it.
-fn flag<'a>(alloc: Global, name: &'a str, help: &'a str) -> Arg<'a>
-    ensures { (rule_of result ≡ flag_named name.entry.now) × (result.global ≡ false) }
-{
-    Arg::new(alloc, name)
-        .long(name)
-        .action(ArgAction::SetTrue)
-        .help(help)
+    let line = with_option(line, svg);
+    let line = with_option(line, rows(alloc));
+    let line = with_option(line, all);
+    let line = with_option(line, width(alloc));
+    let line = with_option(line, color(alloc));
+    with_option(line, file(alloc))
 }
 
 /// `--NAME VALUE`, and what is said of it.
@@ -147,13 +123,13 @@ fn option<'a>(alloc: Global, name: &'a str, value: &'a str, help: &'a str) -> Ar
 }
 
 fn svg<'a>(alloc: Global) -> Arg<'a>
-    ensures { (rule_of result ≡ flag_named (codes "svg")) × (result.global ≡ false) }
+    ensures { (rule_of result ≡ flag_rule (codes "svg")) × (result.global ≡ false) }
 {
     flag(alloc, "svg", "Draws an SVG in place of a text")
 }
 
 fn all<'a>(alloc: Global) -> Arg<'a>
-    ensures { (rule_of result ≡ flag_named (codes "all")) × (result.global ≡ false) }
+    ensures { (rule_of result ≡ flag_rule (codes "all")) × (result.global ≡ false) }
 {
     flag(alloc, "all", "Every step gets a row")
 }
@@ -230,14 +206,6 @@ fn form_of(matches: &ArgMatches<'_>) -> Form
             colour: colour_of(matches),
         }
     }
-}
-
-/// Whether the flag of that name is given.
-fn is_given(matches: &ArgMatches<'_>, name: &str) -> bool
-    ensures yes { one_of name.now (found_rows (found_of matches.now)) ≡ Some (codes "true") → result ≡ true }
-    ensures no { one_of name.now (found_rows (found_of matches.now)) ≡ Some (codes "false") → result ≡ false }
-{
-    matches.get_flag(name)
 }
 
 /// How wide a text is. The parser has tested the number, so that the bounds here do not change it.

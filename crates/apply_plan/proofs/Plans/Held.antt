@@ -110,11 +110,16 @@ behind : {A B C : Type 0} (see : B → C) (f : A → Option C) (g : A → Option
 behind see f g same None = refl
 behind see f g same (Some x) = same x
 
+behind_word : {B C : Type 0} (see : B → C) (f : Mode → Option C) (g : Mode → Option B) → ((mode : Mode) → f mode ≡ option_map see (g mode)) → (o : Option (List ℕ))
+    → ((o >>= mode_named) >>= f) ≡ option_map see (o >>= λ word. (mode_named word >>= g))
+behind_word see f g same None = refl
+behind_word see f g same (Some word) = behind see f g same (mode_named word)
+
 same_from_members : (address word kind_name name module_address : Option (List ℕ)) (key : Option Key) (deposed : Option (List ℕ)) (planned : Option Planned)
-    → (address >>= λ address. (word >>= λ word. (mode_named word >>= found_with_mode address kind_name name module_address key deposed (option_map stepped planned))))
+    → (address >>= λ address. ((word >>= mode_named) >>= found_with_mode address kind_name name module_address key deposed (option_map stepped planned)))
     ≡ option_map with_steps (address >>= λ address. (word >>= λ word. (mode_named word >>= with_mode address kind_name name module_address key deposed planned)))
 same_from_members address word kind_name name module_address key deposed planned =
-    behind with_steps _ _ (λ address. behind with_steps _ _ (λ word. behind with_steps _ _ (same_with_mode address kind_name name module_address key deposed planned) (mode_named word)) word) address
+    behind with_steps _ _ (λ address. behind_word with_steps _ _ (same_with_mode address kind_name name module_address key deposed planned) word) address
 
 element_is : (slots : ElementSlots) (d : Data) → HoldsElement slots (members_in d) → element_held slots ≡ option_map with_steps (element_of d)
 unfolding element_of

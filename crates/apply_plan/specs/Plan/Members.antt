@@ -7,6 +7,7 @@ use Rattle.apply_json.specs.Seen.{Seen, absent, truth, number, text, other, scal
 use Rattle.apply_json.specs.Tree.{◌>>=◌, member_of, non_empty_text_of, unless_empty, unless_null}
 use Rattle.apply_model.specs.declared.plan.key.Key.{Key}
 use Rattle.apply_model.specs.declared.plan.key.Key.TheVariants as key
+use Rattle.apply_model.specs.declared.plan.mode.Mode.{Mode}
 use Rattle.apply_model.specs.declared.plan.step_kind.StepKind.{StepKind}
 use Rattle.apply_model.specs.Plan.Action.{steps_of_action}
 use Rattle.apply_model.specs.Plan.Address.{relative_address}
@@ -58,6 +59,9 @@ truth_seen (truth b) = b
 truth_seen (number n) = false
 truth_seen (text s) = false
 truth_seen other = false
+
+abbrev pub mode_seen : Seen → Option Mode
+mode_seen found = text_seen found >>= mode_named
 
 abbrev pub key_seen : Seen → Option Key
 key_seen absent = Some key.None
@@ -115,8 +119,7 @@ change_held slots = do
 abbrev pub element_held : ElementSlots → Option FoundElement
 element_held slots = do
   address ← text_seen (scalar_view slots.address)
-  word ← text_seen (scalar_view slots.mode)
-  mode ← mode_named word
+  mode ← mode_seen (scalar_view slots.mode)
   kind_name ← text_seen (scalar_view slots.kind_name) >>= unless_empty
   name ← text_seen (scalar_view slots.name) >>= unless_empty
   module_address ← text_seen_or [] (scalar_view slots.module_address)

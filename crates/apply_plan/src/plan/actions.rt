@@ -1,6 +1,6 @@
 //! The lists of actions that are in scope.
 
-ghost use Rattle.std.specs.Prelude.{◌≡◌, ◌<◌, Err, IfOk, OnOk, Some, length, option_map};
+ghost use Rattle.std.specs.Prelude.{◌≡◌, ◌<◌, Err, OnOk, Some, length, option_map};
 ghost use Rattle.std.specs.Option.{option_copied};
 ghost use Rattle.serde_json.specs.Data.{Data};
 ghost use Rattle.apply_json.specs.Tokens.{IsNoValue, IsRead};
@@ -61,23 +61,25 @@ impl<'a> Collector<'a> for Actions<'a> {
     }
 }
 
-/// Reads a list of actions, in which arrays and objects nest at most `depth` deep: the action that it means, if any. `None`
-/// where it is no list.
+/// Reads a list of actions, in which arrays and objects nest at most `depth` deep, into its slot: the action that it means, if
+/// any. `None` where it is no list.
 pub fn read_actions(
     alloc: Global,
     reader: &mut Reader<'_>,
     depth: usize,
-) -> Result<Option<Option<Action>>, ReadFault>
-    ensures ok { IfOk result (λ found. (d : Data) × IsRead depth reader.old d reader.new
-        × (option_map (option_map steps_of_action) found ≡ actions_member (Some d))) }
+    slot: &mut Option<Option<Action>>,
+) -> Result<(), ReadFault>
+    ensures ok { OnOk result ((d : Data) × IsRead depth reader.old d reader.new
+        × (option_map (option_map steps_of_action) slot.new ≡ actions_member (Some d))) }
     ensures shorter { OnOk result (length reader.new < length reader.old) }
     ensures err { result ≡ Err ReadFault.NotJson → IsNoValue depth reader.old }
 {
     let mut actions = Actions::Nothing;
-    match read_list(alloc, reader, depth, &mut actions)? {
-        Listed::List => Ok(Some(actions.action())),
-        Listed::Absent | Listed::Other => Ok(None),
-    }
+    *slot = match read_list(alloc, reader, depth, &mut actions)? {
+        Listed::List => Some(actions.action()),
+        Listed::Absent | Listed::Other => None,
+    };
+    Ok(())
 }
 
 /// Whether the item is a text, and this one.

@@ -46,10 +46,10 @@ impl<'a> Slots<'a> for ChangeSlots<'a> {
         depth: usize,
     ) -> Result<(), ReadFault> {
         take_member! {
-            self, name, reader, depth,
-            "actions" => actions: read_actions(alloc, reader, depth)?,
-            "before" => id: read_id(alloc, reader, depth)?,
-            "before_sensitive" => hides_id: read_hides_id(alloc, reader, depth)?,
+            name, reader, depth,
+            "actions" => read_actions(alloc, reader, depth, &mut self.actions),
+            "before" => read_id(alloc, reader, depth, &mut self.id),
+            "before_sensitive" => read_hides_id(alloc, reader, depth, &mut self.hides_id),
         }
     }
 }

@@ -4,8 +4,9 @@ ghost use Rattle.std.specs.Prelude.{◌≡◌, IfOk, option_map};
 ghost use Rattle.apply_json.specs.Seen.{scalar_view};
 ghost use Rattle.apply_plan.specs.Plan.Element.{mode_named};
 ghost use Rattle.apply_plan.specs.Plan.ElementView.{element_view, key_view};
-ghost use Rattle.apply_plan.specs.Plan.Members.{element_held, key_seen};
+ghost use Rattle.apply_plan.specs.Plan.Members.{element_held, key_seen, mode_seen};
 
+use crate::both::both;
 use crate::filled_text::filled_text;
 use crate::plan::element_slots::ElementSlots;
 use crate::text_test::is_text;
@@ -55,14 +56,13 @@ impl<'a> Element<'a> {
     pub fn of(slots: &ElementSlots<'a>) -> Option<Element<'a>>
         ensures { option_map element_view result ≡ element_held slots.now }
     {
-        let address = slots.address.text()?;
-        let mode = mode_of(slots.mode.text()?)?;
-        let kind_name = filled_text(slots.kind_name)?;
-        let name = filled_text(slots.name)?;
-        let module_address = slots.module_address.text_or("")?;
-        let key = index_key(slots.index)?;
-        let deposed = slots.deposed.text_or("")?;
-        let change = slots.change?;
+        let kinds = both(slots.address.text(), mode_of(slots.mode));
+        let names = both(filled_text(slots.kind_name), filled_text(slots.name));
+        let places = both(slots.module_address.text_or(""), index_key(slots.index));
+        let others = both(slots.deposed.text_or(""), slots.change);
+        let all = both(both(kinds, names), both(places, others))?;
+        let (((address, mode), (kind_name, name)), ((module_address, key), (deposed, change))) =
+            all;
         Some(Element {
             address,
             mode,
@@ -77,7 +77,14 @@ impl<'a> Element<'a> {
     }
 }
 
-fn mode_of(word: &str) -> Option<Mode>
+/// The mode that the member `mode` is. `None` where it is none.
+fn mode_of(found: Scalar<'_>) -> Option<Mode>
+    ensures { result ≡ mode_seen (scalar_view found.entry) }
+{
+    mode_named(found.text()?)
+}
+
+fn mode_named(word: &str) -> Option<Mode>
     ensures { result ≡ mode_named word.now }
 {
     if is_text(word, "managed") {

@@ -8,7 +8,7 @@ ghost use Rattle.apply_plan.specs.Plan.Members.{HoldsElement, name_of, with_scal
 use crate::plan::element_member::ElementMember;
 use crate::plan::planned_change::PlannedChange;
 use crate::text_test::is_text;
-use apply_json::{ReadFault, Reader, Scalar, Slots, pass, read_scalar};
+use apply_json::{ReadFault, Reader, Scalar, Slots, pass_member, read_scalar};
 use std::alloc::Global;
 
 /// The members of an element.
@@ -70,8 +70,7 @@ impl<'a> Slots<'a> for ElementSlots<'a> {
         depth: usize,
     ) -> Result<(), ReadFault> {
         if is_text(name, "change") {
-            self.change = PlannedChange::read(alloc, reader, depth)?;
-            return Ok(());
+            return PlannedChange::read(alloc, reader, depth, &mut self.change);
         }
         match scalar_of_name(name) {
             Some(member) => {
@@ -79,10 +78,7 @@ impl<'a> Slots<'a> for ElementSlots<'a> {
                 self.set(member, found);
                 Ok(())
             }
-            None => {
-                pass(reader, depth)?;
-                Ok(())
-            }
+            None => pass_member(reader, depth),
         }
     }
 }

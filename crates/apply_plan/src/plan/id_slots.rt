@@ -9,7 +9,7 @@ ghost use Rattle.apply_plan.specs.Plan.Members.{HoldsId, id_member, sensitive_me
 
 use crate::filled_text::filled_text;
 use crate::members::take_member;
-use apply_json::{ReadFault, Reader, Scalar, Slots, read_object, read_scalar};
+use apply_json::{ReadFault, Reader, Scalar, Slots, read_object, read_scalar_into};
 use std::alloc::Global;
 
 /// The members of `before` or of `before_sensitive`.
@@ -40,42 +40,47 @@ impl<'a> Slots<'a> for IdSlots<'a> {
         depth: usize,
     ) -> Result<(), ReadFault> {
         take_member! {
-            self, name, reader, depth,
-            "id" => id: read_scalar(reader, depth)?,
+            name, reader, depth,
+            "id" => read_scalar_into(reader, depth, &mut self.id),
         }
     }
 }
 
-/// Reads the id in `before`, where it is a text that is not empty. Arrays and objects nest at most `depth` deep there.
+/// Reads the id in `before` into its slot, where it is a text that is not empty. Arrays and objects nest at most `depth` deep
+/// there.
 pub fn read_id<'a>(
     alloc: Global,
     reader: &mut Reader<'a>,
     depth: usize,
-) -> Result<Option<&'a str>, ReadFault>
-    ensures ok { IfOk result (λ found. (d : Data) × IsRead depth reader.old d reader.new
-        × (option_copied found ≡ id_member (Some d))) }
+    slot: &mut Option<&'a str>,
+) -> Result<(), ReadFault>
+    ensures ok { OnOk result ((d : Data) × IsRead depth reader.old d reader.new
+        × (option_copied slot.new ≡ id_member (Some d))) }
     ensures shorter { OnOk result (length reader.new < length reader.old) }
     ensures err { result ≡ Err ReadFault.NotJson → IsNoValue depth reader.old }
 {
     let mut slots = IdSlots::new();
     read_object(alloc, reader, depth, &mut slots)?;
-    Ok(filled_text(slots.id))
+    *slot = filled_text(slots.id);
+    Ok(())
 }
 
-/// Reads `before_sensitive`: whether it hides the id. Arrays and objects nest at most `depth` deep there.
+/// Reads `before_sensitive` into its slot: whether it hides the id. Arrays and objects nest at most `depth` deep there.
 pub fn read_hides_id(
     alloc: Global,
     reader: &mut Reader<'_>,
     depth: usize,
-) -> Result<bool, ReadFault>
-    ensures ok { IfOk result (λ hides. (d : Data) × IsRead depth reader.old d reader.new
-        × (hides ≡ sensitive_member (Some d))) }
+    slot: &mut bool,
+) -> Result<(), ReadFault>
+    ensures ok { OnOk result ((d : Data) × IsRead depth reader.old d reader.new
+        × (slot.new ≡ sensitive_member (Some d))) }
     ensures shorter { OnOk result (length reader.new < length reader.old) }
     ensures err { result ≡ Err ReadFault.NotJson → IsNoValue depth reader.old }
 {
     let mut slots = IdSlots::new();
     let value = read_object(alloc, reader, depth, &mut slots)?;
-    Ok(is_true(value) || is_true(slots.id))
+    *slot = is_true(value) || is_true(slots.id);
+    Ok(())
 }
 
 /// Whether the value is `true` and nothing else.

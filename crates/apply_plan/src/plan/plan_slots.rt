@@ -12,7 +12,9 @@ ghost use Rattle.apply_plan.specs.Results.{Gives};
 use crate::plan::elements::Elements;
 use crate::plan::plan_error::PlanError;
 use crate::text_test::is_text;
-use apply_json::{Listed, ReadFault, Reader, Scalar, Slots, pass, read_list, read_scalar};
+use apply_json::{
+    Listed, ReadFault, Reader, Scalar, Slots, pass_member, read_list, read_scalar_into,
+};
 use apply_model::{Plan, Text};
 use std::alloc::Global;
 
@@ -88,18 +90,15 @@ impl<'a> Slots<'a> for PlanSlots<'a> {
         depth: usize,
     ) -> Result<(), ReadFault> {
         if is_text(name, "format_version") {
-            self.format_version = read_scalar(reader, depth)?;
-            Ok(())
+            read_scalar_into(reader, depth, &mut self.format_version)
         } else if is_text(name, "terraform_version") {
-            self.terraform_version = read_scalar(reader, depth)?;
-            Ok(())
+            read_scalar_into(reader, depth, &mut self.terraform_version)
         } else if is_text(name, "resource_changes") {
             self.elements = Elements::new(alloc);
             self.resource_changes = read_list(alloc, reader, depth, &mut self.elements)?;
             Ok(())
         } else {
-            pass(reader, depth)?;
-            Ok(())
+            pass_member(reader, depth)
         }
     }
 }

@@ -3,6 +3,7 @@
 ghost use Rattle.std.specs.Prelude.{◌≡◌, IfOk, is_some, true};
 ghost use Rattle.apply_model.specs.Plan.Address.{relative_address};
 
+use crate::both::both_made;
 use crate::plan::element::Element;
 use crate::plan::element_slots::ElementSlots;
 use crate::plan::plan_error::PlanError;
@@ -67,15 +68,30 @@ impl<'a> Planned<'a> {
         ensures { IfOk result (λ change. change ≡ planned_view self.entry) }
     {
         let Planned { element, action } = self;
+        let place = both_made(
+            Text::new(alloc, element.address),
+            Text::new(alloc, element.module_address),
+        );
+        let names = both_made(
+            Text::new(alloc, element.kind_name),
+            Text::new(alloc, element.name),
+        );
+        let ids = both_made(
+            Text::of_option(alloc, element.deposed),
+            Text::of_option(alloc, element.prior_id),
+        );
+        let rest = both_made(element.key.copied(alloc), ids);
+        let all = both_made(both_made(place, names), rest)?;
+        let (((address, module_address), (kind_name, name)), (key, (deposed, prior_id))) = all;
         Ok(Change::new(ChangeParts {
-            address: Text::new(alloc, element.address)?,
-            module_address: Text::new(alloc, element.module_address)?,
+            address,
+            module_address,
             mode: element.mode,
-            kind_name: Text::new(alloc, element.kind_name)?,
-            name: Text::new(alloc, element.name)?,
-            key: element.key.copied(alloc)?,
-            deposed: Text::of_option(alloc, element.deposed)?,
-            prior_id: Text::of_option(alloc, element.prior_id)?,
+            kind_name,
+            name,
+            key,
+            deposed,
+            prior_id,
             action,
         }))
     }

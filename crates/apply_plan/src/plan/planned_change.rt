@@ -1,6 +1,6 @@
 //! What the member `change` of an element says.
 
-ghost use Rattle.std.specs.Prelude.{◌≡◌, ◌<◌, Err, IfOk, OnOk, Some, length, option_map};
+ghost use Rattle.std.specs.Prelude.{◌≡◌, ◌<◌, Err, OnOk, Some, length, option_map};
 ghost use Rattle.serde_json.specs.Data.{Data};
 ghost use Rattle.apply_json.specs.Tokens.{IsNoValue, IsRead};
 ghost use Rattle.apply_plan.specs.Plan.ElementView.{planned_change_view};
@@ -21,20 +21,23 @@ pub struct PlannedChange<'a> {
 }
 
 impl<'a> PlannedChange<'a> {
-    /// Reads the member, in which arrays and objects nest at most `depth` deep. `None` where it has no list of actions.
+    /// Reads the member, in which arrays and objects nest at most `depth` deep, into its slot. `None` where it has no list of
+    /// actions.
     pub fn read(
         alloc: Global,
         reader: &mut Reader<'a>,
         depth: usize,
-    ) -> Result<Option<PlannedChange<'a>>, ReadFault>
-        ensures ok { IfOk result (λ found. (d : Data) × IsRead depth reader.old d reader.new
-            × (option_map planned_change_view found ≡ change_member (Some d))) }
+        slot: &mut Option<PlannedChange<'a>>,
+    ) -> Result<(), ReadFault>
+        ensures ok { OnOk result ((d : Data) × IsRead depth reader.old d reader.new
+            × (option_map planned_change_view slot.new ≡ change_member (Some d))) }
         ensures shorter { OnOk result (length reader.new < length reader.old) }
         ensures err { result ≡ Err ReadFault.NotJson → IsNoValue depth reader.old }
     {
         let mut slots = ChangeSlots::new();
         read_object(alloc, reader, depth, &mut slots)?;
-        Ok(PlannedChange::of(&slots))
+        *slot = PlannedChange::of(&slots);
+        Ok(())
     }
 
     /// What the members say. `None` where there is no list of actions.

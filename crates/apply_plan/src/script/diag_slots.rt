@@ -5,7 +5,7 @@ ghost use Rattle.apply_plan.specs.Script.Members.{HoldsDiag};
 
 use crate::members::take_member;
 use crate::script::object_text::read_object_text;
-use apply_json::{KeepingSlots, ReadFault, Reader, Scalar, read_scalar};
+use apply_json::{KeepingSlots, ReadFault, Reader, Scalar, read_scalar_into};
 use std::alloc::Global;
 
 /// The members of a diagnostic.
@@ -48,12 +48,12 @@ impl<'a> KeepingSlots<'a> for DiagSlots<'a> {
         depth: usize,
     ) -> Result<(), ReadFault> {
         take_member! {
-            self, name, reader, depth,
-            "summary" => summary: read_scalar(reader, depth)?,
-            "detail" => detail: read_scalar(reader, depth)?,
-            "range" => range: read_object_text(alloc, reader, depth)?,
-            "snippet" => snippet: read_object_text(alloc, reader, depth)?,
-            "severity" => severity: read_scalar(reader, depth)?,
+            name, reader, depth,
+            "summary" => read_scalar_into(reader, depth, &mut self.summary),
+            "detail" => read_scalar_into(reader, depth, &mut self.detail),
+            "range" => read_object_text(alloc, reader, depth, &mut self.range),
+            "snippet" => read_object_text(alloc, reader, depth, &mut self.snippet),
+            "severity" => read_scalar_into(reader, depth, &mut self.severity),
         }
     }
 }

@@ -6,7 +6,7 @@ ghost use Rattle.apply_plan.specs.Script.Members.{HoldsEntry};
 use crate::members::take_member;
 use crate::script::found_items::read_items;
 use crate::script::tree_step::TreeStep;
-use apply_json::{KeepingSlots, ReadFault, Reader, Scalar, read_scalar};
+use apply_json::{KeepingSlots, ReadFault, Reader, Scalar, read_scalar_into};
 use std::alloc::Global;
 
 /// The members of an entry.
@@ -45,10 +45,10 @@ impl<'a> KeepingSlots<'a> for EntrySlots<'a> {
         depth: usize,
     ) -> Result<(), ReadFault> {
         take_member! {
-            self, name, reader, depth,
-            "address" => address: read_scalar(reader, depth)?,
-            "deposed" => deposed: read_scalar(reader, depth)?,
-            "steps" => steps: read_items(alloc, reader, depth, true)?,
+            name, reader, depth,
+            "address" => read_scalar_into(reader, depth, &mut self.address),
+            "deposed" => read_scalar_into(reader, depth, &mut self.deposed),
+            "steps" => read_items(alloc, reader, depth, true, &mut self.steps),
         }
     }
 }

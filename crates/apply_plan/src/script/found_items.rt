@@ -35,16 +35,17 @@ impl<'a, T: ListItem<'a>> KeepingCollector<'a> for FoundItems<T> {
     }
 }
 
-/// Reads the items of an array, in which arrays and objects nest at most `depth` deep: none where there is `null`, if they are not
-/// needed. `None` where it is neither, or holds something else.
+/// Reads the items of an array, in which arrays and objects nest at most `depth` deep, into their slot: none where there is `null`,
+/// if they are not needed. `None` where it is neither, or holds something else.
 pub fn read_items<'a, T: ListItem<'a>>(
     alloc: Global,
     reader: &mut Reader<'a>,
     depth: usize,
     are_needed: bool,
-) -> Result<Option<Vec<T>>, ReadFault>
-    ensures ok { IfOk result (λ found. (d : Data) × IsKeptRead is_kept depth reader.old d reader.new
-        × (option_map (λ made. map T.see made.items) found
+    slot: &mut Option<Vec<T>>,
+) -> Result<(), ReadFault>
+    ensures ok { OnOk result ((d : Data) × IsKeptRead is_kept depth reader.old d reader.new
+        × (option_map (λ made. map T.see made.items) slot.new
         ≡ (if are_needed then needed_member T.part (Some d) else each_member T.part (Some d)))) }
     ensures shorter { OnOk result (length reader.new < length reader.old) }
     ensures err { result ≡ Err ReadFault.NotJson → IsNoValue depth reader.old }
@@ -52,14 +53,10 @@ pub fn read_items<'a, T: ListItem<'a>>(
     let mut found = FoundItems {
         items: Some(Vec::new(alloc)),
     };
-    match read_kept_list(alloc, reader, depth, &mut found)? {
-        Listed::List => Ok(found.items),
-        Listed::Absent => {
-            if are_needed {
-                return Ok(None);
-            }
-            Ok(found.items)
-        }
-        Listed::Other => Ok(None),
-    }
+    *slot = match read_kept_list(alloc, reader, depth, &mut found)? {
+        Listed::List => found.items,
+        Listed::Absent => if are_needed { None } else { found.items },
+        Listed::Other => None,
+    };
+    Ok(())
 }

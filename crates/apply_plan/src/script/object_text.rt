@@ -10,20 +10,22 @@ use crate::text_test::is_text;
 use apply_json::{ReadFault, Reader, read_own_text};
 use std::alloc::Global;
 
-/// Reads a member that is an object or `null`, in which arrays and objects nest at most `depth` deep, as its own text. `None`
-/// where it is neither.
+/// Reads a member that is an object or `null`, in which arrays and objects nest at most `depth` deep, into its slot, as its own
+/// text. `None` where it is neither.
 pub fn read_object_text(
     alloc: Global,
     reader: &mut Reader<'_>,
     depth: usize,
-) -> Result<Option<Option<String>>, ReadFault>
-    ensures ok { IfOk result (λ found. (text : List ℕ) × IsOwnText depth reader.old text reader.new
-        × (text_found found ≡ object_text text)) }
+    slot: &mut Option<Option<String>>,
+) -> Result<(), ReadFault>
+    ensures ok { OnOk result ((text : List ℕ) × IsOwnText depth reader.old text reader.new
+        × (text_found slot.new ≡ object_text text)) }
     ensures shorter { OnOk result (length reader.new < length reader.old) }
     ensures err { result ≡ Err ReadFault.NotJson → IsNoValue depth reader.old }
 {
     let text = read_own_text(alloc, reader, depth)?;
-    Ok(object_text(text))
+    *slot = object_text(text);
+    Ok(())
 }
 
 /// The text of an object or of `null`. `None` where it is another value's.

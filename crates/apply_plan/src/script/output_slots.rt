@@ -4,7 +4,7 @@ ghost use Rattle.apply_plan.specs.Script.Entry.{is_kept};
 ghost use Rattle.apply_plan.specs.Script.Members.{HoldsOutput};
 
 use crate::members::take_member;
-use apply_json::{KeepingSlots, ReadFault, Reader, Scalar, read_scalar};
+use apply_json::{KeepingSlots, ReadFault, Reader, Scalar, read_scalar_into};
 use std::alloc::Global;
 
 /// The members of an item of `output`.
@@ -41,9 +41,9 @@ impl<'a> KeepingSlots<'a> for OutputSlots<'a> {
         depth: usize,
     ) -> Result<(), ReadFault> {
         take_member! {
-            self, name, reader, depth,
-            "after" => after: read_scalar(reader, depth)?,
-            "text" => text: read_scalar(reader, depth)?,
+            name, reader, depth,
+            "after" => read_scalar_into(reader, depth, &mut self.after),
+            "text" => read_scalar_into(reader, depth, &mut self.text),
         }
     }
 }

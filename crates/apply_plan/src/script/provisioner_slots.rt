@@ -7,7 +7,7 @@ use crate::members::take_member;
 use crate::script::found_items::read_items;
 use crate::script::tree_diag::TreeDiag;
 use crate::script::tree_output::TreeOutput;
-use apply_json::{KeepingSlots, ReadFault, Reader, Scalar, read_scalar};
+use apply_json::{KeepingSlots, ReadFault, Reader, Scalar, read_scalar_into};
 use std::alloc::Global;
 
 /// The members of a provisioner.
@@ -50,12 +50,12 @@ impl<'a> KeepingSlots<'a> for ProvisionerSlots<'a> {
         depth: usize,
     ) -> Result<(), ReadFault> {
         take_member! {
-            self, name, reader, depth,
-            "provisioner" => name: read_scalar(reader, depth)?,
-            "seconds" => seconds: read_scalar(reader, depth)?,
-            "failed" => failed: TreeDiag::read(alloc, reader, depth)?,
-            "output" => output: read_items(alloc, reader, depth, false)?,
-            "on_failure" => on_failure: read_scalar(reader, depth)?,
+            name, reader, depth,
+            "provisioner" => read_scalar_into(reader, depth, &mut self.name),
+            "seconds" => read_scalar_into(reader, depth, &mut self.seconds),
+            "failed" => TreeDiag::read(alloc, reader, depth, &mut self.failed),
+            "output" => read_items(alloc, reader, depth, false, &mut self.output),
+            "on_failure" => read_scalar_into(reader, depth, &mut self.on_failure),
         }
     }
 }

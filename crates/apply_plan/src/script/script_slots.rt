@@ -10,7 +10,7 @@ ghost use Rattle.apply_plan.specs.Script.NeverBeginning.{elements_of_tree};
 use crate::script::entries::Entries;
 use crate::script::script_error::ScriptError;
 use crate::text_test::is_text;
-use apply_json::{KeepingSlots, Listed, ReadFault, Reader, pass, read_kept_list};
+use apply_json::{KeepingSlots, Listed, ReadFault, Reader, pass_member, read_kept_list};
 use apply_model::Plan;
 use std::alloc::{AllocError, Global};
 
@@ -64,8 +64,7 @@ impl<'a> KeepingSlots<'a> for ScriptSlots<'a> {
             self.changes = read_kept_list(alloc, reader, depth, &mut self.entries)?;
             Ok(())
         } else {
-            pass(reader, depth)?;
-            Ok(())
+            pass_member(reader, depth)
         }
     }
 }

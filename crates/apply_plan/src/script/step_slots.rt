@@ -9,7 +9,7 @@ use crate::script::tree_diag::TreeDiag;
 use crate::script::tree_failure::TreeFailure;
 use crate::script::tree_provisioner::TreeProvisioner;
 use crate::script::tree_wait::TreeWait;
-use apply_json::{KeepingSlots, ReadFault, Reader, Scalar, read_scalar};
+use apply_json::{KeepingSlots, ReadFault, Reader, Scalar, read_scalar_into};
 use std::alloc::Global;
 
 /// The members of a step.
@@ -56,14 +56,14 @@ impl<'a> KeepingSlots<'a> for StepSlots<'a> {
         depth: usize,
     ) -> Result<(), ReadFault> {
         take_member! {
-            self, name, reader, depth,
-            "seconds" => seconds: read_scalar(reader, depth)?,
-            "after" => after: read_items(alloc, reader, depth, false)?,
-            "id" => id: read_scalar(reader, depth)?,
-            "warning" => warning: TreeDiag::read(alloc, reader, depth)?,
-            "failed" => failed: TreeFailure::read(alloc, reader, depth)?,
-            "provisioners" => provisioners: read_items(alloc, reader, depth, false)?,
-            "skipped" => skipped: read_scalar(reader, depth)?,
+            name, reader, depth,
+            "seconds" => read_scalar_into(reader, depth, &mut self.seconds),
+            "after" => read_items(alloc, reader, depth, false, &mut self.after),
+            "id" => read_scalar_into(reader, depth, &mut self.id),
+            "warning" => TreeDiag::read(alloc, reader, depth, &mut self.warning),
+            "failed" => TreeFailure::read(alloc, reader, depth, &mut self.failed),
+            "provisioners" => read_items(alloc, reader, depth, false, &mut self.provisioners),
+            "skipped" => read_scalar_into(reader, depth, &mut self.skipped),
         }
     }
 }

@@ -3,10 +3,12 @@
 ghost use Rattle.std.specs.Prelude.{◌≡◌, ◌<◌, Err, IfOk, OnOk, Some, length, option_map, string_bytes};
 ghost use Rattle.serde_json.specs.Data.{Data};
 ghost use Rattle.apply_json.specs.Keeping.{IsKeptRead};
+ghost use Rattle.apply_json.specs.Seen.{members_in, scalar_view, seen};
 ghost use Rattle.apply_json.specs.Tokens.{IsNoValue};
 ghost use Rattle.apply_plan.specs.Script.Entry.{is_kept};
-ghost use Rattle.apply_plan.specs.Script.Members.{diag_held, diag_member};
+ghost use Rattle.apply_plan.specs.Script.Members.{HoldsDiag, diag_held, diag_member};
 
+use crate::both::{both, both_made};
 use crate::script::diag_slots::DiagSlots;
 use apply_json::{ReadFault, Reader, Scalar, read_kept_object};
 use apply_model::{Diag, Text};
@@ -50,24 +52,36 @@ impl<'a> Drop for TreeDiag<'a> {
 }
 
 impl<'a> TreeDiag<'a> {
-    /// Reads a member that is a diagnostic or `null`, in which arrays and objects nest at most `depth` deep. `None` where it is
-    /// neither.
+    /// Reads a member that is a diagnostic or `null`, in which arrays and objects nest at most `depth` deep, into its slot. `None`
+    /// where it is neither.
     pub fn read(
         alloc: Global,
         reader: &mut Reader<'a>,
         depth: usize,
-    ) -> Result<Option<Option<TreeDiag<'a>>>, ReadFault>
-        ensures ok { IfOk result (λ found. (d : Data) × IsKeptRead is_kept depth reader.old d reader.new
-            × (found ≡ diag_member (Some d))) }
+        slot: &mut Option<Option<TreeDiag<'a>>>,
+    ) -> Result<(), ReadFault>
+        ensures ok { OnOk result ((d : Data) × IsKeptRead is_kept depth reader.old d reader.new
+            × (slot.new ≡ diag_member (Some d))) }
         ensures shorter { OnOk result (length reader.new < length reader.old) }
         ensures err { result ≡ Err ReadFault.NotJson → IsNoValue depth reader.old }
     {
         let mut slots = DiagSlots::new();
-        match read_kept_object(alloc, reader, depth, &mut slots)? {
-            Scalar::Absent => Ok(Some(None)),
+        let value = read_kept_object(alloc, reader, depth, &mut slots)?;
+        *slot = TreeDiag::of_value(value, slots);
+        Ok(())
+    }
+
+    /// What the member is whose value has these members: nothing, where that is `null`. `None` where it is neither that nor
+    /// a diagnostic.
+    fn of_value(value: Scalar<'a>, slots: DiagSlots<'a>) -> Option<Option<TreeDiag<'a>>>
+        ensures { (d : Data) → scalar_view value.entry ≡ seen (Some d) → HoldsDiag slots.entry (members_in d)
+            → result ≡ diag_member (Some d) }
+    {
+        match value {
+            Scalar::Absent => Some(None),
             _ => match TreeDiag::of(slots) {
-                Some(diag) => Ok(Some(Some(diag))),
-                None => Ok(None),
+                Some(diag) => Some(Some(diag)),
+                None => None,
             },
         }
     }
@@ -76,10 +90,9 @@ impl<'a> TreeDiag<'a> {
     pub fn of(slots: DiagSlots<'a>) -> Option<TreeDiag<'a>>
         ensures { result ≡ diag_held slots.entry }
     {
-        let summary = slots.summary.text()?;
-        let detail = slots.detail.text_or("")?;
-        let range = slots.range?;
-        let snippet = slots.snippet?;
+        let texts = both(slots.summary.text(), slots.detail.text_or(""));
+        let kept = both(slots.range, slots.snippet);
+        let ((summary, detail), (range, snippet)) = both(texts, kept)?;
         Some(TreeDiag {
             summary,
             detail,
@@ -92,11 +105,20 @@ impl<'a> TreeDiag<'a> {
     pub fn copied(&self, alloc: Global) -> Result<Diag, AllocError>
         ensures { IfOk result (λ copy. copy ≡ self.now) }
     {
+        let texts = both_made(
+            Text::new(alloc, self.summary),
+            Text::new(alloc, self.detail),
+        );
+        let kept = both_made(
+            copied_text(alloc, &self.range),
+            copied_text(alloc, &self.snippet),
+        );
+        let ((summary, detail), (range, snippet)) = both_made(texts, kept)?;
         Ok(Diag {
-            summary: Text::new(alloc, self.summary)?,
-            detail: Text::new(alloc, self.detail)?,
-            range: copied_text(alloc, &self.range)?,
-            snippet: copied_text(alloc, &self.snippet)?,
+            summary,
+            detail,
+            range,
+            snippet,
         })
     }
 

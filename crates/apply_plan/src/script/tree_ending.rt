@@ -8,6 +8,7 @@ ghost use Rattle.apply_plan.specs.Script.Members.{ending_held};
 ghost use Rattle.apply_model.specs.Script.Outcome.{is_failed, is_warned};
 ghost use Rattle.apply_plan.specs.Script.TreeView.{ending_view, failure_view};
 
+use crate::both::{both, both_made};
 use crate::script::tree_diag::TreeDiag;
 use crate::script::tree_failure::TreeFailure;
 use apply_json::Scalar;
@@ -49,8 +50,8 @@ impl<'a> TreeEnding<'a> {
     ) -> Option<TreeEnding<'a>>
         ensures { option_map ending_view result ≡ ending_held (scalar_view id.entry) warning.entry failed.entry }
     {
-        let id = id.text_or("")?;
-        TreeEnding::of(non_empty(id), warning?, failed?)
+        let (id, (warning, failed)) = both(id.text_or(""), both(warning, failed))?;
+        TreeEnding::of(non_empty(id), warning, failed)
     }
 
     /// The ending that the members give. `None` where a step whose provider fails has an id or a warning.
@@ -120,10 +121,12 @@ impl<'a> TreeEnding<'a> {
         ensures { IfOk result (λ copy. copy ≡ ending_view self.now) }
     {
         match self {
-            TreeEnding::Done { id, warning } => Ok(Ending::Done {
-                id: Text::of_option(alloc, *id)?,
-                warning: TreeDiag::copied_option(alloc, warning)?,
-            }),
+            TreeEnding::Done { id, warning } => {
+                let id = Text::of_option(alloc, *id);
+                let warning = TreeDiag::copied_option(alloc, warning);
+                let (id, warning) = both_made(id, warning)?;
+                Ok(Ending::Done { id, warning })
+            }
             TreeEnding::Failed { diag } => Ok(Ending::Failed {
                 diag: diag.copied(alloc)?,
             }),

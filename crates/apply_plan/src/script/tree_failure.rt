@@ -3,9 +3,10 @@
 ghost use Rattle.std.specs.Prelude.{◌≡◌, ◌<◌, Err, IfOk, OnOk, Some, length, option_map};
 ghost use Rattle.serde_json.specs.Data.{Data};
 ghost use Rattle.apply_json.specs.Keeping.{IsKeptRead};
+ghost use Rattle.apply_json.specs.Seen.{members_in, scalar_view, seen};
 ghost use Rattle.apply_json.specs.Tokens.{IsNoValue};
 ghost use Rattle.apply_plan.specs.Script.Entry.{is_kept};
-ghost use Rattle.apply_plan.specs.Script.Members.{failure_held, failure_member};
+ghost use Rattle.apply_plan.specs.Script.Members.{HoldsDiag, failure_held, failure_member};
 ghost use Rattle.apply_plan.specs.Script.TreeView.{failure_view};
 
 use crate::script::diag_slots::DiagSlots;
@@ -22,24 +23,36 @@ pub struct TreeFailure<'a> {
 }
 
 impl<'a> TreeFailure<'a> {
-    /// Reads a member that is a failure or `null`, in which arrays and objects nest at most `depth` deep. `None` where it is
-    /// neither.
+    /// Reads a member that is a failure or `null`, in which arrays and objects nest at most `depth` deep, into its slot. `None`
+    /// where it is neither.
     pub fn read(
         alloc: Global,
         reader: &mut Reader<'a>,
         depth: usize,
-    ) -> Result<Option<Option<TreeFailure<'a>>>, ReadFault>
-        ensures ok { IfOk result (λ found. (d : Data) × IsKeptRead is_kept depth reader.old d reader.new
-            × (option_map (λ failure. option_map failure_view failure) found ≡ failure_member (Some d))) }
+        slot: &mut Option<Option<TreeFailure<'a>>>,
+    ) -> Result<(), ReadFault>
+        ensures ok { OnOk result ((d : Data) × IsKeptRead is_kept depth reader.old d reader.new
+            × (option_map (λ failure. option_map failure_view failure) slot.new ≡ failure_member (Some d))) }
         ensures shorter { OnOk result (length reader.new < length reader.old) }
         ensures err { result ≡ Err ReadFault.NotJson → IsNoValue depth reader.old }
     {
         let mut slots = DiagSlots::new();
-        match read_kept_object(alloc, reader, depth, &mut slots)? {
-            Scalar::Absent => Ok(Some(None)),
+        let value = read_kept_object(alloc, reader, depth, &mut slots)?;
+        *slot = TreeFailure::of_value(value, slots);
+        Ok(())
+    }
+
+    /// What the member is whose value has these members: nothing, where that is `null`. `None` where it is neither that nor
+    /// a failure.
+    fn of_value(value: Scalar<'a>, slots: DiagSlots<'a>) -> Option<Option<TreeFailure<'a>>>
+        ensures { (d : Data) → scalar_view value.entry ≡ seen (Some d) → HoldsDiag slots.entry (members_in d)
+            → option_map (λ failure. option_map failure_view failure) result ≡ failure_member (Some d) }
+    {
+        match value {
+            Scalar::Absent => Some(None),
             _ => match TreeFailure::of(slots) {
-                Some(failure) => Ok(Some(Some(failure))),
-                None => Ok(None),
+                Some(failure) => Some(Some(failure)),
+                None => None,
             },
         }
     }

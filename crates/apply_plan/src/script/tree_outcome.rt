@@ -9,6 +9,7 @@ ghost use Rattle.apply_plan.specs.Script.Limit.{exceeds};
 ghost use Rattle.apply_plan.specs.Script.Refusals.{has_provisioners, only_warns};
 ghost use Rattle.apply_plan.specs.Script.TreeView.{ending_view, outcome_view, provisioner_view};
 
+use crate::both::both_made;
 use crate::script::limit::Limit;
 use crate::script::tree_ending::TreeEnding;
 use crate::script::tree_provisioner::TreeProvisioner;
@@ -108,10 +109,12 @@ impl<'a> TreeOutcome<'a> {
         requires { IsBounded (outcome_view self.now) }
         ensures { IfOk result (λ copy. copy ≡ record (outcome_view self.now) { after = after }) }
     {
+        let provisioners = copied_provisioners(alloc, &self.provisioners);
+        let (provisioners, result) = both_made(provisioners, self.result.copied(alloc))?;
         Ok(Outcome {
             seconds: self.seconds as u32,
-            provisioners: copied_provisioners(alloc, &self.provisioners)?,
-            result: self.result.copied(alloc)?,
+            provisioners,
+            result,
             after,
         })
     }

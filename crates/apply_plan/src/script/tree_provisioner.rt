@@ -5,6 +5,7 @@ ghost use Rattle.apply_model.specs.Script.Outcome.{are_in_time};
 ghost use Rattle.apply_plan.specs.Script.Entry.{timed};
 ghost use Rattle.apply_plan.specs.Script.OutputView.{outputs_view};
 
+use crate::both::{both, both_made};
 use crate::filled_text::filled_text;
 use crate::script::flag_of_word::flag_of_word;
 use crate::script::list_item::ListItem;
@@ -61,14 +62,13 @@ impl<'a> TreeProvisioner<'a> {
     fn of(slots: ProvisionerSlots<'a>) -> Option<TreeProvisioner<'a>>
         ensures { option_map provisioner_view result ≡ provisioner_held slots.entry }
     {
-        let name = filled_text(slots.name)?;
-        let seconds = slots.seconds.whole()?;
-        let failed = slots.failed?;
-        let output = slots.output?;
+        let named = both(filled_text(slots.name), slots.seconds.whole());
+        let kept = both(slots.failed, slots.output);
+        let may_fail = flag_of_word(slots.on_failure, "continue", "fail");
+        let (((name, seconds), (failed, output)), may_fail) = both(both(named, kept), may_fail)?;
         if !are_in_time(&output, seconds) {
             return None;
         }
-        let may_fail = flag_of_word(slots.on_failure, "continue", "fail")?;
         Some(TreeProvisioner {
             name,
             seconds,
@@ -90,11 +90,16 @@ impl<'a> TreeProvisioner<'a> {
         requires { IsSmall (provisioner_view self.now) }
         ensures { IfOk result (λ copy. copy ≡ provisioner_view self.now) }
     {
+        let told = both_made(
+            copied_outputs(alloc, &self.output, self.seconds),
+            TreeDiag::copied_option(alloc, &self.failed),
+        );
+        let (name, (output, failed)) = both_made(Text::new(alloc, self.name), told)?;
         Ok(Provisioner {
-            name: Text::new(alloc, self.name)?,
+            name,
             seconds: self.seconds as u32,
-            output: copied_outputs(alloc, &self.output, self.seconds)?,
-            failed: TreeDiag::copied_option(alloc, &self.failed)?,
+            output,
+            failed,
             may_fail: self.may_fail,
         })
     }

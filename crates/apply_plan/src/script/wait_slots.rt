@@ -4,7 +4,7 @@ ghost use Rattle.apply_plan.specs.Script.Entry.{is_kept};
 ghost use Rattle.apply_plan.specs.Script.Members.{HoldsWait};
 
 use crate::members::take_member;
-use apply_json::{KeepingSlots, ReadFault, Reader, Scalar, read_scalar};
+use apply_json::{KeepingSlots, ReadFault, Reader, Scalar, read_scalar_into};
 use std::alloc::Global;
 
 /// The members of an item of `after`.
@@ -43,10 +43,10 @@ impl<'a> KeepingSlots<'a> for WaitSlots<'a> {
         depth: usize,
     ) -> Result<(), ReadFault> {
         take_member! {
-            self, name, reader, depth,
-            "address" => address: read_scalar(reader, depth)?,
-            "deposed" => deposed: read_scalar(reader, depth)?,
-            "step" => step: read_scalar(reader, depth)?,
+            name, reader, depth,
+            "address" => read_scalar_into(reader, depth, &mut self.address),
+            "deposed" => read_scalar_into(reader, depth, &mut self.deposed),
+            "step" => read_scalar_into(reader, depth, &mut self.step),
         }
     }
 }

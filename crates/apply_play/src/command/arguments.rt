@@ -9,7 +9,7 @@ ghost use Rattle.apply_play.specs.CommandLine.{AreSaid, HaveSaid, IsSpeed, comma
 
 use crate::command::settings::Settings;
 use crate::speed::Speed;
-use apply_words::{Usage, file, file_of, matches_of};
+use apply_words::{Usage, file, file_of, matches_of, with_option};
 use clap::{Arg, ArgMatches, Command, value_parser};
 use std::alloc::{AllocError, Global};
 
@@ -48,12 +48,13 @@ pub fn read_words(alloc: Global, words: &[String]) -> Result<Settings, Usage>
 fn command<'a>(alloc: Global) -> Result<Command<'a>, AllocError>
     ensures { IfOk result (λ command. app_of command ≡ command_line) }
 {
-    Command::new(alloc, "applystream play")
-        .no_binary_name(true)
-        .about(ABOUT)
-        .after_help(AFTER)
-        .arg(speed(alloc))?
-        .arg(file(alloc))
+    let line = Ok(
+        Command::new(alloc, "applystream play")
+            .no_binary_name(true)
+            .about(ABOUT)
+            .after_help(AFTER),
+    );
+    with_option(with_option(line, speed(alloc)), file(alloc))
 }
 
 fn speed<'a>(alloc: Global) -> Arg<'a>

@@ -53,13 +53,13 @@ impl StepFrame for LineFrame {
     ) -> Result<LineFrame, AllocError>
         ensures { IfOk result (λ frame. frame ≡ kept_step change.now step) }
     {
-        let front = progress_front(alloc, change.address(), step)?;
-        let middle = middle_of(alloc, step)?;
-        let back = back_of(alloc, change)?;
-        let shown = ShownStep::new(alloc, change, step)?;
-        Ok(LineFrame {
-            texts: StepTexts::new(shown, front, middle, back),
-        })
+        let texts = StepTexts::joined(
+            ShownStep::new(alloc, change, step),
+            progress_front(alloc, change.address(), step),
+            middle_of(alloc, step),
+            back_of(alloc, change),
+        )?;
+        Ok(LineFrame { texts })
     }
 
     fn texts(&self) -> &StepTexts {

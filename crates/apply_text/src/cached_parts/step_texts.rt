@@ -1,6 +1,6 @@
 //! The texts that lines of a step are put together of.
 
-ghost use Rattle.std.specs.Prelude.{◌≡◌, ◌/◌, ◌++◌, codes, decimal, string_bytes, IsTrue, OnOk};
+ghost use Rattle.std.specs.Prelude.{◌≡◌, ◌/◌, ◌++◌, codes, decimal, string_bytes, IfOk, IsTrue, Ok, OnOk};
 ghost use Rattle.std.specs.Option.{option_copied};
 ghost use Rattle.apply_text.specs.CachedParts.{kept_step, progress_line};
 ghost use Rattle.apply_text.specs.Elapsed.{elapsed_of};
@@ -62,6 +62,21 @@ impl StepTexts {
             middle,
             back,
         }
+    }
+
+    /// The same, where memory was refused for none of them. What is joined so has one way out, and not one for each.
+    pub fn joined(
+        step: Result<ShownStep, AllocError>,
+        front: Result<String, AllocError>,
+        middle: Result<String, AllocError>,
+        back: Result<String, AllocError>,
+    ) -> Result<StepTexts, AllocError>
+        ensures step { IfOk result (λ texts. step ≡ Ok texts.step) }
+        ensures front { IfOk result (λ texts. (text : _) × (front ≡ Ok text) × (texts.pieces.front ≡ string_bytes text)) }
+        ensures middle { IfOk result (λ texts. (text : _) × (middle ≡ Ok text) × (texts.pieces.middle ≡ string_bytes text)) }
+        ensures back { IfOk result (λ texts. (text : _) × (back ≡ Ok text) × (texts.pieces.back ≡ string_bytes text)) }
+    {
+        Ok(StepTexts::new(step?, front?, middle?, back?))
     }
 
     /// No texts, of a step of which nothing is known. Takes no memory.

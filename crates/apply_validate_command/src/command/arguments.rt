@@ -8,7 +8,7 @@ ghost use Rattle.apply_validate_command.specs.CommandLine.{AreSaid, HaveSaid, Sa
 
 use crate::command::settings::Settings;
 use apply_validate::Form;
-use apply_words::{Usage, matches_of};
+use apply_words::{Usage, matches_of, with_option};
 use clap::{Arg, ArgMatches, Command, value_parser};
 use std::alloc::{AllocError, Global};
 
@@ -48,13 +48,15 @@ pub fn read_words(alloc: Global, words: &[String]) -> Result<Settings, Usage>
 fn command<'a>(alloc: Global) -> Result<Command<'a>, AllocError>
     ensures { IfOk result (λ command. (forms : _) × TakesForms forms × (app_of command ≡ command_line forms)) }
 {
-    Command::new(alloc, "applystream validate")
-        .no_binary_name(true)
-        .about(ABOUT)
-        .after_help(AFTER)
-        .arg(script(alloc))?
-        .arg(parallelism(alloc))?
-        .arg(form(alloc))
+    let line = Ok(
+        Command::new(alloc, "applystream validate")
+            .no_binary_name(true)
+            .about(ABOUT)
+            .after_help(AFTER),
+    );
+    let line = with_option(line, script(alloc));
+    let line = with_option(line, parallelism(alloc));
+    with_option(line, form(alloc))
 }
 
 fn script<'a>(alloc: Global) -> Arg<'a>

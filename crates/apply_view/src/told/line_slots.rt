@@ -10,7 +10,9 @@ ghost use Rattle.apply_view.specs.Messages.{message_of, said_of};
 
 use crate::told::moments::instant_of;
 use crate::told::said::Said;
-use apply_json::{ReadFault, Reader, Scalar, Scratch, Slots, pass, read_scalar, read_slots};
+use apply_json::{
+    ReadFault, Reader, Scalar, Scratch, Slots, pass_member, read_scalar_into, read_slots,
+};
 use serde_json::Value;
 use std::alloc::Global;
 
@@ -61,14 +63,11 @@ impl<'a> Slots<'a> for LineSlots<'a> {
         depth: usize,
     ) -> Result<(), ReadFault> {
         if is_text(name, "type") {
-            self.type_name = read_scalar(reader, depth)?;
-            Ok(())
+            read_scalar_into(reader, depth, &mut self.type_name)
         } else if is_text(name, "@timestamp") {
-            self.timestamp = read_scalar(reader, depth)?;
-            Ok(())
+            read_scalar_into(reader, depth, &mut self.timestamp)
         } else {
-            pass(reader, depth)?;
-            Ok(())
+            pass_member(reader, depth)
         }
     }
 }

@@ -1,11 +1,9 @@
-use Rattle.std.proofs.Common.{◌≡◌, ◌<◌, ◌-◌, length, None, Some, Result, Ok, Err, [], refl, ap, ◌∙◌, arith}
+use Rattle.std.proofs.Common.{◌≡◌, ◌<◌, ◌-◌, length, None, Some, Result, Ok, Err, refl, ap, ◌∙◌, arith}
 use Rattle.std.specs.Prelude.{OnOk, OnErr}
-use Rattle.json.specs.Json.{after_end_array, items, value}
-use Rattle.json.proofs.Grammar.{value_is, read_key-shorter}
-use Rattle.serde_json.specs.Data.{number, array, object, no_items, item, no_members, put}
-use Rattle.serde_json.specs.Read.{of_json, of_items, converted}
-use Rattle.serde_json.specs.View.{number_view}
-use Rattle.apply_json.proofs.FirstToken.{first_token, shorter, plain, read_number, no_number, no_value, array_too_deep, object_too_deep, array_refused, array_made, object_refused, object_made}
+use Rattle.json.specs.Json.{after_end_array, items, parse_map, value}
+use Rattle.json.proofs.Grammar.{read_key-shorter}
+use Rattle.serde_json.specs.Data.{array, object, no_items, item, no_members, put}
+use Rattle.serde_json.specs.Read.{of_items, converted}
 use Rattle.apply_json.proofs.Turns.{item_behind, refused_behind, over_behind, key_named, member_read, member_refused, key_refused, members_over, none_before}
 use Rattle.apply_json.proofs.passing.+pass.Goals as goal
 
@@ -21,71 +19,25 @@ abbrev held : {T E Q : Type 0} (r : Result T E) → Q → OnErr r Q
 held (Ok x) q = tt
 held (Err e) q = q
 
-pub pass-returns-in_err-token-clause-err : goal.pass-returns-in_err-token-clause-err
-pass-returns-in_err-token-clause-err t c =
-    let empty : c.args.reader.now ≡ [] = grind arith in
-    let none : converted of_json (value c.args.depth c.args.reader.now) ≡ None = ap (converted of_json) (ap (value c.args.depth) empty ∙ value_is c.args.depth []) in
-    held c.from_residual.result none
+pub pass-returns-in-Array-clause-ok : goal.pass-returns-in-Array-clause-ok
+pass-returns-in-Array-clause-ok t c =
+    let begun = rw c.in-Array.is at c.in_ok-begin.ensures.ok in
+    onok c.pass_items.result (λ f. (array f.0, begun.1 ∙ ap (parse_map array) f.1)) c.pass_items.ensures.ok
 
-pub pass-returns-in-String-clause-ok : goal.pass-returns-in-String-clause-ok
-pass-returns-in-String-clause-ok t c =
-    let first = first_token c.next.result c.in_ok-token.token record {} c.args.reader.now c.next.new.self c.in_ok-token.ensures.value c.next.ensures.value in
-    plain c.args.depth c.args.reader.now c.next.new.self c.in_ok-token.token first c.in-String.is
+pub pass-returns-in-Array-clause-err : goal.pass-returns-in-Array-clause-err
+pass-returns-in-Array-clause-err t c =
+    let begun = rw c.in-Array.is at c.in_ok-begin.ensures.ok in
+    onerr c.pass_items.result (λ e. begun.1 ∙ ap (parse_map array) e) c.pass_items.ensures.err
 
-pub pass-returns-in-String-clause-shorter : goal.pass-returns-in-String-clause-shorter
-pass-returns-in-String-clause-shorter t c =
-    let first = first_token c.next.result c.in_ok-token.token record {} c.args.reader.now c.next.new.self c.in_ok-token.ensures.value c.next.ensures.value in
-    shorter c.args.reader.now c.next.new.self _ first
+pub pass-returns-in-Object-clause-ok : goal.pass-returns-in-Object-clause-ok
+pass-returns-in-Object-clause-ok t c =
+    let begun = rw c.in-Object.is at c.in_ok-begin.ensures.ok in
+    onok c.pass_members.result (λ f. (object f.0, begun.1 ∙ ap (parse_map object) f.1)) c.pass_members.ensures.ok
 
-pub pass-returns-in-Some-clause-ok : goal.pass-returns-in-Some-clause-ok
-pass-returns-in-Some-clause-ok t c =
-    let first = first_token c.next.result c.in_ok-token.token record {} c.args.reader.now c.next.new.self c.in_ok-token.ensures.value c.next.ensures.value in
-    (number (number_view c.in-Some._number), read_number c.args.depth c.args.reader.now c.next.new.self c.in_ok-token.token first c.in-Number.text (number_view c.in-Some._number) c.in-Number.is c.in-Some.ensures)
-
-pub pass-returns-in-Some-clause-shorter : goal.pass-returns-in-Some-clause-shorter
-pass-returns-in-Some-clause-shorter t c =
-    let first = first_token c.next.result c.in_ok-token.token record {} c.args.reader.now c.next.new.self c.in_ok-token.ensures.value c.next.ensures.value in
-    shorter c.args.reader.now c.next.new.self _ first
-
-pub pass-returns-in-None-clause-err : goal.pass-returns-in-None-clause-err
-pass-returns-in-None-clause-err t c =
-    let first = first_token c.next.result c.in_ok-token.token record {} c.args.reader.now c.next.new.self c.in_ok-token.ensures.value c.next.ensures.value in
-    no_number c.args.depth c.args.reader.now c.next.new.self c.in_ok-token.token first c.in-Number.text c.in-Number.is c.in-None.ensures
-
-pub pass-returns-in-EndObject-clause-err : goal.pass-returns-in-EndObject-clause-err
-pass-returns-in-EndObject-clause-err t c =
-    let first = first_token c.next.result c.in_ok-token.token record {} c.args.reader.now c.next.new.self c.in_ok-token.ensures.value c.next.ensures.value in
-    no_value c.args.depth c.args.reader.now c.next.new.self c.in_ok-token.token first c.in-EndObject.is
-
-pub pass-returns-then-depth-eq0-clause-err : goal.pass-returns-then-depth-eq0-clause-err
-pass-returns-then-depth-eq0-clause-err t c =
-    let first = first_token c.next.result c.in_ok-token.token record {} c.args.reader.now c.next.new.self c.in_ok-token.ensures.value c.next.ensures.value in
-    array_too_deep c.args.depth c.args.reader.now c.next.new.self c.in_ok-token.token first (omega arith) c.in-BeginArray.is
-
-pub pass-returns-else-depth-eq0-clause-ok : goal.pass-returns-else-depth-eq0-clause-ok
-pass-returns-else-depth-eq0-clause-ok t c =
-    let first = first_token c.next.result c.in_ok-token.token record {} c.args.reader.now c.next.new.self c.in_ok-token.ensures.value c.next.ensures.value in
-    onok c.pass_items.result (λ f. (array f.0, array_made c.args.depth c.args.reader.now c.next.new.self c.in_ok-token.token first f.0 c.pass_items.new.reader (omega arith) c.in-BeginArray.is f.1)) c.pass_items.ensures.ok
-
-pub pass-returns-else-depth-eq0-clause-err : goal.pass-returns-else-depth-eq0-clause-err
-pass-returns-else-depth-eq0-clause-err t c =
-    let first = first_token c.next.result c.in_ok-token.token record {} c.args.reader.now c.next.new.self c.in_ok-token.ensures.value c.next.ensures.value in
-    onerr c.pass_items.result (λ e. array_refused c.args.depth c.args.reader.now c.next.new.self c.in_ok-token.token first (omega arith) c.in-BeginArray.is e) c.pass_items.ensures.err
-
-pub pass-returns-then-depth-eq0-2-clause-err : goal.pass-returns-then-depth-eq0-2-clause-err
-pass-returns-then-depth-eq0-2-clause-err t c =
-    let first = first_token c.next.result c.in_ok-token.token record {} c.args.reader.now c.next.new.self c.in_ok-token.ensures.value c.next.ensures.value in
-    object_too_deep c.args.depth c.args.reader.now c.next.new.self c.in_ok-token.token first (omega arith) c.in-BeginObject.is
-
-pub pass-returns-else-depth-eq0-2-clause-ok : goal.pass-returns-else-depth-eq0-2-clause-ok
-pass-returns-else-depth-eq0-2-clause-ok t c =
-    let first = first_token c.next.result c.in_ok-token.token record {} c.args.reader.now c.next.new.self c.in_ok-token.ensures.value c.next.ensures.value in
-    onok c.pass_members.result (λ f. (object f.0, object_made c.args.depth c.args.reader.now c.next.new.self c.in_ok-token.token first f.0 c.pass_members.new.reader (omega arith) c.in-BeginObject.is f.1)) c.pass_members.ensures.ok
-
-pub pass-returns-else-depth-eq0-2-clause-err : goal.pass-returns-else-depth-eq0-2-clause-err
-pass-returns-else-depth-eq0-2-clause-err t c =
-    let first = first_token c.next.result c.in_ok-token.token record {} c.args.reader.now c.next.new.self c.in_ok-token.ensures.value c.next.ensures.value in
-    onerr c.pass_members.result (λ e. object_refused c.args.depth c.args.reader.now c.next.new.self c.in_ok-token.token first (omega arith) c.in-BeginObject.is e) c.pass_members.ensures.err
+pub pass-returns-in-Object-clause-err : goal.pass-returns-in-Object-clause-err
+pass-returns-in-Object-clause-err t c =
+    let begun = rw c.in-Object.is at c.in_ok-begin.ensures.ok in
+    onerr c.pass_members.result (λ e. begun.1 ∙ ap (parse_map object) e) c.pass_members.ensures.err
 
 pub pass_items-items-init : goal.pass_items-items-init
 pass_items-items-init t c =

@@ -1,18 +1,18 @@
-use Rattle.std.proofs.Common.{Vec, BTreeMap, Global, String as Owned, ◌≡◌, ◌-◌, ◌<◌, [], length, Some, None, Result, Ok, Err, true, false, string_bytes, refl, sym, ap, ◌∙◌, arith, rules}
+use Rattle.std.proofs.Common.{Vec, BTreeMap, Global, String as Owned, ◌≡◌, ◌-◌, ◌<◌, length, Some, None, Result, Ok, Err, true, false, string_bytes, refl, sym, ap, ◌∙◌, arith, rules}
 use Rattle.std.specs.Result.{IsErrAnd}
-use Rattle.json.specs.Json.{after_end_array, items, value}
-use Rattle.json.proofs.Grammar.{value_is, read_key-shorter}
-use Rattle.serde_json.specs.Data.{Items, Members, null, boolean, number, string, array, object, no_items, item, no_members, put}
-use Rattle.serde_json.specs.Read.{of_json, of_items, converted}
-use Rattle.serde_json.specs.View.{view, items_view, number_view, members_view}
-use Rattle.serde_json.specs.declared.value.Value.{Value, Array, Object, String, Number, Bool, Null, the_lemmas}
+use Rattle.json.specs.Json.{after_end_array, items, parse_map, value}
+use Rattle.json.proofs.Grammar.{read_key-shorter}
+use Rattle.serde_json.specs.Data.{Items, Members, array, object, no_items, item, no_members, put}
+use Rattle.serde_json.specs.Read.{of_items, converted}
+use Rattle.serde_json.specs.View.{view, items_view, members_view}
+use Rattle.serde_json.specs.declared.value.Value.{Value, Array, Object}
 use Rattle.serde_json.proofs.Views.{view-Array, view-Object, members_view-insert_entry}
 use Rattle.apply_json.specs.declared.read_fault.ReadFault.{ReadFault}
 use Rattle.apply_json.specs.declared.read_fault.ReadFault.TheVariants.{Memory, NotJson}
 use Rattle.apply_json.specs.Trimmed.{is_within, trimmed}
 use Rattle.apply_json.proofs.Trimmed.Items.{items_before-no_items, kept, passed, none_found}
 use Rattle.apply_json.proofs.Trimmed.Members.{put_in_order, known_kept, put_unknown}
-use Rattle.apply_json.proofs.FirstToken.{first_token, shorter, read_text, read_boolean, read_null, read_number, no_number, no_value, array_too_deep, object_too_deep, array_refused, array_made, object_refused, object_made}
+use Rattle.apply_json.proofs.Scalars.{scalar_stays}
 use Rattle.apply_json.proofs.Turns.{item_behind, refused_behind, over_behind, key_named, member_read, member_refused, key_refused, members_over, none_before}
 use Rattle.apply_json.proofs.trimming.+read.Goals as goal
 
@@ -27,111 +27,35 @@ memory_only : {T : Type 0} (r : Result T ReadFault) → IsErrAnd r (λ fault. fa
 memory_only (Ok x) memory refused = memory
 memory_only (Err fault) memory refused = cc
 
-pub read-returns-in_err-token-clause-err : goal.read-returns-in_err-token-clause-err
-read-returns-in_err-token-clause-err g t c refused =
-    let empty : c.args.reader.now ≡ [] = grind arith in
-    ap (converted of_json) (ap (value c.args.depth) empty ∙ value_is c.args.depth [])
+pub read-returns-in_ok-value_of-in-Scalar-clause-ok : goal.read-returns-in_ok-value_of-in-Scalar-clause-ok
+read-returns-in_ok-value_of-in-Scalar-clause-ok g t c =
+    let begun = rw c.in-Scalar.is at c.in_ok-scalar.ensures.ok in
+    (begun.0, begun.1, c.in_ok-value_of-in-Scalar.ensures begun.0 begun.3 begun.2 ∙ scalar_stays g.S.Shape.selection c.args.shape begun.0 begun.3)
 
-pub read-returns-then-depth-eq0-clause-err : goal.read-returns-then-depth-eq0-clause-err
-read-returns-then-depth-eq0-clause-err g t c never =
-    let first = first_token c.next.result c.in_ok-token.token NotJson c.args.reader.now c.next.new.self c.in_ok-token.ensures.value c.next.ensures.value in
-    array_too_deep c.args.depth c.args.reader.now c.next.new.self c.in_ok-token.token first (omega arith) c.in-BeginArray.is
+pub read-returns-in_err-value_of-in-Scalar-clause-err : goal.read-returns-in_err-value_of-in-Scalar-clause-err
+read-returns-in_err-value_of-in-Scalar-clause-err g t c refused = absurd (memory_only c.from_residual-in_err-value_of-in-Scalar.result c.from_residual-in_err-value_of-in-Scalar.ensures.1 refused)
 
-pub read-returns-then-depth-eq0-2-clause-err : goal.read-returns-then-depth-eq0-2-clause-err
-read-returns-then-depth-eq0-2-clause-err g t c never =
-    let first = first_token c.next.result c.in_ok-token.token NotJson c.args.reader.now c.next.new.self c.in_ok-token.ensures.value c.next.ensures.value in
-    object_too_deep c.args.depth c.args.reader.now c.next.new.self c.in_ok-token.token first (omega arith) c.in-BeginObject.is
+pub read-returns-in_ok-read_items-in-Array-clause-ok : goal.read-returns-in_ok-read_items-in-Array-clause-ok
+read-returns-in_ok-read_items-in-Array-clause-ok g t c =
+    let begun = rw c.in-Array.is at c.in_ok-scalar.ensures.ok in
+    let found = c.in_ok-read_items-in-Array in
+    (array found.ensures.ok.0, begun.1 ∙ ap (parse_map array) found.ensures.ok.1, array_seen found.field-0 _ found.ensures.ok.2)
 
-pub read-returns-in_err-read_items-in-BeginArray-clause-err : goal.read-returns-in_err-read_items-in-BeginArray-clause-err
-read-returns-in_err-read_items-in-BeginArray-clause-err g t c refused =
-    let first = first_token c.next.result c.in_ok-token.token NotJson c.args.reader.now c.next.new.self c.in_ok-token.ensures.value c.next.ensures.value in
-    array_refused c.args.depth c.args.reader.now c.next.new.self c.in_ok-token.token first (omega arith) c.in-BeginArray.is (c.read_items.ensures.err (grind arith))
+pub read-returns-in_err-read_items-in-Array-clause-err : goal.read-returns-in_err-read_items-in-Array-clause-err
+read-returns-in_err-read_items-in-Array-clause-err g t c refused =
+    let begun = rw c.in-Array.is at c.in_ok-scalar.ensures.ok in
+    begun.1 ∙ ap (parse_map array) (c.read_items.ensures.err (grind arith))
 
-pub read-returns-in_err-read_members-in-BeginObject-clause-err : goal.read-returns-in_err-read_members-in-BeginObject-clause-err
-read-returns-in_err-read_members-in-BeginObject-clause-err g t c refused =
-    let first = first_token c.next.result c.in_ok-token.token NotJson c.args.reader.now c.next.new.self c.in_ok-token.ensures.value c.next.ensures.value in
-    object_refused c.args.depth c.args.reader.now c.next.new.self c.in_ok-token.token first (omega arith) c.in-BeginObject.is (c.read_members.ensures.err (grind arith))
+pub read-returns-in_ok-read_members-in-Object-clause-ok : goal.read-returns-in_ok-read_members-in-Object-clause-ok
+read-returns-in_ok-read_members-in-Object-clause-ok g t c =
+    let begun = rw c.in-Object.is at c.in_ok-scalar.ensures.ok in
+    let found = c.in_ok-read_members-in-Object in
+    (object found.ensures.ok.0, begun.1 ∙ ap (parse_map object) found.ensures.ok.1, object_seen found.field-0 _ found.ensures.ok.2)
 
-pub read-returns-in_ok-from_str-in-String-clause-ok : goal.read-returns-in_ok-from_str-in-String-clause-ok
-read-returns-in_ok-from_str-in-String-clause-ok g t c =
-    let first = first_token c.next.result c.in_ok-token.token NotJson c.args.reader.now c.next.new.self c.in_ok-token.ensures.value c.next.ensures.value in
-    let seen : view (String c.in_ok-from_str-in-String.field-0) ≡ string c.in-String.text.now = search (rules, the_lemmas) in
-    (string c.in-String.text.now, read_text c.args.depth c.args.reader.now c.next.new.self c.in_ok-token.token first c.in-String.text c.in-String.is, seen)
-
-pub read-returns-in_ok-from_str-in-String-clause-shorter : goal.read-returns-in_ok-from_str-in-String-clause-shorter
-read-returns-in_ok-from_str-in-String-clause-shorter g t c =
-    let first = first_token c.next.result c.in_ok-token.token NotJson c.args.reader.now c.next.new.self c.in_ok-token.ensures.value c.next.ensures.value in
-    shorter c.args.reader.now c.next.new.self _ first
-
-pub read-returns-in-Bool-clause-ok : goal.read-returns-in-Bool-clause-ok
-read-returns-in-Bool-clause-ok g t c =
-    let first = first_token c.next.result c.in_ok-token.token NotJson c.args.reader.now c.next.new.self c.in_ok-token.ensures.value c.next.ensures.value in
-    let seen : view (Bool c.in-Bool.b) ≡ boolean c.in-Bool.b = search (rules, the_lemmas) in
-    (boolean c.in-Bool.b, read_boolean c.args.depth c.args.reader.now c.next.new.self c.in_ok-token.token first c.in-Bool.b c.in-Bool.is, seen)
-
-pub read-returns-in-Bool-clause-shorter : goal.read-returns-in-Bool-clause-shorter
-read-returns-in-Bool-clause-shorter g t c =
-    let first = first_token c.next.result c.in_ok-token.token NotJson c.args.reader.now c.next.new.self c.in_ok-token.ensures.value c.next.ensures.value in
-    shorter c.args.reader.now c.next.new.self _ first
-
-pub read-returns-in-Null-clause-ok : goal.read-returns-in-Null-clause-ok
-read-returns-in-Null-clause-ok g t c =
-    let first = first_token c.next.result c.in_ok-token.token NotJson c.args.reader.now c.next.new.self c.in_ok-token.ensures.value c.next.ensures.value in
-    let seen : view Null ≡ null = search (rules, the_lemmas) in
-    (null, read_null c.args.depth c.args.reader.now c.next.new.self c.in_ok-token.token first c.in-Null.is, seen)
-
-pub read-returns-in-Null-clause-shorter : goal.read-returns-in-Null-clause-shorter
-read-returns-in-Null-clause-shorter g t c =
-    let first = first_token c.next.result c.in_ok-token.token NotJson c.args.reader.now c.next.new.self c.in_ok-token.ensures.value c.next.ensures.value in
-    shorter c.args.reader.now c.next.new.self _ first
-
-pub read-returns-in-Some-clause-ok : goal.read-returns-in-Some-clause-ok
-read-returns-in-Some-clause-ok g t c =
-    let first = first_token c.next.result c.in_ok-token.token NotJson c.args.reader.now c.next.new.self c.in_ok-token.ensures.value c.next.ensures.value in
-    let seen : view (Number c.in-Some.number) ≡ number (number_view c.in-Some.number) = search (rules, the_lemmas) in
-    (number (number_view c.in-Some.number), read_number c.args.depth c.args.reader.now c.next.new.self c.in_ok-token.token first c.in-Number.text (number_view c.in-Some.number) c.in-Number.is c.in-Some.ensures, seen)
-
-pub read-returns-in-Some-clause-shorter : goal.read-returns-in-Some-clause-shorter
-read-returns-in-Some-clause-shorter g t c =
-    let first = first_token c.next.result c.in_ok-token.token NotJson c.args.reader.now c.next.new.self c.in_ok-token.ensures.value c.next.ensures.value in
-    shorter c.args.reader.now c.next.new.self _ first
-
-pub read-returns-in-None-clause-err : goal.read-returns-in-None-clause-err
-read-returns-in-None-clause-err g t c refused =
-    let first = first_token c.next.result c.in_ok-token.token NotJson c.args.reader.now c.next.new.self c.in_ok-token.ensures.value c.next.ensures.value in
-    no_number c.args.depth c.args.reader.now c.next.new.self c.in_ok-token.token first c.in-Number.text c.in-Number.is c.in-None.ensures
-
-pub read-returns-in-EndObject-clause-err : goal.read-returns-in-EndObject-clause-err
-read-returns-in-EndObject-clause-err g t c refused =
-    let first = first_token c.next.result c.in_ok-token.token NotJson c.args.reader.now c.next.new.self c.in_ok-token.ensures.value c.next.ensures.value in
-    no_value c.args.depth c.args.reader.now c.next.new.self c.in_ok-token.token first c.in-EndObject.is
-
-pub read-returns-in_ok-read_items-in-BeginArray-clause-ok : goal.read-returns-in_ok-read_items-in-BeginArray-clause-ok
-read-returns-in_ok-read_items-in-BeginArray-clause-ok g t c =
-    let first = first_token c.next.result c.in_ok-token.token NotJson c.args.reader.now c.next.new.self c.in_ok-token.ensures.value c.next.ensures.value in
-    let found = c.in_ok-read_items-in-BeginArray in
-    (array found.ensures.ok.0, array_made c.args.depth c.args.reader.now c.next.new.self c.in_ok-token.token first found.ensures.ok.0 c.read_items.new.reader (omega arith) c.in-BeginArray.is found.ensures.ok.1, array_seen found.field-0 _ found.ensures.ok.2)
-
-pub read-returns-in_ok-read_items-in-BeginArray-clause-shorter : goal.read-returns-in_ok-read_items-in-BeginArray-clause-shorter
-read-returns-in_ok-read_items-in-BeginArray-clause-shorter g t c =
-    let first = first_token c.next.result c.in_ok-token.token NotJson c.args.reader.now c.next.new.self c.in_ok-token.ensures.value c.next.ensures.value in
-    let less = shorter c.args.reader.now c.next.new.self _ first in
-    omega (arith, less, c.in_ok-read_items-in-BeginArray.ensures.shorter)
-
-pub read-returns-in_ok-read_members-in-BeginObject-clause-ok : goal.read-returns-in_ok-read_members-in-BeginObject-clause-ok
-read-returns-in_ok-read_members-in-BeginObject-clause-ok g t c =
-    let first = first_token c.next.result c.in_ok-token.token NotJson c.args.reader.now c.next.new.self c.in_ok-token.ensures.value c.next.ensures.value in
-    let found = c.in_ok-read_members-in-BeginObject in
-    (object found.ensures.ok.0, object_made c.args.depth c.args.reader.now c.next.new.self c.in_ok-token.token first found.ensures.ok.0 c.read_members.new.reader (omega arith) c.in-BeginObject.is found.ensures.ok.1, object_seen found.field-0 _ found.ensures.ok.2)
-
-pub read-returns-in_ok-read_members-in-BeginObject-clause-shorter : goal.read-returns-in_ok-read_members-in-BeginObject-clause-shorter
-read-returns-in_ok-read_members-in-BeginObject-clause-shorter g t c =
-    let first = first_token c.next.result c.in_ok-token.token NotJson c.args.reader.now c.next.new.self c.in_ok-token.ensures.value c.next.ensures.value in
-    let less = shorter c.args.reader.now c.next.new.self _ first in
-    omega (arith, less, c.in_ok-read_members-in-BeginObject.ensures.shorter)
-
-pub read-returns-in_err-from_str-in-String-clause-err : goal.read-returns-in_err-from_str-in-String-clause-err
-read-returns-in_err-from_str-in-String-clause-err g t c refused = absurd (memory_only c.from_residual-in_err-from_str-in-String.result c.from_residual-in_err-from_str-in-String.ensures.1 refused)
+pub read-returns-in_err-read_members-in-Object-clause-err : goal.read-returns-in_err-read_members-in-Object-clause-err
+read-returns-in_err-read_members-in-Object-clause-err g t c refused =
+    let begun = rw c.in-Object.is at c.in_ok-scalar.ensures.ok in
+    begun.1 ∙ ap (parse_map object) (c.read_members.ensures.err (grind arith))
 
 pub read_items-returns-in_err-push-clause-err : goal.read_items-returns-in_err-push-clause-err
 read_items-returns-in_err-push-clause-err g t c refused = absurd (memory_only c.from_residual-in_err-push.result c.from_residual-in_err-push.ensures.1 refused)

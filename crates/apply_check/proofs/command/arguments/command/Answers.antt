@@ -1,6 +1,5 @@
-use Rattle.std.proofs.Common.{◌≡◌, ◌∙◌, ap, ap₂, codes, true}
-use Rattle.std.proofs.lemmas.Result.{IfOk-weaker}
-use Rattle.clap.specs.Simple.{App, app_of, app_of_fields, new_app, on_top, with_rule}
+use Rattle.std.proofs.Common.{◌≡◌, ◌∙◌, ap, codes, true}
+use Rattle.clap.specs.Simple.{App, app_of, app_of_fields, new_app, on_top}
 use Rattle.apply_check.proofs.command.arguments.command.Goals as goal
 
 -- the command before its options, whose words are those behind `check`
@@ -12,7 +11,7 @@ returns c =
     let none : app_of c.after_help.result ≡ no_options =
     ap app_of_fields c.after_help.ensures ∙ ap app_of_fields c.about.ensures ∙ ap app_of_fields c.no_binary_name.ensures
     ∙ ap (on_top (λ shape. record shape { no_binary_name = true })) c.new.ensures.app in
-    let json = c.in_ok-arg.ensures.shape c.flag.ensures.1 ∙ ap₂ with_rule none c.flag.ensures.0 in
-    let find = c.in_ok-arg-2.ensures.shape c.flag-2.ensures.1 ∙ ap₂ with_rule json c.flag-2.ensures.0 in
-    let plan = c.in_ok-arg-3.ensures.shape c.flag-3.ensures.1 ∙ ap₂ with_rule find c.flag-3.ensures.0 in
-    IfOk-weaker c.arg-4.result _ _ (λ command added. added.shape c.file.ensures.1 ∙ ap₂ with_rule plan c.file.ensures.0) c.arg-4.ensures
+    let json = c.with_option-line.ensures no_options _ none c.flag.ensures.0 c.flag.ensures.1 in
+    let find = c.with_option-line-2.ensures _ _ json c.flag-2.ensures.0 c.flag-2.ensures.1 in
+    let plan = c.with_option-line-3.ensures _ _ find c.flag-3.ensures.0 c.flag-3.ensures.1 in
+    c.with_option.ensures _ _ plan c.file.ensures.0 c.file.ensures.1

@@ -1,6 +1,6 @@
-use Rattle.std.proofs.Common.{◌≡◌, ◌∙◌, ap, ap₂, codes, true}
+use Rattle.std.proofs.Common.{◌≡◌, ◌∙◌, ap, codes, true}
 use Rattle.std.proofs.lemmas.Result.{IfOk-weaker}
-use Rattle.clap.specs.Simple.{App, app_of, app_of_fields, new_app, on_top, with_rule}
+use Rattle.clap.specs.Simple.{App, app_of, app_of_fields, new_app, on_top}
 use Rattle.apply_validate_command.proofs.command.arguments.command.Goals as goal
 
 -- the command before its options, whose words are those behind `validate`
@@ -12,7 +12,7 @@ returns c =
     let none : app_of c.after_help.result ≡ no_options =
     ap app_of_fields c.after_help.ensures ∙ ap app_of_fields c.about.ensures ∙ ap app_of_fields c.no_binary_name.ensures
     ∙ ap (on_top (λ shape. record shape { no_binary_name = true })) c.new.ensures.app in
-    let script = c.in_ok-arg.ensures.shape c.script.ensures.1 ∙ ap₂ with_rule none c.script.ensures.0 in
-    let parallelism = c.in_ok-arg-2.ensures.shape c.parallelism.ensures.1 ∙ ap₂ with_rule script c.parallelism.ensures.0 in
+    let script = c.with_option-line.ensures no_options _ none c.script.ensures.0 c.script.ensures.1 in
+    let parallelism = c.with_option-line-2.ensures _ _ script c.parallelism.ensures.0 c.parallelism.ensures.1 in
     let forms = c.form.ensures in
-    IfOk-weaker c.arg-3.result _ _ (λ command added. (forms.0, forms.1, added.shape forms.3 ∙ ap₂ with_rule parallelism forms.2)) c.arg-3.ensures
+    IfOk-weaker c.with_option.result _ _ (λ command is. (forms.0, forms.1, is)) (c.with_option.ensures _ _ parallelism forms.2 forms.3)

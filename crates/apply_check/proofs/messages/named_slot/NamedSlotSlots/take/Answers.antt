@@ -1,31 +1,34 @@
 use Rattle.std.proofs.Common.{List, ℕ, ap, sym, ◌∙◌}
 use Rattle.std.specs.Str.{bytes_eq}
 use Rattle.apply_json.specs.Seen.{seen}
+use Rattle.apply_json.proofs.Copied.{if_ok}
 use Rattle.apply_json.proofs.Held.{left, taken}
 use Rattle.apply_check.proofs.messages.named_slot.NamedSlotSlots.take.Goals as goal
 
-pub returns-in_ok-self-clause-ok : goal.returns-in_ok-self-clause-ok
-returns-in_ok-self-clause-ok c =
+pub returns-then-is_text-clause-ok : goal.returns-then-is_text-clause-ok
+returns-then-is_text-clause-ok c =
     let k = c.args.name.now in
-    let done = c.in_ok-self.ensures.ok in
-    let d = done.0 in (
-      d,
+    if_ok c.read_scalar_into.result
+    (λ done. (
+      done.0,
       done.1,
       λ start ms holds. record {
         named = holds.named;
-        found = taken seen start.name.now k d ms _ (ap (λ (q : List ℕ). bytes_eq k q) (sym holds.named) ∙ sym c.is_text.ensures ∙ c.if-is_text.true) done.2;
+        found = taken seen start.name.now k done.0 ms _ (ap (λ (q : List ℕ). bytes_eq k q) (sym holds.named) ∙ sym c.is_text.ensures ∙ c.if-is_text.true) done.2;
       },
-    )
+    ))
+    c.read_scalar_into.ensures.ok
 
-pub returns-in_ok-pass-clause-ok : goal.returns-in_ok-pass-clause-ok
-returns-in_ok-pass-clause-ok c =
+pub returns-else-is_text-clause-ok : goal.returns-else-is_text-clause-ok
+returns-else-is_text-clause-ok c =
     let k = c.args.name.now in
-    let done = c.in_ok-pass.ensures.ok in
-    let d = done.0 in (
-      d,
+    if_ok c.pass_member.result
+    (λ done. (
+      done.0,
       done.1,
       λ start ms holds. record {
         named = holds.named;
-        found = left seen start.name.now k d ms _ (ap (λ (q : List ℕ). bytes_eq k q) (sym holds.named) ∙ sym c.is_text.ensures ∙ c.if-is_text.false) holds.found;
+        found = left seen start.name.now k done.0 ms _ (ap (λ (q : List ℕ). bytes_eq k q) (sym holds.named) ∙ sym c.is_text.ensures ∙ c.if-is_text.false) holds.found;
       },
-    )
+    ))
+    c.pass_member.ensures.ok

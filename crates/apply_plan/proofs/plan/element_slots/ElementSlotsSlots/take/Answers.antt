@@ -1,13 +1,19 @@
 use Rattle.std.proofs.Common.{refl, subst, sym, ◌∙◌}
 use Rattle.serde_json.specs.Data.{put}
+use Rattle.apply_json.proofs.Copied.{if_ok}
 use Rattle.apply_plan.specs.Plan.Members.{HoldsElement}
 use Rattle.apply_plan.proofs.Plans.Taken.{takes_change, takes_other, takes_scalar}
 use Rattle.apply_plan.proofs.plan.element_slots.ElementSlotsSlots.take.Goals as goal
 
 pub returns-then-is_text-clause-ok : goal.returns-then-is_text-clause-ok
 returns-then-is_text-clause-ok c =
-    let done = c.in_ok-self.ensures.ok in
-    (done.0, done.1, λ start ms holds. takes_change c.args.self.now c.args.name.now done.0 ms holds _ (sym c.is_text.ensures ∙ c.if-is_text.true) done.2 refl)
+    if_ok c.read.result
+    (λ done. (
+      done.0,
+      done.1,
+      λ start ms holds. takes_change c.args.self.now c.args.name.now done.0 ms holds _ (sym c.is_text.ensures ∙ c.if-is_text.true) done.2 refl,
+    ))
+    c.read.ensures.ok
 
 pub returns-in_ok-found-in-Some-clause-ok : goal.returns-in_ok-found-in-Some-clause-ok
 returns-in_ok-found-in-Some-clause-ok c =
@@ -18,7 +24,12 @@ returns-in_ok-found-in-Some-clause-ok c =
           subst (λ slots. HoldsElement slots (put c.args.name.now done.0 ms)) (sym c.set.ensures) (takes_scalar c.args.self.now c.args.name.now done.0 ms holds c.in-Some.member c.in_ok-found-in-Some.found c.in-Some.ensures done.2),
     )
 
-pub returns-in_ok-pass-in-None-clause-ok : goal.returns-in_ok-pass-in-None-clause-ok
-returns-in_ok-pass-in-None-clause-ok c =
-    let done = c.in_ok-pass-in-None.ensures.ok in
-    (done.0, done.1, λ start ms holds. takes_other c.args.self.now c.args.name.now done.0 ms holds c.in-None.ensures (sym c.is_text.ensures ∙ c.if-is_text.false))
+pub returns-in-None-clause-ok : goal.returns-in-None-clause-ok
+returns-in-None-clause-ok c =
+    if_ok c.pass_member.result
+    (λ done. (
+      done.0,
+      done.1,
+      λ start ms holds. takes_other c.args.self.now c.args.name.now done.0 ms holds c.in-None.ensures (sym c.is_text.ensures ∙ c.if-is_text.false),
+    ))
+    c.pass_member.ensures.ok

@@ -3,46 +3,49 @@ use Rattle.std.specs.Str.{bytes_eq}
 use Rattle.serde_json.specs.Find.{get_member}
 use Rattle.apply_json.specs.Seen.{seen}
 use Rattle.apply_json.specs.Tree.{list_of}
+use Rattle.apply_json.proofs.Copied.{if_ok}
 use Rattle.apply_json.proofs.Held.{is_name, left, taken}
 use Rattle.apply_plan.specs.Plan.ElementsView.{HoldsElements, items_at, kind_of}
 use Rattle.apply_plan.proofs.plan.plan_slots.PlanSlotsSlots.take.Goals as goal
+
+pub returns-then-is_text-clause-ok : goal.returns-then-is_text-clause-ok
+returns-then-is_text-clause-ok c =
+    let k = c.args.name.now in
+    let here : bytes_eq k (codes "format_version") ≡ true = sym c.is_text.ensures ∙ c.if-is_text.true in
+    if_ok c.read_scalar_into.result
+    (λ done. (
+      done.0,
+      done.1,
+      λ start ms holds. record {
+        format_version = taken seen (codes "format_version") k done.0 ms _ here done.2;
+        terraform_version = left seen (codes "terraform_version") k done.0 ms _ (ap (λ name. bytes_eq name (codes "terraform_version")) (is_name k (codes "format_version") here)) holds.terraform_version;
+        resource_changes = left kind_of (codes "resource_changes") k done.0 ms _ (ap (λ name. bytes_eq name (codes "resource_changes")) (is_name k (codes "format_version") here)) holds.resource_changes;
+        elements = subst (λ items. HoldsElements c.args.self.now.elements (list_of items)) (left items_at (codes "resource_changes") k done.0 ms (items_at (get_member (codes "resource_changes") ms)) (ap (λ name. bytes_eq name (codes "resource_changes")) (is_name k (codes "format_version") here)) refl) holds.elements;
+      },
+    ))
+    c.read_scalar_into.ensures.ok
+
+pub returns-then-is_text-2-clause-ok : goal.returns-then-is_text-2-clause-ok
+returns-then-is_text-2-clause-ok c =
+    let k = c.args.name.now in
+    let here : bytes_eq k (codes "terraform_version") ≡ true = sym c.is_text-else-is_text.ensures ∙ c.if-is_text-2.true in
+    if_ok c.read_scalar_into-then-is_text-2.result
+    (λ done. (
+      done.0,
+      done.1,
+      λ start ms holds. record {
+        format_version = left seen (codes "format_version") k done.0 ms _ (ap (λ name. bytes_eq name (codes "format_version")) (is_name k (codes "terraform_version") here)) holds.format_version;
+        terraform_version = taken seen (codes "terraform_version") k done.0 ms _ here done.2;
+        resource_changes = left kind_of (codes "resource_changes") k done.0 ms _ (ap (λ name. bytes_eq name (codes "resource_changes")) (is_name k (codes "terraform_version") here)) holds.resource_changes;
+        elements = subst (λ items. HoldsElements c.args.self.now.elements (list_of items)) (left items_at (codes "resource_changes") k done.0 ms (items_at (get_member (codes "resource_changes") ms)) (ap (λ name. bytes_eq name (codes "resource_changes")) (is_name k (codes "terraform_version") here)) refl) holds.elements;
+      },
+    ))
+    c.read_scalar_into-then-is_text-2.ensures.ok
 
 pub returns-in_ok-self-clause-ok : goal.returns-in_ok-self-clause-ok
 returns-in_ok-self-clause-ok c =
     let k = c.args.name.now in
     let done = c.in_ok-self.ensures.ok in
-    let d = done.0 in
-    let here : bytes_eq k (codes "format_version") ≡ true = sym c.is_text.ensures ∙ c.if-is_text.true in (
-      d,
-      done.1,
-      λ start ms holds. record {
-        format_version = taken seen (codes "format_version") k d ms _ here done.2;
-        terraform_version = left seen (codes "terraform_version") k d ms _ (ap (λ name. bytes_eq name (codes "terraform_version")) (is_name k (codes "format_version") here)) holds.terraform_version;
-        resource_changes = left kind_of (codes "resource_changes") k d ms _ (ap (λ name. bytes_eq name (codes "resource_changes")) (is_name k (codes "format_version") here)) holds.resource_changes;
-        elements = subst (λ items. HoldsElements c.args.self.now.elements (list_of items)) (left items_at (codes "resource_changes") k d ms (items_at (get_member (codes "resource_changes") ms)) (ap (λ name. bytes_eq name (codes "resource_changes")) (is_name k (codes "format_version") here)) refl) holds.elements;
-      },
-    )
-
-pub returns-in_ok-self-2-clause-ok : goal.returns-in_ok-self-2-clause-ok
-returns-in_ok-self-2-clause-ok c =
-    let k = c.args.name.now in
-    let done = c.in_ok-self-2.ensures.ok in
-    let d = done.0 in
-    let here : bytes_eq k (codes "terraform_version") ≡ true = sym c.is_text-else-is_text.ensures ∙ c.if-is_text-2.true in (
-      d,
-      done.1,
-      λ start ms holds. record {
-        format_version = left seen (codes "format_version") k d ms _ (ap (λ name. bytes_eq name (codes "format_version")) (is_name k (codes "terraform_version") here)) holds.format_version;
-        terraform_version = taken seen (codes "terraform_version") k d ms _ here done.2;
-        resource_changes = left kind_of (codes "resource_changes") k d ms _ (ap (λ name. bytes_eq name (codes "resource_changes")) (is_name k (codes "terraform_version") here)) holds.resource_changes;
-        elements = subst (λ items. HoldsElements c.args.self.now.elements (list_of items)) (left items_at (codes "resource_changes") k d ms (items_at (get_member (codes "resource_changes") ms)) (ap (λ name. bytes_eq name (codes "resource_changes")) (is_name k (codes "terraform_version") here)) refl) holds.elements;
-      },
-    )
-
-pub returns-in_ok-self-3-clause-ok : goal.returns-in_ok-self-3-clause-ok
-returns-in_ok-self-3-clause-ok c =
-    let k = c.args.name.now in
-    let done = c.in_ok-self-3.ensures.ok in
     let d = done.0 in
     let here : bytes_eq k (codes "resource_changes") ≡ true = sym c.is_text-else-is_text-2.ensures ∙ c.if-is_text-3.true in (
       d,
@@ -55,17 +58,18 @@ returns-in_ok-self-3-clause-ok c =
       },
     )
 
-pub returns-in_ok-pass-clause-ok : goal.returns-in_ok-pass-clause-ok
-returns-in_ok-pass-clause-ok c =
+pub returns-else-is_text-3-clause-ok : goal.returns-else-is_text-3-clause-ok
+returns-else-is_text-3-clause-ok c =
     let k = c.args.name.now in
-    let done = c.in_ok-pass.ensures.ok in
-    let d = done.0 in (
-      d,
+    if_ok c.pass_member.result
+    (λ done. (
+      done.0,
       done.1,
       λ start ms holds. record {
-        format_version = left seen (codes "format_version") k d ms _ (sym c.is_text.ensures ∙ c.if-is_text.false) holds.format_version;
-        terraform_version = left seen (codes "terraform_version") k d ms _ (sym c.is_text-else-is_text.ensures ∙ c.if-is_text-2.false) holds.terraform_version;
-        resource_changes = left kind_of (codes "resource_changes") k d ms _ (sym c.is_text-else-is_text-2.ensures ∙ c.if-is_text-3.false) holds.resource_changes;
-        elements = subst (λ items. HoldsElements c.args.self.now.elements (list_of items)) (left items_at (codes "resource_changes") k d ms (items_at (get_member (codes "resource_changes") ms)) (sym c.is_text-else-is_text-2.ensures ∙ c.if-is_text-3.false) refl) holds.elements;
+        format_version = left seen (codes "format_version") k done.0 ms _ (sym c.is_text.ensures ∙ c.if-is_text.false) holds.format_version;
+        terraform_version = left seen (codes "terraform_version") k done.0 ms _ (sym c.is_text-else-is_text.ensures ∙ c.if-is_text-2.false) holds.terraform_version;
+        resource_changes = left kind_of (codes "resource_changes") k done.0 ms _ (sym c.is_text-else-is_text-2.ensures ∙ c.if-is_text-3.false) holds.resource_changes;
+        elements = subst (λ items. HoldsElements c.args.self.now.elements (list_of items)) (left items_at (codes "resource_changes") k done.0 ms (items_at (get_member (codes "resource_changes") ms)) (sym c.is_text-else-is_text-2.ensures ∙ c.if-is_text-3.false) refl) holds.elements;
       },
-    )
+    ))
+    c.pass_member.ensures.ok

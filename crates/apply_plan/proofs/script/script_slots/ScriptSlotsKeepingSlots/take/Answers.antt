@@ -4,7 +4,7 @@ use Rattle.json.specs.Json.{value}
 use Rattle.serde_json.specs.Find.{get_member}
 use Rattle.apply_json.proofs.Held.{left, taken}
 use Rattle.apply_plan.specs.Script.EntriesView.{HoldsEntries, entries_in, kind_of}
-use Rattle.apply_plan.proofs.Scripts.Kept.{as_that, other_member, passed_member}
+use Rattle.apply_plan.proofs.Scripts.Kept.{as_that, other_member, passed_read}
 use Rattle.apply_plan.proofs.script.script_slots.ScriptSlotsKeepingSlots.take.Goals as goal
 
 pub returns-in_ok-self-clause-ok : goal.returns-in_ok-self-clause-ok
@@ -24,20 +24,16 @@ returns-in_ok-self-clause-ok c =
       ),
     )
 
-pub returns-in_ok-pass-clause-ok : goal.returns-in_ok-pass-clause-ok
-returns-in_ok-pass-clause-ok c =
+pub returns-else-is_text-clause-ok : goal.returns-else-is_text-clause-ok
+returns-else-is_text-clause-ok c =
     let k = c.args.name.now in
-    let done = c.in_ok-pass.ensures.ok in
-    let there = passed_member k (value c.args.depth c.args.reader.now) done.0 _ done.1 in
-    let d = there.0 in
-    let other : bytes_eq k (codes "changes") ≡ false = sym c.is_text.ensures ∙ c.if-is_text.false in (
-      d,
-      there.1,
-      λ start ms holds. (
-        holds.0,
-        record {
-          kind = left kind_of (codes "changes") k d ms _ other holds.1.kind;
-          entries = subst (λ ds. HoldsEntries c.args.self.now.entries ds) (left entries_in (codes "changes") k d ms (entries_in (get_member (codes "changes") ms)) other refl) holds.1.entries;
-        },
-      ),
-    )
+    let other : bytes_eq k (codes "changes") ≡ false = sym c.is_text.ensures ∙ c.if-is_text.false in
+    passed_read c.pass_member.result k _ _
+    (λ d start ms holds. (
+      holds.0,
+      record {
+        kind = left kind_of (codes "changes") k d ms _ other holds.1.kind;
+        entries = subst (λ ds. HoldsEntries c.args.self.now.entries ds) (left entries_in (codes "changes") k d ms (entries_in (get_member (codes "changes") ms)) other refl) holds.1.entries;
+      },
+    ))
+    c.pass_member.ensures.ok

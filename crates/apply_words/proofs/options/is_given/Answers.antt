@@ -1,7 +1,7 @@
 use Rattle.std.proofs.Common.{◌∙◌}
 use Rattle.clap.specs.Matches.{found_of}
 use Rattle.clap.proofs.WalkLemmas.{one_text-rows}
-use Rattle.apply_check.proofs.command.arguments.is_given.Goals as goal
+use Rattle.apply_words.proofs.options.is_given.Goals as goal
 
 pub returns-clause-yes : goal.returns-clause-yes
 returns-clause-yes c says = c.get_flag.ensures.value (one_text-rows (found_of c.args.matches.now) c.args.name.now ∙ says)
