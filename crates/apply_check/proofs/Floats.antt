@@ -14,9 +14,10 @@ use Rattle.apply_check.specs.declared.rules.fault.Fault.{Fault}
 use Rattle.apply_check.specs.declared.rules.fault.Fault.TheVariants as fault
 use Rattle.apply_check.specs.declared.rules.open_entry.OpenEntry.{OpenEntry}
 use Rattle.apply_check.specs.declared.verdict.finding.Finding.{Finding}
+use Rattle.apply_check.specs.declared.verdict.whole.Whole.{Whole}
 use Rattle.apply_check.specs.Malformed.{path_text}
 use Rattle.apply_check.specs.Faults.{other_of, word_of}
-use Rattle.apply_check.specs.Objects.{totals_object, with_count, with_finding, with_front, with_totals}
+use Rattle.apply_check.specs.Objects.{totals_object, with_count, with_finding, with_front, with_plan, with_totals, with_whole}
 use Rattle.apply_check.specs.ToldObject.{entry_object, with_detail, with_object, with_told}
 use Rattle.apply_check.specs.Unended.{kind_word}
 use Rattle.apply_check.specs.Words.{action_word}
@@ -106,3 +107,17 @@ none_detailed _ told rest = rest
 
 pub none_told : (told : Told) → has_float (object (with_told told no_members)) ≡ false
 none_told told = (none_detailed told.finding.fault told (none_about told.object (none_found told.finding))).free
+
+plan_put : {ms : Members} (is_plan : Bool) → Floatless ms → Floatless (with_plan is_plan ms)
+plan_put true rest = one_put (codes "plan") (boolean true) refl rest
+plan_put false rest = rest
+
+pub none_whole : (whole : Whole) → has_float (object (with_whole whole no_members)) ≡ false
+none_whole whole =
+    (count_put (codes "passed") whole.passed
+    (plan_put whole.is_plan
+    (one_put (codes "whole") (boolean true) refl
+    (number_put (codes "remove") whole.totals.removed
+    (number_put (codes "lines") whole.lines
+    (one_put (codes "errors") (boolean whole.has_errors) refl
+    (number_put (codes "change") whole.totals.changed (number_put (codes "add") whole.totals.added none_yet)))))))).free

@@ -17,6 +17,8 @@ pub mod OpenSteps
 pub mod Parsed
 pub mod Pendings
 pub mod Progress
+pub mod Putting
+pub mod Saying
 pub mod Summaries
 pub mod Summing
 pub mod Trimmed

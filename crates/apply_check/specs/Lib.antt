@@ -20,8 +20,10 @@ pub mod MessageView
 pub mod Objects
 pub mod Open
 pub mod Pieces
+pub mod Putting
 pub mod Reading
 pub mod Results
+pub mod Sayings
 pub mod Selection
 pub mod Small
 pub mod Standing

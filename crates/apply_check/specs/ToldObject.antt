@@ -20,8 +20,11 @@ entry_object entry =
     (with_number (codes "line") entry.line
     (with_text (codes "kind") (kind_word entry.kind) (with_text (codes "address") entry.address.now no_members)))
 
+abbrev pub open_array : List OpenEntry → Data
+open_array entries = array (items_of (map entry_object entries))
+
 abbrev pub with_open : List OpenEntry → Members → Members
-with_open entries members = with_member (codes "open") (array (items_of (map entry_object entries))) members
+with_open entries members = with_member (codes "open") (open_array entries) members
 
 -- what the faulty line is about
 abbrev pub with_object : Option Object → Members → Members

@@ -7,11 +7,11 @@ ghost use Rattle.apply_check.specs.Telling.{whole_said};
 ghost use Rattle.apply_check.specs.ToldObject.{with_told};
 
 use crate::command::form::Form;
+use crate::command::members::Members;
 use crate::command::objects::{put_told, put_whole};
 use crate::command::texts::whole_text;
 use crate::command::told::Told;
 use crate::verdict::whole::Whole;
-use serde_json::{Map, Value};
 use std::alloc::{AllocError, Global};
 
 /// What is said of a whole stream, in that form.
@@ -21,9 +21,9 @@ pub fn whole_line(alloc: Global, form: Form, whole: &Whole) -> Result<String, Al
     match form {
         Form::Text => whole_text(alloc, whole),
         Form::Json => {
-            let mut members = Map::new(alloc);
-            put_whole(alloc, &mut members, whole)?;
-            Value::Object(members).to_string(alloc)
+            let mut members = Members::new(alloc);
+            put_whole(&mut members, whole);
+            members.object()?.to_string(alloc)
         }
     }
 }
@@ -32,7 +32,7 @@ pub fn whole_line(alloc: Global, form: Form, whole: &Whole) -> Result<String, Al
 pub fn told_line(alloc: Global, told: &Told<'_>) -> Result<String, AllocError>
     ensures { IfOk result (λ text. string_bytes text ≡ compact_text (object (with_told told.now no_members))) }
 {
-    let mut members = Map::new(alloc);
-    put_told(alloc, &mut members, told)?;
-    Value::Object(members).to_string(alloc)
+    let mut members = Members::new(alloc);
+    put_told(&mut members, told);
+    members.object()?.to_string(alloc)
 }

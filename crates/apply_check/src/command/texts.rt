@@ -1,16 +1,18 @@
 //! Verdicts as texts for people. What comes from the stream is shown with escapes, so that no stream steers a terminal or
 //! the log of a job.
 
-ghost use Rattle.std.specs.Prelude.{◌≡◌, ◌++◌, [], IfOk, OnOk, codes, decimal, if◌then◌else◌, string_bytes};
+ghost use Rattle.std.specs.Prelude.{◌≡◌, ◌++◌, [], IfOk, codes, decimal, if◌then◌else◌, string_bytes};
+ghost use Rattle.apply_check.specs.Sayings.{SaysMore};
 ghost use Rattle.apply_check.specs.Telling.{passed_text, totals_text, whole_text};
 
 use crate::command::object::Object;
+use crate::command::saying::Saying;
 use crate::command::told::Told;
 use crate::messages::totals::Totals;
 use crate::rules::fault::Fault;
 use crate::rules::open_entry::OpenEntry;
 use crate::verdict::whole::Whole;
-use apply_shown::{front, push_shown, shown_within};
+use apply_shown::front;
 use std::alloc::{AllocError, Global};
 
 /// How many bytes of one text of the stream are shown.
@@ -24,115 +26,100 @@ const MAX_OPEN: usize = 10;
 
 /// What is said of a stream that is not whole, as a line.
 pub fn finding_line(alloc: Global, told: &Told<'_>) -> Result<String, AllocError> {
-    let mut text = String::from_str(alloc, "applystream: ")?;
-    push_finding(alloc, &mut text, told)?;
-    push_details(alloc, &mut text, told)?;
-    text.push_str("\n")?;
-    Ok(text)
+    let mut words = Saying::new(alloc);
+    words.text("applystream: ");
+    say_finding(alloc, &mut words, told);
+    say_details(&mut words, told);
+    words.text("\n");
+    words.words()
 }
 
-/// Adds the line and what is wrong with it.
-fn push_finding(alloc: Global, text: &mut String, told: &Told<'_>) -> Result<(), AllocError> {
+/// Says the line and what is wrong with it.
+fn say_finding(alloc: Global, words: &mut Saying, told: &Told<'_>) {
     if told.is_cut_off {
-        text.push_str("line ")?;
-        return push_count(alloc, text, told.finding.line, " is cut off");
+        words.text("line ");
+        words.count(told.finding.line, " is cut off");
+    } else {
+        words.made(told.finding.to_string(alloc));
     }
-    let finding = told.finding.to_string(alloc)?;
-    text.push_str(finding.as_str())
 }
 
-/// Adds what else is known of it.
-fn push_details(alloc: Global, text: &mut String, told: &Told<'_>) -> Result<(), AllocError> {
+/// Says what else is known of it.
+fn say_details(words: &mut Saying, told: &Told<'_>) {
     match told.finding.fault {
         Fault::NotJson | Fault::NoType => {
-            text.push_str(": ")?;
-            push_shown(text, front(told.text, LINE_FRONT))
+            words.text(": ");
+            words.bytes(front(told.text, LINE_FRONT));
         }
         Fault::Unended => {
-            text.push_str(": ")?;
-            push_open(alloc, text, told.open)
+            words.text(": ");
+            say_open(words, told.open);
         }
         Fault::WrongTotals(says, counted) => {
-            text.push_str(": says ")?;
-            push_totals(
-                alloc,
-                text,
-                says,
-                " added, ",
-                " changed, ",
-                " destroyed, and ",
-            )?;
-            push_totals(alloc, text, counted, ", ", ", ", " were")
+            words.text(": says ");
+            say_totals(words, says, " added, ", " changed, ", " destroyed, and ");
+            say_totals(words, counted, ", ", ", ", " were");
         }
         Fault::WrongPlanTotals(says, counted) => {
-            text.push_str(": says ")?;
-            push_totals(
-                alloc,
-                text,
+            words.text(": says ");
+            say_totals(
+                words,
                 says,
                 " to add, ",
                 " to change, ",
                 " to destroy, and ",
-            )?;
-            push_totals(alloc, text, counted, ", ", ", ", " were planned")
+            );
+            say_totals(words, counted, ", ", ", ", " were planned");
         }
-        _ => match told.object {
-            Some(object) => push_object(alloc, text, object),
-            None => Ok(()),
+        _ => if let Some(object) = told.object {
+            say_object(words, object);
         },
     }
 }
 
-/// Adds a text of the stream as it is shown.
-fn push_text(alloc: Global, text: &mut String, said: &str) -> Result<(), AllocError> {
-    let shown = shown_within(alloc, MAX_SHOWN, said.as_bytes())?;
-    text.push_str(shown.as_str())
+/// Says what a message is about.
+fn say_object(words: &mut Saying, object: Object<'_>) {
+    words.text(": ");
+    words.shown(MAX_SHOWN, object.word());
+    words.text(" of ");
+    words.shown(MAX_SHOWN, object.address());
 }
 
-/// Adds what a message is about.
-fn push_object(alloc: Global, text: &mut String, object: Object<'_>) -> Result<(), AllocError> {
-    text.push_str(": ")?;
-    push_text(alloc, text, object.word())?;
-    text.push_str(" of ")?;
-    push_text(alloc, text, object.address())
-}
-
-/// Adds what stands open: by itself where it is one thing, else behind their number the first ten of them.
-fn push_open(alloc: Global, text: &mut String, open: &[OpenEntry<'_>]) -> Result<(), AllocError> {
+/// Says what stands open: by itself where it is one thing, else behind their number the first ten of them.
+fn say_open(words: &mut Saying, open: &[OpenEntry<'_>]) {
     if open.len() != 1 {
-        push_count(alloc, text, open.len() as u64, " stand open: ")?;
+        words.count(open.len() as u64, " stand open: ");
     }
     for (index, entry) in open.iter().take(MAX_OPEN).enumerate() {
         if index > 0 {
-            text.push_str(", ")?;
+            words.text(", ");
         }
-        push_entry(alloc, text, *entry)?;
+        say_entry(words, *entry);
     }
     if open.len() > MAX_OPEN {
-        text.push_str(", and ")?;
-        push_count(alloc, text, (open.len() - MAX_OPEN) as u64, " more")?;
+        words.text(", and ");
+        words.count((open.len() - MAX_OPEN) as u64, " more");
     }
-    Ok(())
 }
 
-/// Adds one of the things that stand open.
-fn push_entry(alloc: Global, text: &mut String, entry: OpenEntry<'_>) -> Result<(), AllocError> {
-    text.push_str(entry.kind.word())?;
-    text.push_str(" of ")?;
-    push_text(alloc, text, entry.address)?;
-    text.push_str(" since line ")?;
-    push_count(alloc, text, entry.line, "")
+/// Says one of the things that stand open.
+fn say_entry(words: &mut Saying, entry: OpenEntry<'_>) {
+    words.text(entry.kind.word());
+    words.text(" of ");
+    words.shown(MAX_SHOWN, entry.address);
+    words.text(" since line ");
+    words.count(entry.line, "");
 }
 
 /// What is said of a whole stream.
 pub fn whole_text(alloc: Global, whole: &Whole) -> Result<String, AllocError>
     ensures { IfOk result (λ text. string_bytes text ≡ whole_text whole.now) }
 {
-    let mut text = totals_text(alloc, whole.is_plan, whole.totals)?;
-    text.push_str(errors_text(whole.has_errors))?;
-    let passed = passed_text(alloc, whole.passed)?;
-    text.push_str(passed.as_str())?;
-    Ok(text)
+    let mut words = Saying::new(alloc);
+    say_done(&mut words, whole.is_plan, whole.totals);
+    words.text(errors_text(whole.has_errors));
+    say_passed(&mut words, whole.passed);
+    words.words()
 }
 
 /// What is said of errors, where some were told.
@@ -142,71 +129,46 @@ fn errors_text(has_errors: bool) -> &'static str
     if has_errors { ", with errors" } else { "" }
 }
 
-/// What is said of lines that were passed over, where lines may be.
-fn passed_text(alloc: Global, passed: Option<u64>) -> Result<String, AllocError>
-    ensures { IfOk result (λ text. string_bytes text ≡ passed_text passed) }
+/// Says how many lines were passed over, where lines may be.
+fn say_passed(words: &mut Saying, passed: Option<u64>)
+    ensures { SaysMore words.old words.new (passed_text passed) }
 {
     match passed {
-        None => Ok(String::new(alloc)),
+        None => words.text(""),
         Some(count) => if count == 1 {
-            String::from_str(alloc, ", 1 line passed over")
+            words.text(", 1 line passed over");
         } else {
-            format!(in alloc; ", {count} lines passed over")
+            words.text(", ");
+            words.count(count, " lines passed over");
         },
     }
 }
 
-/// What was done, or is to be done.
-fn totals_text(alloc: Global, is_plan: bool, totals: Totals) -> Result<String, AllocError>
-    ensures { IfOk result (λ text. string_bytes text ≡ totals_text is_plan totals) }
+/// Says what was done, or is to be done.
+fn say_done(words: &mut Saying, is_plan: bool, totals: Totals)
+    ensures { SaysMore words.old words.new (totals_text is_plan totals) }
 {
     if is_plan {
-        let mut text = String::from_str(alloc, "the plan's stream is whole: ")?;
-        push_totals(
-            alloc,
-            &mut text,
-            totals,
-            " to add, ",
-            " to change, ",
-            " to destroy",
-        )?;
-        Ok(text)
+        words.text("the plan's stream is whole: ");
+        say_totals(words, totals, " to add, ", " to change, ", " to destroy");
     } else {
-        let mut text = String::from_str(alloc, "the stream is whole: ")?;
-        push_totals(
-            alloc,
-            &mut text,
-            totals,
-            " added, ",
-            " changed, ",
-            " destroyed",
-        )?;
-        Ok(text)
+        words.text("the stream is whole: ");
+        say_totals(words, totals, " added, ", " changed, ", " destroyed");
     }
 }
 
-/// Adds three counts, and what stands behind each.
-fn push_totals(
-    alloc: Global,
-    text: &mut String,
+/// Says three counts, and what stands behind each.
+fn say_totals(
+    words: &mut Saying,
     totals: Totals,
     behind_added: &str,
     behind_changed: &str,
     behind_removed: &str,
-) -> Result<(), AllocError>
-    ensures { OnOk result (string_bytes text.new ≡ string_bytes text.old ++ decimal totals.added ++ behind_added.now
+)
+    ensures { SaysMore words.old words.new (decimal totals.added ++ behind_added.now
         ++ decimal totals.changed ++ behind_changed.now ++ decimal totals.removed ++ behind_removed.now) }
 {
-    push_count(alloc, text, totals.added, behind_added)?;
-    push_count(alloc, text, totals.changed, behind_changed)?;
-    push_count(alloc, text, totals.removed, behind_removed)
-}
-
-/// Adds a count, and what stands behind it.
-fn push_count(alloc: Global, text: &mut String, count: u64, behind: &str) -> Result<(), AllocError>
-    ensures { OnOk result (string_bytes text.new ≡ string_bytes text.old ++ decimal count ++ behind.now) }
-{
-    let count = count.to_string(alloc)?;
-    text.push_str(count.as_str())?;
-    text.push_str(behind)
+    words.count(totals.added, behind_added);
+    words.count(totals.changed, behind_changed);
+    words.count(totals.removed, behind_removed);
 }

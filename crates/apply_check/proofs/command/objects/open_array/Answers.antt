@@ -1,15 +1,13 @@
 use Rattle.std.proofs.Common.{◌≡◌, ◌+◌, ◌<◌, ◌≤◌, ℕ, List, [], ◌∷◌, ◌++◌, length, get_or, map, take, ap, sym, ◌∙◌, arith}
-use Rattle.std.specs.Prelude.{OnOk, codes, Result, Ok, Err}
 use Rattle.std.proofs.Math.Seq.{take-length}
 use Rattle.std.proofs.lemmas.List.{map-append, take_more}
-use Rattle.serde_json.specs.Data.{Data, array, put as with_member}
-use Rattle.serde_json.specs.View.{items_of, members_view, view}
+use Rattle.serde_json.specs.Data.{Data, array}
+use Rattle.serde_json.specs.View.{items_of, view}
 use Rattle.serde_json.specs.declared.value.Value.{Value}
-use Rattle.serde_json.specs.declared.value.Value.TheVariants.{Array}
 use Rattle.serde_json.proofs.Views.{view-Array}
 use Rattle.apply_check.specs.declared.rules.open_entry.OpenEntry.{OpenEntry}
 use Rattle.apply_check.specs.ToldObject.{entry_object}
-use Rattle.apply_check.proofs.command.objects.put_open.Goals as goal
+use Rattle.apply_check.proofs.command.objects.open_array.Goals as goal
 
 one_more : (vs : List Value) (v : Value) (es : List OpenEntry) (i : ℕ) (d : OpenEntry) → i < length es → map view vs ≡ map entry_object (take i es) → view v ≡ entry_object (get_or es i d)
     → map view (vs ++ v ∷ []) ≡ map entry_object (take (i + 1) es)
@@ -25,14 +23,8 @@ loop-entry-preserved c =
 all_of : (es : List OpenEntry) (i : ℕ) → i ≤ length es → length es ≤ i → take i es ≡ es
 all_of es i few many = ap (λ (n : ℕ). take n es) (let e : i ≡ length es = omega arith in e) ∙ take-length es
 
-on_weaker : {T E : Type 0} (r : Result T E) (P Q : Type 0) → (P → Q) → OnOk r P → OnOk r Q
-on_weaker (Ok x) P Q f h = f h
-on_weaker (Err e) P Q f h = h
-
 pub returns : goal.returns
 returns c =
     let all : map view c.loop-entry.values.items ≡ map entry_object c.args.entries.now =
     c.loop-entry.invariant ∙ ap (map entry_object) (all_of c.args.entries.now c.loop-entry.entry-index c.loop-entry.auto.entry-index-end c.loop-entry-test.false) in
-    let seen : view (Array c.loop-entry.values) ≡ array (items_of (map entry_object c.args.entries.now)) =
-    view-Array c.loop-entry.values ∙ ap (λ (ds : List Data). array (items_of ds)) all in
-    on_weaker c.put.result _ _ (λ is. is ∙ ap (λ (d : Data). with_member (codes "open") d (members_view c.args.members.now.entries)) seen) c.put.ensures.ok
+    view-Array c.loop-entry.values ∙ ap (λ (ds : List Data). array (items_of ds)) all
