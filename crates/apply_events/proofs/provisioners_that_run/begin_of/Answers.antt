@@ -24,3 +24,7 @@ loop-earlier-preserved c =
     let more = since_more (seconds_before c.args.kind c.args.outcome.now) (ran ps) c.loop-earlier.earlier c.get.result.now here in
     let so_far = c.loop-earlier.invariant in
     (omega arith)
+
+-- the provider's own seconds come first
+pub loop-earlier-init : goal.loop-earlier-init
+loop-earlier-init c = let own = c.seconds_before-seconds.ensures in (omega arith)

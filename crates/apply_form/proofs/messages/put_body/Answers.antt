@@ -1,11 +1,15 @@
-use Rattle.std.proofs.Common.{codes, Some, ap, ◌∙◌}
+use Rattle.std.proofs.Common.{codes, Some, refl, ap, ◌∙◌}
 use Rattle.apply_text.specs.AppliedStep.{diag_view}
 use Rattle.apply_text.specs.Message.{halted_with}
 use Rattle.apply_text.specs.Sending.{member_tokens}
 use Rattle.apply_text.proofs.Sending.{said}
 use Rattle.apply_text.proofs.Texts.{cleared, halt_text}
 use Rattle.apply_form.specs.Objects.{diagnostic_object}
+use Rattle.apply_form.proofs.Events.{same_diagnostic}
 use Rattle.apply_form.proofs.messages.put_body.Goals as goal
+
+pub returns-in-ErrorNote : goal.returns-in-ErrorNote
+returns-in-ErrorNote c = rw c.in-ErrorNote.is (said (same_diagnostic _ _ _ _ _ _ c.address_of.ensures refl c.failure.ensures) c.put_diagnostic.ensures)
 
 pub returns-in_ok-write-in-Halted : goal.returns-in_ok-write-in-Halted
 returns-in_ok-write-in-Halted c =

@@ -1,10 +1,12 @@
-use Rattle.std.proofs.Common.{◌≤◌, ◌∙◌, All, length, refl, sym, ap, subst, subst₂, arith}
+use Rattle.std.proofs.Common.{◌≡◌, ◌≤◌, ◌∙◌, All, length, refl, sym, ap, subst, subst₂, arith}
+use Rattle.std.proofs.lemmas.Bool.{ltb-false}
 use Rattle.apply_bus.specs.Bus.{Account, NamesWorkersBelow}
-use Rattle.apply_bus.specs.Items.{events}
+use Rattle.apply_bus.specs.Items.{closes, events}
 use Rattle.apply_events.specs.Fits.{IsOfPlan}
 use Rattle.apply_writer.specs.Stream.Telling.{HasTold, telling_of}
 use Rattle.apply_run.proofs.Taken.{count_more, fewer_to_lose, fewer_to_take, room_to_tell, told_more_items, told_no_items}
 use Rattle.apply_run.proofs.collector.collect.Goals as goal
+use Rattle.apply_run.proofs.collector.collect.Goals.{then-loop-rx-test+else-lost_takes-lt-MAX_LOST, else-loop-rx-test}
 
 pub loop-rx-init : goal.loop-rx-init
 loop-rx-init g c =
@@ -80,3 +82,12 @@ returns-clause-told g c =
 
 pub returns-clause-counts_fit : goal.returns-clause-counts_fit
 returns-clause-counts_fit g c = c.loop-rx.invariant.counts_fit
+
+pub returns-clause-lost : goal.returns-clause-lost
+returns-clause-lost g c none =
+    let low = ltb-false 0 c.loop-rx.lost_takes none in
+    let ended : closes c.loop-rx.rx.taken ≡ c.loop-rx.rx.workers = elim c.loop-rx-test.branch [
+      | then-loop-rx-test+else-lost_takes-lt-MAX_LOST w ↦ let many = w.if-lost_takes-lt-MAX_LOST.false in absurd (omega arith)
+      | else-loop-rx-test w ↦ let sum = c.open_left.ensures.left in let nothing = w.loop-rx-test.false in omega arith
+    ] in
+    ap (λ (a : Account). closes a.taken) c.give_up.ensures.taken ∙ ended ∙ c.loop-rx.invariant.workers

@@ -1,9 +1,40 @@
-use Rattle.std.proofs.Common.{◌≡◌, ℕ, Bool, [], sym, ap, ◌∙◌, subst, arith}
+use Rattle.std.proofs.Common.{◌≡◌, ℕ, ◌<◌, ◌≤◌, All, Bool, true, List, [], ◌∷◌, ◌++◌, sym, ap, ◌∙◌, subst, arith, lt-ltb, le-ltb, if◌then◌else◌}
+use Rattle.std.specs.List.{AllByRecursion}
+use Rattle.atomic_table.specs.Seated.{TableId}
+use Rattle.atomic_table.specs.Table.{Me}
+use Rattle.atomic_table.specs.declared.shared.Seat.{Seat}
+use Rattle.apply_bus.specs.declared.claims_rule.Hand.{Hand}
+use Rattle.apply_bus.specs.declared.claims_rule.Share.{Share}
 use Rattle.apply_bus.specs.Claims.{ClaimsName, Drawing}
-use Rattle.apply_bus.specs.ClaimsRule.{drawer}
-use Rattle.apply_bus.specs.Seats.{seat_drawn}
+use Rattle.apply_bus.specs.ClaimsRule.{share, hand, drawer, first_after, IsDrawn}
+use Rattle.apply_bus.specs.Seats.{first_limit, first_workers, first_drawn, seat_claims, seat_drawn, IsDrawerSeat}
 use Rattle.apply_bus.proofs.ClaimsSteps.{draws}
 use Rattle.apply_bus.proofs.claims.Claims.draw.Goals as goal
+
+-- a draw that finds no number left sets the mark
+end_met : (d n w found : ℕ) (drawn : List ℕ) (met : Bool) (me after : Me ℕ Hand) → me ≡ (drawer d n w drawn met, []) → n ≤ found → IsDrawn me found after → after ≡ (drawer d n w drawn true, [])
+end_met d n w found drawn met me after was past drew =
+    drew.0 ∙ ap (λ (m : Me ℕ Hand). (hand (first_after m.0.shares found), [])) was
+    ∙ ap (λ b. (hand ((if b then share d n w (drawn ++ found ∷ []) met else share d n w drawn true) ∷ []), [])) (le-ltb found n past)
+
+-- and one that finds a number keeps it, which is above all before
+one_drawn : (d n w found : ℕ) (drawn : List ℕ) (met : Bool) (me after : Me ℕ Hand) → me ≡ (drawer d n w drawn met, []) → found < n → IsDrawn me found after → after ≡ (drawer d n w (drawn ++ found ∷ []) met, [])
+one_drawn d n w found drawn met me after was low drew =
+    drew.0 ∙ ap (λ (m : Me ℕ Hand). (hand (first_after m.0.shares found), [])) was
+    ∙ ap (λ b. (hand ((if b then share d n w (drawn ++ found ∷ []) met else share d n w drawn true) ∷ []), [])) (lt-ltb found n low)
+
+above_all : (d n w found : ℕ) (drawn : List ℕ) (met : Bool) (me after : Me ℕ Hand) → me ≡ (drawer d n w drawn met, []) → IsDrawn me found after → All (λ earlier. earlier < found) drawn
+above_all d n w found drawn met me after was drew = (subst (λ (m : Me ℕ Hand). AllByRecursion (λ (s : Share). All (λ earlier. earlier < found) s.drawn) m.0.shares) was drew.1).0
+
+has_seat : (d n w : ℕ) (drawn : List ℕ) (met : Bool) (s : Seat ℕ Hand) → s.me ≡ (drawer d n w drawn met, []) → IsDrawerSeat d met s
+has_seat d n w drawn met s is = is ∙ ap (λ (m : Me ℕ Hand). (drawer d (first_limit m.0.shares) (first_workers m.0.shares) (first_drawn m.0.shares) met, [])) (sym is)
+
+drawing_of_seat : (d n w : ℕ) (drawn : List ℕ) (met : Bool) (s : Seat ℕ Hand) (t : TableId) → s.me ≡ (drawer d n w drawn met, []) → s.table_id ≡ t
+    → ◌≡◌ {A = Drawing} record { claims = seat_claims s; worker = d; drawn = seat_drawn s; met_none = met }
+    record { claims = record { table = t; limit = n; workers = w }; worker = d; drawn = drawn; met_none = met }
+drawing_of_seat d n w drawn met s t is at =
+    ap (λ (m : Me ℕ Hand). record { claims = record { table = s.table_id; limit = first_limit m.0.shares; workers = first_workers m.0.shares }; worker = d; drawn = first_drawn m.0.shares; met_none = met }) is
+    ∙ ap (λ u. record { claims = record { table = u; limit = n; workers = w }; worker = d; drawn = drawn; met_none = met }) at
 
 pub fetch_add-found-requires : goal.fetch_add-found-requires
 fetch_add-found-requires c =
@@ -17,3 +48,28 @@ fetch_add-found-requires c =
       draws _ _ _ _ seat.me c.drawer.inside.worker (seat_drawn seat)
           (subst (λ (y : ℕ × ℕ × Bool). seat.me ≡ (drawer c.drawer.inside.worker y.0 y.1 (seat_drawn seat) y.2, [])) (λ i. (limit i, workers i, c.if-drawer.false i)) c.drawer.invariant),
     )
+
+pub invariant_of-drawer-else-found-from : goal.invariant_of-drawer-else-found-from
+invariant_of-drawer-else-found-from c =
+    let seat = c.drawer.inside.seat in
+    let same = ap (λ (d : Drawing). d.claims) c.drawer.view_is ∙ c.requires ∙ sym c.self.view_is in
+    let limit : first_limit seat.me.0.shares ≡ c.self.inside.limit = ap (λ (i : ClaimsName). i.limit) same in
+    has_seat _ _ _ _ _ c.fetch_add-found.new.seat (end_met c.drawer.inside.worker (first_limit seat.me.0.shares) (first_workers seat.me.0.shares) c.fetch_add-found.result (seat_drawn seat) c.drawer.inside.met_none seat.me _ c.drawer.invariant (omega arith) c.fetch_add-found.ensures.2)
+
+pub returns-then-found-from-clause-some : goal.returns-then-found-from-clause-some
+returns-then-found-from-clause-some c =
+    let seat = c.drawer.inside.seat in
+    let found = c.fetch_add-found.result in
+    let same = ap (λ (d : Drawing). d.claims) c.drawer.view_is ∙ c.requires ∙ sym c.self.view_is in
+    let limit : first_limit seat.me.0.shares ≡ c.self.inside.limit = ap (λ (i : ClaimsName). i.limit) same in
+    drawing_of_seat _ _ _ _ _ c.fetch_add-found.new.seat _
+    (one_drawn c.drawer.inside.worker (first_limit seat.me.0.shares) (first_workers seat.me.0.shares) found (seat_drawn seat) c.drawer.inside.met_none seat.me _ c.drawer.invariant (omega arith) c.fetch_add-found.ensures.2)
+    c.fetch_add-found.ensures.0
+    ∙ ap (λ (d : Drawing). record d { drawn = d.drawn ++ found ∷ [] }) c.drawer.view_is
+
+pub returns-then-found-from-clause-rising : goal.returns-then-found-from-clause-rising
+returns-then-found-from-clause-rising c =
+    let seat = c.drawer.inside.seat in
+    let found = c.fetch_add-found.result in
+    subst (λ (d : Drawing). All (λ earlier. earlier < found) d.drawn) c.drawer.view_is
+    (above_all c.drawer.inside.worker (first_limit seat.me.0.shares) (first_workers seat.me.0.shares) found (seat_drawn seat) c.drawer.inside.met_none seat.me _ c.drawer.invariant c.fetch_add-found.ensures.2)

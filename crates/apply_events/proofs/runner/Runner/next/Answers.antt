@@ -36,3 +36,28 @@ returns-in-Halting g c = record {
   in_time = c.halt.ensures.in_time;
   course = c.halt.ensures.course;
 }
+
+-- the step at hand is one that is applied
+pub begin-requires-clause-step : goal.begin-requires-clause-step
+begin-requires-clause-step g c = c.in-Some.ensures.step
+
+pub begin-requires-clause-few : goal.begin-requires-clause-few
+begin-requires-clause-few g c = c.in-Some.ensures.few
+
+pub report-requires-clause-step : goal.report-requires-clause-step
+report-requires-clause-step g c = c.in-Some.ensures.step
+
+pub report-requires-clause-few : goal.report-requires-clause-few
+report-requires-clause-few g c = c.in-Some.ensures.few
+
+pub note-requires-clause-step : goal.note-requires-clause-step
+note-requires-clause-step g c = c.in-Some.ensures.step
+
+pub note-requires-clause-few : goal.note-requires-clause-few
+note-requires-clause-few g c = c.in-Some.ensures.few
+
+pub halt-requires-clause-step : goal.halt-requires-clause-step
+halt-requires-clause-step g c = c.in-Some.ensures.step
+
+pub halt-requires-clause-few : goal.halt-requires-clause-few
+halt-requires-clause-few g c = c.in-Some.ensures.few

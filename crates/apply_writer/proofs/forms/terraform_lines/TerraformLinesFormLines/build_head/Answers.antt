@@ -1,8 +1,9 @@
-use Rattle.std.proofs.Common.{◌-◌, ◌++◌, ◌∙◌, [], ap}
-use Rattle.std.specs.Prelude.{slice_get}
+use Rattle.std.proofs.Common.{◌-◌, ◌++◌, ◌∙◌, [], ap, sym}
+use Rattle.std.specs.Prelude.{slice_get, slice_index_or}
 use Rattle.std.specs.Option.{option_map_or}
 use Rattle.std.proofs.lemmas.Result.{on_ok_weaker}
-use Rattle.apply_writer.specs.Stream.Terraform.{planned_at}
+use Rattle.apply_form.specs.Lines.{version_text}
+use Rattle.apply_writer.specs.Stream.Terraform.{head_pieces, planned_at}
 use Rattle.apply_writer.proofs.Streams.Pieces.{change_of_piece, piece_of_change}
 use Rattle.apply_writer.proofs.forms.terraform_lines.TerraformLinesFormLines.build_head.Goals as goal
 
@@ -10,6 +11,14 @@ pub push_planned-requires : goal.push_planned-requires
 push_planned-requires c =
     let s = c.args.self.now in
     change_of_piece s.plan.now s.besides.details.now s.start c.args.place c.if-place-eq0.false c.requires
+
+pub returns-then-place-eq0-clause-ok : goal.returns-then-place-eq0-clause-ok
+returns-then-place-eq0-clause-ok c =
+    let s = c.args.self.now in
+    let pieces = head_pieces s.plan.now s.besides.details.now s.start in
+    on_ok_weaker c.push_version.result
+    (λ is. is ∙ ap (λ old. old ++ version_text s.plan.now s.start) c.clear.ensures ∙ ap (λ place. slice_index_or pieces place []) (sym c.if-place-eq0.true))
+    c.push_version.ensures.ok
 
 pub returns-else-place-eq0-clause-ok : goal.returns-else-place-eq0-clause-ok
 returns-else-place-eq0-clause-ok c =
