@@ -6,7 +6,6 @@ use Rattle.apply_model.specs.declared.plan.step_kind.StepKind.{StepKind}
 use Rattle.apply_model.specs.declared.plan.step_kind.StepKind.TheVariants.{Create, Update, Delete, Read}
 use Rattle.apply_model.specs.declared.script.diag.Diag.{Diag}
 use Rattle.apply_model.specs.declared.script.ending.Ending.{Ending}
-use Rattle.apply_model.specs.declared.script.ending.Ending.TheVariants.{Done, Failed, Warned}
 use Rattle.apply_model.specs.declared.script.outcome.Outcome.{Outcome}
 use Rattle.apply_model.specs.Plan.ResourceChange.{ResourceChange}
 use Rattle.apply_model.specs.Script.Outcome.{failure_of, warning_in}
@@ -19,6 +18,8 @@ use Rattle.apply_text.specs.declared.operation.Operation.TheVariants.{Apply, Des
 use Rattle.apply_text.specs.Elapsed.{elapsed_of}
 use Rattle.apply_text.specs.Objects.{changes_object, diagnostic_object, hook_object, provisioner_object}
 use Rattle.apply_text.specs.Words.{action_word, noun_word, phase_words, start_word, still_word}
+-- the id that the provider tells of the object, and the one that is told when a step completes
+pub use Rattle.apply_model.specs.Script.Outcome.{end_id, told_id}
 
 -- what a message says, its level and type, and the one member of its own
 pub record Message : Type 0 where
@@ -36,19 +37,6 @@ start_id Create change = None
 start_id Update change = change.prior_id
 start_id Delete change = change.prior_id
 start_id Read change = change.prior_id
-
--- the id that the provider tells of the object
-abbrev pub told_id : Ending → Option (List ℕ)
-told_id (Done id warning) = id
-told_id (Failed diag) = None
-told_id (Warned diag) = None
-
--- the id that is told when a step completes: the provider's, but for a delete
-abbrev pub end_id : StepKind → Ending → Option (List ℕ)
-end_id Create ending = told_id ending
-end_id Update ending = told_id ending
-end_id Delete ending = None
-end_id Read ending = told_id ending
 
 abbrev pub id_note : Option (List ℕ) → List ℕ
 id_note None = []

@@ -6,7 +6,7 @@ ghost use Rattle.apply_text.specs.AppliedStep.{diag_view, ending_view, outcome_v
 ghost use Rattle.apply_text.specs.Message as messages;
 ghost use Rattle.apply_text.specs.Message.{halted_with, no_diag};
 
-use apply_model::{Change, Diag, Ending, Outcome, Provisioner, StepKind, Text};
+use apply_model::{Change, Diag, Outcome, Provisioner, StepKind, Text};
 
 /// A step of a change, with what the script says of it. Where it says nothing, the step is done and nothing is told.
 #[derive(Clone, Copy, Drop)]
@@ -93,20 +93,7 @@ impl<'a> AppliedStep<'a> {
     pub fn end_id(&self) -> Option<&'a str>
         ensures { option_copied result ≡ messages.end_id self.now.kind (ending_view self.now) }
     {
-        match self.kind {
-            StepKind::Delete => None,
-            StepKind::Create | StepKind::Update | StepKind::Read => self.told_id(),
-        }
-    }
-
-    /// The id that the provider tells of the object.
-    fn told_id(&self) -> Option<&'a str>
-        ensures { option_copied result ≡ messages.told_id (ending_view self.now) }
-    {
-        match &self.outcome?.result {
-            Ending::Done { id: Some(id), .. } => Some(id.as_str()),
-            Ending::Done { id: None, .. } | Ending::Failed { .. } | Ending::Warned { .. } => None,
-        }
+        self.outcome?.end_id(self.kind)
     }
 
     /// Why the step failed: what the provider says, or the provisioner that failed.

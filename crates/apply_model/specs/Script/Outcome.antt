@@ -3,7 +3,7 @@ use Rattle.std.specs.Prelude.{ℕ, ◌+◌, ◌≤◌, List, [], ◌∷◌, All,
 use Rattle.std.specs.List.{list_any}
 use Rattle.std.specs.Option.{option_or}
 use Rattle.apply_model.specs.declared.plan.step_kind.StepKind.{StepKind}
-use Rattle.apply_model.specs.declared.plan.step_kind.StepKind.TheVariants.{Delete}
+use Rattle.apply_model.specs.declared.plan.step_kind.StepKind.TheVariants.{Create, Update, Delete, Read}
 use Rattle.apply_model.specs.declared.script.diag.Diag.{Diag}
 use Rattle.apply_model.specs.declared.script.ending.Ending.{Ending}
 use Rattle.apply_model.specs.declared.script.ending.Ending.TheVariants.{Done, Failed, Warned}
@@ -93,6 +93,21 @@ first_diag (provisioner ∷ others) = option_or (failure_by provisioner) (first_
 -- why the step fails: what the provider says, or else the first provisioner that makes it fail
 abbrev pub failure_of : Outcome → Option Diag
 failure_of outcome = option_or (diag_of_ending outcome.result) (first_diag outcome.provisioners)
+
+-- ---- which id is told
+
+-- the id that the provider tells of the object
+abbrev pub told_id : Ending → Option (List ℕ)
+told_id (Done id warning) = id
+told_id (Failed diag) = None
+told_id (Warned diag) = None
+
+-- the id that is told when a step completes: the provider's, but for a delete
+abbrev pub end_id : StepKind → Ending → Option (List ℕ)
+end_id Create ending = told_id ending
+end_id Update ending = told_id ending
+end_id Delete ending = None
+end_id Read ending = told_id ending
 
 -- ---- limits
 

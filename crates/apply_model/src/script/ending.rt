@@ -30,7 +30,17 @@ pub enum Ending {
 }
 
 impl Ending {
-    ghost use Rattle.apply_model.specs.Script.Outcome.{is_warned, warning_in};
+    ghost use Rattle.apply_model.specs.Script.Outcome.{is_warned, told_id, warning_in};
+
+    /// The id that the provider tells of the object. `None` where it tells none, or has failed.
+    pub fn id(&self) -> Option<&str>
+        ensures { option_copied result ≡ told_id self.now }
+    {
+        match self {
+            Ending::Done { id: Some(id), .. } => Some(id.as_str()),
+            Ending::Done { id: None, .. } | Ending::Failed { .. } | Ending::Warned { .. } => None,
+        }
+    }
 
     /// What is warned of: the provider's warning, or why a read has failed that only warns.
     pub fn warning(&self) -> Option<&Diag>

@@ -28,7 +28,7 @@ pub struct Outcome {
 }
 
 impl Outcome {
-    ghost use Rattle.apply_model.specs.Script.Outcome.{failure_of, fails, seconds_before, seconds_behind, took};
+    ghost use Rattle.apply_model.specs.Script.Outcome.{end_id, failure_of, fails, seconds_before, seconds_behind, took};
     ghost use Rattle.apply_model.specs.Script.Waits.{names_a_wait};
 
     /// How long the provider takes, in seconds, before the provisioners. In a delete, whose provisioners run first, it
@@ -74,6 +74,17 @@ impl Outcome {
         match &self.result {
             Ending::Failed { diag } => Some(diag),
             Ending::Done { .. } | Ending::Warned { .. } => self.provisioners.first_failure(),
+        }
+    }
+
+    /// The id that is told where a step of that kind completes: the provider's. `None` for a delete, for a step whose
+    /// provider has failed, also where that only warns, or where it tells none.
+    pub fn end_id(&self, kind: StepKind) -> Option<&str>
+        ensures { option_copied result ≡ end_id kind self.now.result }
+    {
+        match kind {
+            StepKind::Delete => None,
+            StepKind::Create | StepKind::Update | StepKind::Read => self.result.id(),
         }
     }
 

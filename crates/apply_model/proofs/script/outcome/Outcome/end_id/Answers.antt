@@ -1,5 +1,5 @@
 use Rattle.std.proofs.Common.{refl}
-use Rattle.apply_text.proofs.applied_step.AppliedStep.end_id.Goals as goal
+use Rattle.apply_model.proofs.script.outcome.Outcome.end_id.Goals as goal
 
 -- of what is deleted no id is told
 pub returns-in-Delete : goal.returns-in-Delete
