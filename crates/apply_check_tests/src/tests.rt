@@ -5,7 +5,8 @@ mod given;
 mod reading;
 
 use apply_check::{
-    Checker, Fault, Finding, Form, Mode, ReadFault, Totals, Whole, check, check_input, check_lines,
+    Checker, Fault, Finding, Form, Mode, ReadFault, Totals, Whole, check, check_command,
+    check_input, check_lines,
 };
 use std::alloc::Global;
 use std::io;

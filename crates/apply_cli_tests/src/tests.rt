@@ -45,16 +45,16 @@ fn script_bytes(script: &str) -> Option<&[u8]> {
 
 /// What no words say.
 fn defaults(alloc: Global) -> Settings {
-    with_workers(alloc, 1)
+    with_sizes(alloc, 1, 64)
 }
 
-/// What no words say, but for the workers.
-fn with_workers(alloc: Global, workers: u8) -> Settings {
+/// What no words say, but for the workers and the queue.
+fn with_sizes(alloc: Global, workers: u8, queue: u16) -> Settings {
     Settings {
         at: Start::zero(),
         script: None,
         workers,
-        queue: 64,
+        queue,
         operation: Operation::Apply,
         halts: Vec::new(alloc),
     }

@@ -144,3 +144,27 @@ fn behind_a_fault_a_read_fails(rt: HostRuntime) {
     input_is_told(&rt, rt.alloc(), Form::Text, &mut input, 4, said);
     holds(&rt, "all that there is", input.bytes.is_empty());
 }
+
+/// Behind a fault what a reader with a buffer has not shown yet is read too.
+#[test]
+fn rest_of_a_reader_with_a_buffer(rt: HostRuntime) {
+    let alloc = rt.alloc();
+    let given = b"no message\nand more\n".as_slice();
+    let reader = BufReader::with_capacity(alloc, 7, given);
+    let reader = kept(&rt, alloc, reader.expect(&rt, "memory"));
+    let printed = kept(&rt, alloc, Vec::new(alloc));
+    let faults = kept(&rt, alloc, Vec::new(alloc));
+    let checked = check_command(
+        alloc,
+        Mode::PLAIN,
+        Form::Text,
+        None,
+        reader,
+        printed,
+        faults,
+    );
+    holds(&rt, "status", checked.status == 4);
+    holds(&rt, "no read fails", checked.rest.is_ok());
+    holds(&rt, "all of the buffer", reader.buffer().is_empty());
+    holds(&rt, "all that there is", reader.get_ref().is_empty());
+}

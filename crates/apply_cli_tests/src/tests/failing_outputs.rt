@@ -33,7 +33,7 @@ fn fails_so<T: Threads + Wait + Sync + Abort>(
     status: u8,
     text: &str,
 ) {
-    let settings = kept(rt, alloc, with_workers(alloc, workers));
+    let settings = kept(rt, alloc, with_sizes(alloc, workers, 64));
     let (plan, script) = (
         FAILED_DESTROY.as_bytes(),
         Some(FAILED_DESTROY_SCRIPT.as_bytes()),

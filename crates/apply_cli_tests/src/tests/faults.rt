@@ -38,13 +38,26 @@ fn all_of_the_input_is_read(rt: HostRuntime) {
     }
 }
 
+/// Fails where settings with so many workers and such a queue, which no words say, are not refused.
+fn sizes_are_refused<T: Threads + Wait + Sync + Abort>(
+    rt: &T,
+    alloc: Global,
+    case: &str,
+    workers: u8,
+    queue: u16,
+) {
+    let settings = kept(rt, alloc, with_sizes(alloc, workers, queue));
+    let outcome = run_with(rt, alloc, settings, ONE_CREATE.as_bytes());
+    let fault = "the sizes are out of range";
+    outcome_fails(rt, case, outcome, 2, fault);
+}
+
 #[test]
 fn sizes_out_of_range_are_refused(rt: HostRuntime) {
     let alloc = rt.alloc();
-    let settings = kept(&rt, alloc, with_workers(alloc, 9));
-    let outcome = run_with(&rt, alloc, settings, ONE_CREATE.as_bytes());
-    let fault = "the sizes are out of range";
-    outcome_fails(&rt, "nine workers", outcome, 2, fault);
+    sizes_are_refused(&rt, alloc, "nine workers", 9, 64);
+    sizes_are_refused(&rt, alloc, "a queue of no message", 1, 0);
+    sizes_are_refused(&rt, alloc, "a queue of 1,025 messages", 1, 1_025);
 }
 
 /// Fails where an input that was not read has another status, or another fault is said of it.
