@@ -13,7 +13,7 @@ ghost use Rattle.apply_plan.specs.Results.{Gives, IsExactly};
 
 use crate::plan::plan_error::PlanError;
 use crate::plan::planned::Planned;
-use apply_json::{Collector, ReadFault, Reader, pass};
+use apply_json::{Collector, ReadFault, Reader, pass_member};
 use apply_model::{Change, MAX_CHANGES};
 use apply_objects::{ObjectId, SeenObjects};
 use std::alloc::Global;
@@ -66,14 +66,12 @@ impl<'a> Collector<'a> for Elements<'a> {
         depth: usize,
     ) -> Result<(), ReadFault> {
         if self.count >= MAX_CHANGES {
-            pass(reader, depth)?;
             self.fault = Some(PlanError::TooMany);
-            return Ok(());
+            return pass_member(reader, depth);
         }
         if self.fault.is_some() {
-            pass(reader, depth)?;
             self.count += 1;
-            return Ok(());
+            return pass_member(reader, depth);
         }
         let number = self.count as u32;
         let planned = Planned::read(alloc, reader, depth, number)?;
