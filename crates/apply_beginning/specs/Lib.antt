@@ -1,3 +1,4 @@
 pub mod Marks
+pub mod NamedStep
 pub mod Placed
 pub mod Stuck

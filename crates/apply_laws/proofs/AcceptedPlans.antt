@@ -17,7 +17,7 @@ use Rattle.apply_plan.specs.Plan.SavedPlan.{changes_of, change_of, plan_of, plan
 use Rattle.apply_plan.specs.ListReading.{made_after}
 use Rattle.apply_plan.specs.Plan.NextChange.{change_after}
 use Rattle.apply_model.specs.Plan.ResourceChange.{ResourceChange}
-use Rattle.apply_plan.specs.Plan.ObjectName.{is_same_object}
+use Rattle.apply_objects.specs.ObjectName.{is_same_object}
 use Rattle.apply_plan.specs.Plan.Steps.{steps_of_actions}
 use Rattle.apply_json.specs.Tree.{list_of, tree_of}
 use Rattle.apply_plan.specs.Bytes.{max_bytes}

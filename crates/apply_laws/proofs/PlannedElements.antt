@@ -22,7 +22,7 @@ use Rattle.apply_plan.specs.ListReading.{made_after}
 use Rattle.apply_plan.specs.Plan.Element.{Element, element_of, key_of, mode_named, planned_change_of, prior_id_of}
 use Rattle.apply_plan.specs.Plan.Header.{Header, header_of}
 use Rattle.apply_plan.specs.Plan.NextChange.{change_after}
-use Rattle.apply_plan.specs.Plan.ObjectName.{is_same_object}
+use Rattle.apply_objects.specs.ObjectName.{is_same_object}
 use Rattle.apply_plan.specs.Plan.SavedPlan.{change_of, plan_of, planned_at}
 use Rattle.apply_plan.specs.Plan.Steps.{steps_alone, steps_of_actions, steps_together}
 use Rattle.apply_plan.specs.Results.{or_refuse}

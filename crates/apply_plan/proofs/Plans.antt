@@ -1,7 +1,6 @@
 -- Lemmas on plans.
 pub mod Elements
 pub mod Held
-pub mod Seen
 pub mod SeenSet
 pub mod Taken
 pub mod Top

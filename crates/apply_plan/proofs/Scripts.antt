@@ -6,7 +6,6 @@ pub mod Held
 pub mod Kept
 pub mod Limits
 pub mod NeverBeginning
-pub mod Numbers
 pub mod OneEntry
 pub mod Read
 pub mod Refusals

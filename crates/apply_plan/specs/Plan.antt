@@ -9,10 +9,8 @@ pub mod ElementsView
 pub mod Header
 pub mod Members
 pub mod NextChange
-pub mod ObjectName
 pub mod PlannedView
 pub mod SavedPlan
-pub mod SeenObjects
 pub mod SeenSet
 pub mod Steps
 pub mod Words

@@ -3,10 +3,8 @@ pub use Rattle.apply_model.specs.Script.Limits
 pub use Rattle.apply_model.specs.Script.Outcome
 pub use Rattle.apply_model.specs.Script.Step
 pub use Rattle.apply_model.specs.Script.Waits
-pub mod ChangeNumbers
 pub mod EntriesView
 pub mod Entry
-pub mod HashedId
 pub mod Limit
 pub mod Members
 pub mod NeverBeginning

@@ -1,12 +1,10 @@
 //! How a script of outcomes is read.
 
-pub mod change_numbers;
 pub mod diag_slots;
 pub mod entries;
 pub mod entry_slots;
 pub mod flag_of_word;
 pub mod found_items;
-pub mod hashed_id;
 pub mod limit;
 pub mod list_item;
 pub mod named;

@@ -16,7 +16,7 @@ use Rattle.std.proofs.lemmas.Option.{get_or_from_slice_get, slice_get_within}
 use Rattle.std.proofs.lemmas.Slice.Eq.{bytes_eq-Decides}
 use denote.Ref.{Bor}
 use Rattle.apply_model.specs.Plan.ResourceChange.{ResourceChange}
-use Rattle.apply_plan.specs.Plan.ObjectName.{name_one_object}
+use Rattle.apply_objects.specs.ObjectName.{name_one_object}
 use Rattle.apply_validate.specs.contracts.plan.object_name.ObjectNameOrd.TheImpl.{cmp-value}
 use Rattle.apply_validate.specs.declared.plan.object_name.ObjectName.{ObjectName}
 use Rattle.apply_validate.specs.FirstNamed.{at_addresses, is_same_name}

@@ -3,7 +3,7 @@ use Rattle.std.specs.Prelude.{◌≡◌, List, map, Bool, Option, Some, None}
 use Rattle.std.specs.List.{position_from}
 use Rattle.std.specs.Map.{lookup}
 use Rattle.apply_model.specs.Plan.ResourceChange.{ResourceChange}
-use Rattle.apply_plan.specs.Plan.ObjectName.{name_one_object}
+use Rattle.apply_objects.specs.ObjectName.{name_one_object}
 use Rattle.apply_validate.specs.declared.beside.first_named.FirstNamed.{FirstNamed}
 use Rattle.apply_validate.specs.declared.plan.object_name.ObjectName.{ObjectName}
 use Rattle.apply_validate.specs.ObjectNames.{Named, name_view}

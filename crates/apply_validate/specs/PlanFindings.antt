@@ -7,7 +7,7 @@ use Rattle.serde_json.specs.Find.{as_array, as_object}
 use Rattle.apply_json.specs.Tree.{◌>>=◌, is_empty, text_of, text_or, unless_empty}
 use Rattle.apply_model.specs.Plan.Address.{relative_address}
 use Rattle.apply_model.specs.Plan.SavedPlan.{max_changes}
-use Rattle.apply_plan.specs.Plan.ObjectName.{name_one_object}
+use Rattle.apply_objects.specs.ObjectName.{name_one_object}
 use Rattle.apply_plan.specs.Plan.Steps.{steps_of_actions}
 use Rattle.apply_validate.specs.declared.findings.finding.Finding.{Finding}
 use Rattle.apply_validate.specs.declared.findings.name.Name.TheVariants as name

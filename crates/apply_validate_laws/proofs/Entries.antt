@@ -18,7 +18,7 @@ use Rattle.apply_model.specs.Script.Outcome.{has_too_many_provisioners, has_too_
 use Rattle.apply_plan.specs.declared.script.script_error.ScriptError.{ScriptError}
 use Rattle.apply_plan.specs.declared.script.script_error.ScriptError.TheVariants.{BadShape, Duplicate, NoSuchStep, NotACreate, SecondsRange, TooManyProvisioners, TooManySteps}
 use Rattle.apply_plan.specs.declared.script.script_error.ScriptError.TheVariants.{TooManyWaits, TooMuchOutput, UnknownChange, UnknownWait, WarnsNotARead}
-use Rattle.apply_plan.specs.Plan.ObjectName.{name_one_object}
+use Rattle.apply_objects.specs.ObjectName.{name_one_object}
 use Rattle.apply_plan.specs.Results as results
 use Rattle.apply_plan.specs.Results.{or_refuse, unless_refused}
 use Rattle.apply_plan.specs.Script.Entry.{Entry, EntryStep, entry_of, step_from}

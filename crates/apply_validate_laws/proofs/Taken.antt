@@ -17,7 +17,7 @@ use Rattle.apply_model.specs.declared.script.outcome.Outcome.{Outcome}
 use Rattle.apply_model.specs.declared.script.provisioner.Provisioner.{Provisioner}
 use Rattle.apply_model.specs.Plan.ResourceChange.{ResourceChange}
 use Rattle.apply_model.specs.Script.Outcome.{is_failed, is_warned}
-use Rattle.apply_plan.specs.Plan.ObjectName.{name_one_object}
+use Rattle.apply_objects.specs.ObjectName.{name_one_object}
 use Rattle.apply_plan.specs.Script.Entry.{EntryStep, Failure, WaitName, all_some, answered_with, diag_from, diag_or_none, each_of, ending_by, ending_from, ending_of, failure_from, failure_or_none}
 use Rattle.apply_plan.specs.Script.Entry.{flag_or_false, number_or_none, only_warns_by, only_warns_or_not, provisioner_from}
 use Rattle.apply_plan.specs.Script.Entry.{says_nothing, seconds_of, skipped_with, step_from, wait_from, wait_of_members}

@@ -1,38 +1,15 @@
 -- A set of objects, and the changes that they are of.
-use Rattle.std.proofs.Common.{◌≡◌, Bool, true, false, cond, List, [], ◌∷◌, ◌++◌, not, ap, refl, sym, ◌∙◌}
+use Rattle.std.proofs.Common.{◌≡◌, Bool, true, false, List, [], ◌∷◌, ◌++◌, not, ap, refl, ◌∙◌}
 use Rattle.std.specs.Prelude.{◌||◌}
-use Rattle.std.specs.BTreeSet.{BTreeSet, contains, Updates}
 use Rattle.std.specs.List.{list_any}
 use Rattle.std.specs.Option.{option_copied}
-use Rattle.apply_plan.specs.declared.plan.object_id.ObjectId.{ObjectId}
-use Rattle.apply_plan.specs.declared.plan.seen_objects.SeenObjects.{SeenObjects}
-use Rattle.apply_plan.specs.declared.script.hashed_id.HashedId.{HashedId}
+use Rattle.apply_objects.specs.declared.object_id.ObjectId.{ObjectId}
+use Rattle.apply_objects.specs.declared.seen_objects.SeenObjects.{SeenObjects}
 use Rattle.apply_model.specs.Plan.ResourceChange.{ResourceChange}
-use Rattle.apply_plan.specs.Plan.ObjectName.{is_same_object}
-use Rattle.apply_plan.specs.Plan.SeenObjects.{is_of, is_same_id}
-use Rattle.apply_plan.specs.Plan.SeenSet.{HaveBeenSeen, has_seen}
-use Rattle.apply_plan.specs.Script.HashedId.{hashed, is_same}
-use Rattle.apply_plan.proofs.Scripts.Numbers.{by_hash_and_object, same_object, tells}
-
-any_same : (p q : HashedId → Bool) → ((id : HashedId) → p id ≡ q id) → (ids : List HashedId) → list_any p ids ≡ list_any q ids
-any_same p q same [] = refl
-any_same p q same (id ∷ ids) = rw (same id, any_same p q same ids) refl
-
-pub contains_is : (seen : BTreeSet HashedId) (id : HashedId) → contains by_hash_and_object seen id ≡ list_any (is_same id) seen.keys
-contains_is seen id = any_same _ _ (λ other. tells id other) seen.keys
-
-or_from_cond : (a b : Bool) → cond a true b ≡ (a || b)
-or_from_cond true b = refl
-or_from_cond false b = refl
-
--- what an addition leaves
-pub added_is : (old new : BTreeSet HashedId) (id : ObjectId) (key : HashedId) → key ≡ hashed id → Updates by_hash_and_object old new key true
-    → (other : ObjectId) → list_any (is_same (hashed other)) new.keys ≡ (is_same_id id other || list_any (is_same (hashed other)) old.keys)
-added_is old new id key is updates other =
-    sym (contains_is new (hashed other)) ∙ updates.0 (hashed other)
-    ∙ rw (tells key (hashed other), is, same_object id other, contains_is old (hashed other)) (or_from_cond (is_same_id id other) (list_any (is_same (hashed other)) old.keys))
-
--- ---- the objects of changes
+use Rattle.apply_objects.specs.ObjectName.{is_same_object}
+use Rattle.apply_objects.specs.ObjectIds.{is_of, is_same_id}
+use Rattle.apply_objects.specs.SeenObjects.{has_seen}
+use Rattle.apply_plan.specs.Plan.SeenSet.{HaveBeenSeen}
 
 or_swap : (a b c : Bool) → (a || (b || c)) ≡ (b || (a || c))
 or_swap true true c = refl

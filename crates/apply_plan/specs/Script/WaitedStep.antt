@@ -1,12 +1,13 @@
 -- The steps that the items of `after` name (the script's own format).
-use Rattle.std.specs.Prelude.{ℕ, ◌-◌, List, length, find, nat_lt, if◌then◌else◌, Option, Some, None, option_and_then, unwrap_or}
+use Rattle.std.specs.Prelude.{ℕ, List, length, find, nat_lt, if◌then◌else◌, Option, Some, None, option_and_then}
 use Rattle.std.specs.List.{enumerate_from, filter_map}
 use Rattle.apply_model.specs.declared.script.outcome.Outcome.{Outcome}
 use Rattle.apply_model.specs.declared.script.script_step.ScriptStep.{ScriptStep}
 use Rattle.apply_model.specs.declared.script.script_step.ScriptStep.TheVariants.{Answered, Skipped}
 use Rattle.apply_model.specs.declared.script.wait.Wait.{Wait}
 use Rattle.apply_model.specs.Plan.ResourceChange.{ResourceChange}
-use Rattle.apply_plan.specs.Plan.ObjectName.{name_one_object}
+use Rattle.apply_beginning.specs.NamedStep as of_step
+use Rattle.apply_objects.specs.ObjectName.{name_one_object}
 use Rattle.apply_plan.specs.Script.Entry.{EntryStep, WaitName}
 
 -- the change that has the name, with its number
@@ -14,9 +15,9 @@ abbrev pub change_waited : List ResourceChange → WaitName → Option (ℕ × R
 change_waited changes name =
     find (λ p. name_one_object p.1.address p.1.deposed name.address name.deposed) (enumerate_from 0 changes)
 
--- the number of the step, of so many: the one that is told, or the last one
+-- the number of the step, of so many: the one that the item tells, or the last one
 abbrev pub number_waited : (count : ℕ) → WaitName → ℕ
-number_waited count name = unwrap_or name.step (count - 1)
+number_waited count name = of_step.number_waited count name.step
 
 -- the step of a change that is named, where it has one
 abbrev pub step_of_change : WaitName → ℕ × ResourceChange → Option Wait

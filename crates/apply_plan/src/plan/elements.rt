@@ -11,12 +11,11 @@ ghost use Rattle.apply_plan.specs.Plan.SavedPlan.{planned_at};
 ghost use Rattle.apply_plan.specs.Plan.SeenSet.{HaveBeenSeen};
 ghost use Rattle.apply_plan.specs.Results.{Gives, IsExactly};
 
-use crate::plan::object_id::ObjectId;
 use crate::plan::plan_error::PlanError;
 use crate::plan::planned::Planned;
-use crate::plan::seen_objects::SeenObjects;
-use apply_json::{Collector, ReadFault, Reader, pass};
+use apply_json::{Collector, ReadFault, Reader, pass_member};
 use apply_model::{Change, MAX_CHANGES};
+use apply_objects::{ObjectId, SeenObjects};
 use std::alloc::Global;
 
 /// The changes of the elements that were read, up to the first that has a fault.
@@ -67,14 +66,12 @@ impl<'a> Collector<'a> for Elements<'a> {
         depth: usize,
     ) -> Result<(), ReadFault> {
         if self.count >= MAX_CHANGES {
-            pass(reader, depth)?;
             self.fault = Some(PlanError::TooMany);
-            return Ok(());
+            return pass_member(reader, depth);
         }
         if self.fault.is_some() {
-            pass(reader, depth)?;
             self.count += 1;
-            return Ok(());
+            return pass_member(reader, depth);
         }
         let number = self.count as u32;
         let planned = Planned::read(alloc, reader, depth, number)?;
@@ -109,7 +106,11 @@ fn change_of<'a>(
 {
     match planned {
         Ok(planned) => {
-            if !seen.insert(ObjectId::of(&planned))? {
+            let id = ObjectId {
+                address: planned.element.address,
+                deposed: planned.element.deposed,
+            };
+            if !seen.insert(id)? {
                 return Err(PlanError::Duplicate(number));
             }
             Ok(planned.copied(alloc)?)

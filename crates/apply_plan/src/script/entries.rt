@@ -9,13 +9,13 @@ ghost use Rattle.apply_plan.specs.Script.EntriesView.{AreCovered, HoldsEntries, 
 ghost use Rattle.apply_plan.specs.Script.NeverBeginning.{never_beginning_in};
 ghost use Rattle.apply_plan.specs.Script.OutcomeMap.{by_number, script_of_entries};
 
-use crate::script::change_numbers::ChangeNumbers;
 use crate::script::said::said_by_entry;
 use crate::script::script_error::ScriptError;
 use crate::script::tree_entry::TreeEntry;
 use apply_beginning::{all_stuck, first_stuck};
-use apply_json::{KeepingCollector, ReadFault, Reader, pass};
+use apply_json::{KeepingCollector, ReadFault, Reader, pass_member};
 use apply_model::{Plan, Script, StepOutcomes};
+use apply_objects::ChangeNumbers;
 use std::alloc::{AllocError, Global};
 
 /// What the entries say that were read, up to the first that has a fault.
@@ -116,8 +116,7 @@ impl<'a> KeepingCollector<'a> for Entries<'a> {
         depth: usize,
     ) -> Result<(), ReadFault> {
         if self.fault.is_some() {
-            pass(reader, depth)?;
-            return Ok(());
+            return pass_member(reader, depth);
         }
         let entry = TreeEntry::read(alloc, reader, depth)?;
         let number = self.kept.len() as u32;

@@ -8,7 +8,7 @@ ghost use Rattle.apply_plan.specs.Script.Members.{ending_held};
 ghost use Rattle.apply_model.specs.Script.Outcome.{is_failed, is_warned};
 ghost use Rattle.apply_plan.specs.Script.TreeView.{ending_view, failure_view};
 
-use crate::both::{both, both_made};
+use crate::both::both_made;
 use crate::script::tree_diag::TreeDiag;
 use crate::script::tree_failure::TreeFailure;
 use apply_json::Scalar;
@@ -50,8 +50,9 @@ impl<'a> TreeEnding<'a> {
     ) -> Option<TreeEnding<'a>>
         ensures { option_map ending_view result ≡ ending_held (scalar_view id.entry) warning.entry failed.entry }
     {
-        let (id, (warning, failed)) = both(id.text_or(""), both(warning, failed))?;
-        TreeEnding::of(non_empty(id), warning, failed)
+        // Not joined by `both`: a diagnostic is large, and to move it once more would be felt in lists of millions of steps.
+        let id = id.text_or("")?;
+        TreeEnding::of(non_empty(id), warning?, failed?)
     }
 
     /// The ending that the members give. `None` where a step whose provider fails has an id or a warning.

@@ -11,6 +11,7 @@ ghost use Rattle.apply_plan.specs.Script.Limit.{exceeds};
 ghost use Rattle.apply_plan.specs.Script.Refusals.{fault_of_steps, misplaces_provisioners, passes, warns_not_a_read};
 ghost use Rattle.apply_plan.specs.Script.TreeView.{entry_view, step_view, waits_within};
 
+use crate::both::both;
 use crate::script::entry_slots::EntrySlots;
 use crate::script::limit::Limit;
 use crate::script::script_error::ScriptError;
@@ -50,9 +51,8 @@ impl<'a> TreeEntry<'a> {
     fn of(slots: EntrySlots<'a>) -> Option<TreeEntry<'a>>
         ensures { option_map entry_view result ≡ entry_held slots.entry }
     {
-        let address = slots.address.text()?;
-        let deposed = slots.deposed.text_or("")?;
-        let steps = slots.steps?;
+        let texts = both(slots.address.text(), slots.deposed.text_or(""));
+        let ((address, deposed), steps) = both(texts, slots.steps)?;
         Some(TreeEntry {
             address,
             deposed: non_empty(deposed),

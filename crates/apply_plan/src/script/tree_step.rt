@@ -2,7 +2,7 @@
 
 ghost use Rattle.std.specs.Prelude.{◌≡◌, ℕ, IfOk, IfSome, map, option_map};
 ghost use Rattle.apply_json.specs.Seen.{scalar_view};
-ghost use Rattle.apply_plan.specs.Script.Entry.{EntryStep, answered_with, step_from};
+ghost use Rattle.apply_plan.specs.Script.Entry.{EntryStep, step_from};
 ghost use Rattle.apply_plan.specs.Script.Members.{flag_held, is_told, outcome_by, step_held};
 ghost use Rattle.apply_model.specs.Plan.StepKind.{is_kind};
 ghost use Rattle.apply_model.specs.Script.Outcome.{IsBounded};
@@ -11,7 +11,6 @@ ghost use Rattle.apply_plan.specs.Script.Refusals.{misplaces_provisioners, passe
 ghost use Rattle.apply_plan.specs.Script.TreeView.{ending_view, entry_step_view, outcome_view, provisioner_view, step_view};
 ghost use Rattle.apply_plan.specs.Script.WaitedStep.{with_waits};
 
-use crate::both::both;
 use crate::script::limit::Limit;
 use crate::script::list_item::ListItem;
 use crate::script::step_slots::StepSlots;
@@ -118,29 +117,17 @@ fn outcome_of<'a>(
         ≡ outcome_by skipped (scalar_view seconds.entry) (option_map ending_view ending.entry)
         (option_map (λ found. map provisioner_view found.items) provisioners.entry) }
 {
-    let (skipped, (ending, provisioners)) = both(skipped, both(ending, provisioners))?;
-    if skipped {
+    // Not joined by `both`, since an ending is large.
+    let provisioners = provisioners?;
+    let ending = ending?;
+    if skipped? {
         if is_told(seconds) || !ending.says_nothing() || !provisioners.is_empty() {
-            None
-        } else {
-            Some(None)
+            return None;
         }
-    } else {
-        answered(seconds.whole(), ending, provisioners)
+        return Some(None);
     }
-}
-
-/// What comes of a step that is not skipped. `None` where its time breaks its rule, or where its provider fails and it has
-/// provisioners.
-fn answered<'a>(
-    seconds: Option<u64>,
-    ending: TreeEnding<'a>,
-    provisioners: Vec<TreeProvisioner<'a>>,
-) -> Option<Option<TreeOutcome<'a>>>
-    ensures { option_map (λ outcome. option_map outcome_view outcome) result
-        ≡ answered_with seconds (ending_view ending.entry) (map provisioner_view provisioners.entry.items) }
-{
-    Some(Some(TreeOutcome::new(seconds?, ending, provisioners)?))
+    let seconds = seconds.whole()?;
+    Some(Some(TreeOutcome::new(seconds, ending, provisioners)?))
 }
 
 /// The flag, or `false` where it is absent. `None` where it is there and is none.

@@ -9,6 +9,7 @@ ghost use Rattle.apply_plan.specs.Script.WaitedStep.{number_waited};
 use crate::script::list_item::ListItem;
 use crate::script::number_or_none::number_or_none;
 use crate::script::wait_slots::WaitSlots;
+use apply_beginning::step_waited;
 use apply_json::members::non_empty;
 use apply_json::{ReadFault, Reader, Scalar, read_kept_object};
 use std::alloc::Global;
@@ -66,12 +67,6 @@ impl<'a> TreeWait<'a> {
         ensures { result ≡ (if nat_lt (number_waited count (wait_view self.now)) count
             then Some (number_waited count (wait_view self.now)) else None) }
     {
-        let last = u64::from(count.saturating_sub(1));
-        let number = self.step.unwrap_or(last);
-        if number < u64::from(count) {
-            Some(number as u8)
-        } else {
-            None
-        }
+        step_waited(self.step, count)
     }
 }

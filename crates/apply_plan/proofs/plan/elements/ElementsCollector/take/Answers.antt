@@ -1,11 +1,13 @@
 use Rattle.std.proofs.Common.{refl, sym}
+use Rattle.apply_json.proofs.Copied.{if_ok}
 use Rattle.apply_plan.proofs.Plans.Elements.{holds_more, holds_past, holds_refused}
 use Rattle.apply_plan.proofs.plan.elements.ElementsCollector.take.Goals as goal
 
 pub returns-then-is_some-clause-ok : goal.returns-then-is_some-clause-ok
 returns-then-is_some-clause-ok c =
-    let done = c.in_ok-pass-2.ensures.ok in
-    (done.0, done.1, λ start ds holds. holds_past c.args.self.now _ ds done.0 (sym c.if-is_some.ensures) holds c.if-self-ge-MAX_CHANGES.false refl)
+    if_ok c.pass_member-then-is_some.result
+    (λ done. (done.0, done.1, λ start ds holds. holds_past c.args.self.now _ ds done.0 (sym c.if-is_some.ensures) holds c.if-self-ge-MAX_CHANGES.false refl))
+    c.pass_member-then-is_some.ensures.ok
 
 pub returns-in_ok-push-in-Ok-clause-ok : goal.returns-in_ok-push-in-Ok-clause-ok
 returns-in_ok-push-in-Ok-clause-ok c =

@@ -1,5 +1,6 @@
 use Rattle.std.proofs.Common.{◌≡◌, length, refl, sym, ◌∙◌, arith}
 use Rattle.json.specs.Json.{value}
+use Rattle.apply_json.proofs.Copied.{if_ok}
 use Rattle.apply_plan.proofs.Scripts.Kept.{passed_item}
 use Rattle.apply_plan.proofs.Scripts.Read.{holds_more, holds_past, holds_refused, long}
 use Rattle.apply_plan.proofs.Scripts.WholeList.{few_entries}
@@ -7,9 +8,11 @@ use Rattle.apply_plan.proofs.script.entries.EntriesKeepingCollector.take.Goals a
 
 pub returns-then-is_some-clause-ok : goal.returns-then-is_some-clause-ok
 returns-then-is_some-clause-ok c =
-    let done = c.in_ok-pass.ensures.ok in
+    if_ok c.pass_member.result
+    (λ done.
     let there = passed_item (value c.args.depth c.args.reader.now) done.0 _ done.1 in
-    (there.0, there.1, λ start ds holds. (holds.0, holds_past c.args.self.now ds there.0 (sym c.if-is_some.ensures) holds.1))
+    (there.0, there.1, λ start ds holds. (holds.0, holds_past c.args.self.now ds there.0 (sym c.if-is_some.ensures) holds.1)))
+    c.pass_member.ensures.ok
 
 pub overflow_cast-number : goal.overflow_cast-number
 overflow_cast-number c =

@@ -3,7 +3,6 @@
 ghost use Rattle.std.specs.Prelude.{◌≡◌};
 ghost use Rattle.std.specs.Option.{option_copied};
 
-use crate::plan::planned::Planned;
 use apply_model::Change;
 
 /// The address of an object, and the key of a deposed one. No two changes of a plan have both in common.
@@ -14,17 +13,6 @@ pub struct ObjectId<'a> {
 }
 
 impl<'a> ObjectId<'a> {
-    /// The object that the element is about.
-    pub fn of(planned: &Planned<'a>) -> ObjectId<'a>
-        ensures address { result.address ≡ planned.now.element.address }
-        ensures deposed { result.deposed ≡ planned.now.element.deposed }
-    {
-        ObjectId {
-            address: planned.element.address,
-            deposed: planned.element.deposed,
-        }
-    }
-
     /// The object that the change is of.
     pub fn of_change(change: &'a Change) -> ObjectId<'a>
         ensures address { result.address.now ≡ change.now.address }

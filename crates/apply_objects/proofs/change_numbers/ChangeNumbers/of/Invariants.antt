@@ -1,5 +1,5 @@
-use Rattle.apply_plan.proofs.Scripts.Numbers.{HasNumbersFrom}
-use Rattle.apply_plan.proofs.script.change_numbers.ChangeNumbers.of.Given as goal
+use Rattle.apply_objects.proofs.Numbers.{HasNumbersFrom}
+use Rattle.apply_objects.proofs.change_numbers.ChangeNumbers.of.Given as goal
 
 -- the changes behind the number at hand have their numbers
 abbrev pub invariant-loop-number : goal.invariant-loop-number

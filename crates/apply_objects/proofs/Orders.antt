@@ -8,9 +8,9 @@ use Rattle.std.specs.Ordering.{is_eq, nat_cmp, ordering_then}
 use Rattle.std.specs.declared.cmp.Ordering.TheVariants.{Less, Equal, Greater}
 use Rattle.std.proofs.lemmas.Map.Text.{is_eq-slice_cmp}
 use denote.Ref.{Bor}
-use Rattle.apply_plan.specs.contracts.plan.object_id.ObjectIdOrd.TheImpl.{cmp-value}
-use Rattle.apply_plan.specs.declared.plan.object_id.ObjectId.{ObjectId}
-use Rattle.apply_plan.specs.Plan.SeenObjects.{is_same_id}
+use Rattle.apply_objects.specs.contracts.object_id.ObjectIdOrd.TheImpl.{cmp-value}
+use Rattle.apply_objects.specs.declared.object_id.ObjectId.{ObjectId}
+use Rattle.apply_objects.specs.ObjectIds.{is_same_id}
 
 -- the order finds two objects equal just where they are the same
 abbrev pub OrdersObjects : (ObjectId → ObjectId → Ordering) → Type 0

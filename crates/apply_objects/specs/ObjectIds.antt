@@ -1,8 +1,8 @@
--- Objects as they are named, for the private types that compare them.
+-- Objects as they are named, for the types that compare them.
 use Rattle.std.specs.Prelude.{Bool}
 use Rattle.std.specs.Option.{option_copied}
-use Rattle.apply_plan.specs.declared.plan.object_id.ObjectId.{ObjectId}
-use Rattle.apply_plan.specs.Plan.ObjectName.{name_one_object}
+use Rattle.apply_objects.specs.declared.object_id.ObjectId.{ObjectId}
+use Rattle.apply_objects.specs.ObjectName.{name_one_object}
 use Rattle.apply_model.specs.Plan.ResourceChange.{ResourceChange}
 
 abbrev pub is_same_id : ObjectId → ObjectId → Bool

@@ -1,9 +1,9 @@
 //! An object, in an order that is quickly told.
 
 ghost use Rattle.std.specs.Prelude.{◌≡◌};
-ghost use Rattle.apply_plan.specs.Script.HashedId.{hash_of, hashed};
+ghost use Rattle.apply_objects.specs.HashedId.{hash_of, hashed};
 
-use crate::plan::object_id::ObjectId;
+use crate::object_id::ObjectId;
 use std::hash::{FoldHasher, Hasher};
 
 /// An object, ordered by a hash of its address before the address itself: addresses of one plan often begin alike, so that

@@ -1,9 +1,9 @@
 use Rattle.std.proofs.Common.{ap, ◌∙◌, not}
 use Rattle.std.specs.List.{list_any}
-use Rattle.apply_plan.specs.declared.script.hashed_id.HashedId.{HashedId}
-use Rattle.apply_plan.specs.Script.HashedId.{is_same}
-use Rattle.apply_plan.proofs.Plans.SeenSet.{added_is, contains_is}
-use Rattle.apply_plan.proofs.plan.seen_objects.SeenObjects.insert.Goals as goal
+use Rattle.apply_objects.specs.declared.hashed_id.HashedId.{HashedId}
+use Rattle.apply_objects.specs.HashedId.{is_same}
+use Rattle.apply_objects.proofs.Sets.{added_is, contains_is}
+use Rattle.apply_objects.proofs.seen_objects.SeenObjects.insert.Goals as goal
 
 pub returns-clause-fresh : goal.returns-clause-fresh
 returns-clause-fresh c =

@@ -1,9 +1,9 @@
 -- Objects with the hashes of their addresses, for the private type that is ordered by these.
 use Rattle.std.specs.Prelude.{ℕ, List, Bool, ◌&&◌, ◌==◌}
 use Rattle.std.specs.Hash.FoldHasher.{finish, initial, write}
-use Rattle.apply_plan.specs.declared.plan.object_id.ObjectId.{ObjectId}
-use Rattle.apply_plan.specs.declared.script.hashed_id.HashedId.{HashedId}
-use Rattle.apply_plan.specs.Plan.SeenObjects.{is_same_id}
+use Rattle.apply_objects.specs.declared.object_id.ObjectId.{ObjectId}
+use Rattle.apply_objects.specs.declared.hashed_id.HashedId.{HashedId}
+use Rattle.apply_objects.specs.ObjectIds.{is_same_id}
 
 abbrev pub hash_of : List ℕ → ℕ
 hash_of address = finish (write initial address)

@@ -13,13 +13,13 @@ use Rattle.std.proofs.lemmas.Bool.Decides.{nat_tests}
 use Rattle.std.proofs.lemmas.List.{drop_all}
 use Rattle.std.proofs.lemmas.Option.{get_or_from_slice_get, slice_get_within}
 use Rattle.std.proofs.lemmas.Slice.Eq.{bytes_eq-Decides}
-use Rattle.apply_plan.specs.contracts.script.hashed_id.HashedIdOrd.TheImpl.{cmp-value}
-use Rattle.apply_plan.specs.declared.plan.object_id.ObjectId.{ObjectId}
-use Rattle.apply_plan.specs.declared.script.hashed_id.HashedId.{HashedId}
+use Rattle.apply_objects.specs.contracts.hashed_id.HashedIdOrd.TheImpl.{cmp-value}
+use Rattle.apply_objects.specs.declared.object_id.ObjectId.{ObjectId}
+use Rattle.apply_objects.specs.declared.hashed_id.HashedId.{HashedId}
 use Rattle.apply_model.specs.Plan.ResourceChange.{ResourceChange}
-use Rattle.apply_plan.specs.Plan.SeenObjects.{is_of, is_same_id}
-use Rattle.apply_plan.specs.Script.HashedId.{hash_of, hashed, is_same}
-use Rattle.apply_plan.proofs.Plans.Seen.{by_address_and_key, orders, then_is_eq}
+use Rattle.apply_objects.specs.ObjectIds.{is_of, is_same_id}
+use Rattle.apply_objects.specs.HashedId.{hash_of, hashed, is_same}
+use Rattle.apply_objects.proofs.Orders.{by_address_and_key, orders, then_is_eq}
 
 -- the derived order: by hash, and then by object
 abbrev pub by_hash_and_object : HashedId → HashedId → Ordering

@@ -3,8 +3,8 @@
 ghost use Rattle.std.specs.Prelude.{◌≡◌, IfOk, find, option_map};
 ghost use Rattle.std.specs.List.{enumerate_from};
 
-use crate::plan::object_id::ObjectId;
-use crate::script::hashed_id::HashedId;
+use crate::hashed_id::HashedId;
+use crate::object_id::ObjectId;
 use apply_model::Plan;
 use std::alloc::{AllocError, Global};
 use std::collections::BTreeMap;
@@ -16,8 +16,8 @@ pub struct ChangeNumbers<'a> {
 }
 
 impl<'a> ChangeNumbers<'a> {
-    ghost use Rattle.apply_plan.specs.Plan.SeenObjects.{is_of};
-    ghost use Rattle.apply_plan.specs.Script.ChangeNumbers.{number_of};
+    ghost use Rattle.apply_objects.specs.ObjectIds.{is_of};
+    ghost use Rattle.apply_objects.specs.ChangeNumbers.{number_of};
 
     /// The numbers of the changes of the plan.
     pub fn of(alloc: Global, plan: &'a Plan) -> Result<ChangeNumbers<'a>, AllocError>

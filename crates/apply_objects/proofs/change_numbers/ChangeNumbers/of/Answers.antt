@@ -1,6 +1,6 @@
 use Rattle.std.proofs.Common.{◌≡◌, subst, arith}
-use Rattle.apply_plan.proofs.Scripts.Numbers.{HasNumbersFrom, no_numbers, numbers_more}
-use Rattle.apply_plan.proofs.script.change_numbers.ChangeNumbers.of.Goals as goal
+use Rattle.apply_objects.proofs.Numbers.{HasNumbersFrom, no_numbers, numbers_more}
+use Rattle.apply_objects.proofs.change_numbers.ChangeNumbers.of.Goals as goal
 
 pub loop-number-init : goal.loop-number-init
 loop-number-init c = no_numbers c.new-numbers.result c.args.plan.now.changes c.len-number.result c.new-numbers.ensures.empty c.len-number.ensures.len

@@ -2,8 +2,8 @@
 
 ghost use Rattle.std.specs.Prelude.{◌≡◌, ◌||◌, IfOk, OnOk, false, not};
 
-use crate::plan::object_id::ObjectId;
-use crate::script::hashed_id::HashedId;
+use crate::hashed_id::HashedId;
+use crate::object_id::ObjectId;
 use std::alloc::{AllocError, Global};
 use std::collections::BTreeSet;
 
@@ -15,8 +15,8 @@ pub struct SeenObjects<'a> {
 }
 
 impl<'a> SeenObjects<'a> {
-    ghost use Rattle.apply_plan.specs.Plan.SeenObjects.{is_same_id};
-    ghost use Rattle.apply_plan.specs.Plan.SeenSet.{has_seen};
+    ghost use Rattle.apply_objects.specs.ObjectIds.{is_same_id};
+    ghost use Rattle.apply_objects.specs.SeenObjects.{has_seen};
 
     /// No object.
     pub fn new(alloc: Global) -> Self

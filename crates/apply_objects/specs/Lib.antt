@@ -1,0 +1,5 @@
+pub mod ChangeNumbers
+pub mod HashedId
+pub mod ObjectIds
+pub mod ObjectName
+pub mod SeenObjects
