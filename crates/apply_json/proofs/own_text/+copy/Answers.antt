@@ -1,7 +1,7 @@
 use Rattle.std.proofs.Common.{◌≡◌, ◌<◌, ◌-◌, ◌++◌, length, None, Some, refl, ap, ◌∙◌, arith}
 use Rattle.json.specs.Token.{Token}
 use Rattle.json.specs.Json.{after_end_array, items, read_key, value}
-use Rattle.json.proofs.Grammar.{closed_array, read_key-shorter, read_key_is}
+use Rattle.json.proofs.Grammar.{after_end_array-shorter, closed_array, read_key-shorter, read_key_is}
 use Rattle.serde_json.specs.Data.{array, object, no_items, item, no_members, put}
 use Rattle.serde_json.specs.Read.{of_items, converted}
 use Rattle.apply_json.proofs.Copied.{if_ok, moved}
@@ -153,3 +153,23 @@ copy_members-returns-clause-tree t c =
     let l = c.members in
     let over : read_key l.reader ≡ Some (None, c.next_key.new.self) = grind arith in
     (l.invariant.2, l.invariant.3 ∙ members_over (value c.args.depth) l.invariant.2 l.invariant.0 l.reader c.next_key.new.self l.invariant.1 over)
+
+-- ---- what is left grows shorter
+
+pub copy_items-items-smaller : goal.copy_items-items-smaller
+copy_items-items-smaller t c =
+    let going : (after_end_array c.items.reader ≡ None) × (c.take_end_array.new.self ≡ c.items.reader) = c.items-test.ensures in
+    rw (← going.1) c.in_ok-copy.ensures.shorter
+
+pub copy_items-returns-clause-shorter : goal.copy_items-returns-clause-shorter
+copy_items-returns-clause-shorter t c =
+    let less = after_end_array-shorter c.items.reader c.take_end_array.new.self c.items-test.ensures in
+    omega (arith, less, c.items.invariant.4)
+
+pub copy_members-members-smaller : goal.copy_members-members-smaller
+copy_members-members-smaller t c =
+    let l = c.members in
+    let s = c.next_key.new.self in
+    let less = read_key-shorter l.reader (Some c.in-Some.name.now) s (key_named l.reader s c.in_ok-name.field-0 c.in-Some.name c.in_ok-name.ensures.value c.in-Some.is) in
+    let lesser = c.in_ok-copy.ensures.shorter in
+    omega (arith, less, lesser)

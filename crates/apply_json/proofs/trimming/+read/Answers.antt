@@ -1,7 +1,7 @@
 use Rattle.std.proofs.Common.{Vec, BTreeMap, Global, String as Owned, ◌≡◌, ◌-◌, ◌<◌, length, Some, None, Result, Ok, Err, true, false, refl, sym, ap, ◌∙◌, arith, rules}
 use Rattle.std.specs.Prelude.{IfOk, OnOk}
 use Rattle.json.specs.Json.{after_end_array, items, value}
-use Rattle.json.proofs.Grammar.{read_key-shorter}
+use Rattle.json.proofs.Grammar.{after_end_array-shorter, read_key-shorter}
 use Rattle.serde_json.specs.Data.{Data, Items, Members, array, object, no_items, item, no_members, put}
 use Rattle.serde_json.specs.Read.{of_items, converted}
 use Rattle.serde_json.specs.View.{view, items_view, members_view}
@@ -247,3 +247,37 @@ read_members-returns-clause-ok g t c =
     let l = c.members in
     let n = l.invariant.0 in
     (l.invariant.2, l.invariant.5 ∙ members_over p l.invariant.2 n l.reader c.next_key.new.self l.invariant.1 (grind arith), l.invariant.4)
+
+-- ---- what is left grows shorter
+
+pub read_items-items-smaller-in-Continue-1 : goal.read_items-items-smaller-in-Continue-1
+read_items-items-smaller-in-Continue-1 g t c =
+    let going : (after_end_array c.items.reader ≡ None) × (c.take_end_array.new.self ≡ c.items.reader) = c.items-test.ensures in
+    let shorter = rw c.in_ok-keep_item.ensures.ok.1 at c.read-item.ensures.shorter in
+    rw (← going.1) shorter
+
+pub read_items-items-smaller : goal.read_items-items-smaller
+read_items-items-smaller g t c =
+    let going : (after_end_array c.items.reader ≡ None) × (c.take_end_array.new.self ≡ c.items.reader) = c.items-test.ensures in
+    rw (← going.1) c.in_ok-pass.ensures.shorter
+
+pub read_items-returns-clause-shorter : goal.read_items-returns-clause-shorter
+read_items-returns-clause-shorter g t c =
+    let less = after_end_array-shorter c.items.reader c.take_end_array.new.self c.items-test.ensures in
+    omega (arith, less, c.items.invariant.5)
+
+pub read_members-members-smaller-in-Continue-branch-3 : goal.read_members-members-smaller-in-Continue-branch-3
+read_members-members-smaller-in-Continue-branch-3 g t c =
+    let l = c.members in
+    let s = c.next_key.new.self in
+    let less = read_key-shorter l.reader (Some c.in-Some.name.now) s (key_named l.reader s c.in_ok-name.field-0 c.in-Some.name c.in_ok-name.ensures.value c.in-Some.is) in
+    let lesser = rw c.in_ok-keep_member-in-Some-member.ensures.ok.1 at c.read-member.ensures.shorter in
+    omega (arith, less, lesser)
+
+pub read_members-members-smaller : goal.read_members-members-smaller
+read_members-members-smaller g t c =
+    let l = c.members in
+    let s = c.next_key.new.self in
+    let less = read_key-shorter l.reader (Some c.in-Some.name.now) s (key_named l.reader s c.in_ok-name.field-0 c.in-Some.name c.in_ok-name.ensures.value c.in-Some.is) in
+    let lesser = c.in_ok-pass-in-None.ensures.shorter in
+    omega (arith, less, lesser)
