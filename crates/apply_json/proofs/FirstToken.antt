@@ -1,6 +1,6 @@
 -- The value that a text begins with, by its first token.
-use Rattle.std.proofs.Common.{◌≡◌, ℕ, ◌-◌, ◌<◌, List, [], ◌∷◌, length, Option, Some, None, Ok, refl, ap, ap₂, ◌∙◌, arith, inl, inr}
-use Rattle.std.specs.Prelude.{◌⊎◌, Bool, MatchOption}
+use Rattle.std.proofs.Common.{◌≡◌, ℕ, ◌-◌, ◌<◌, List, [], ◌∷◌, length, Option, Some, None, Result, Ok, Err, refl, sym, subst, ap, ap₂, ◌∙◌, arith, inl, inr}
+use Rattle.std.specs.Prelude.{◌⊎◌, Bool, IfOk, MatchOption, OnErr, OnOk}
 use Rattle.std.specs.Borrow.{Bor}
 use Rattle.std.specs.Option.{ok_or}
 use Rattle.json.specs.declared.token.Token as token
@@ -12,6 +12,9 @@ use Rattle.json.specs.Reads.{token_of}
 use Rattle.json.proofs.Grammar.{value_is, value-begin_array, value-begin_object}
 use Rattle.serde_json.specs.Data.{Data, null, boolean, number, string, array, object, Num, Items, Members, no_members}
 use Rattle.serde_json.specs.Read.{converted, number_of, of_items, of_json, of_members}
+use Rattle.apply_json.specs.Keeping.{BeginsNone, BeginsWith, HasOpened}
+use Rattle.apply_json.specs.Tokens.{HasBegun, IsNoValue}
+use Rattle.apply_json.specs.declared.begun.Begun.{Begun}
 use Rattle.apply_json.proofs.Turns.{converted-array, converted-object}
 
 -- the first token, where there is one
@@ -96,3 +99,21 @@ module _ (depth : ℕ) (ts rest : List Token) (t : token.Token) (first : ts ≡ 
   pub object_made : (ms : Members) (r : List Token) → 0 < depth → t ≡ variant.BeginObject → converted (λ found. of_members found no_members) (members (value (depth - 1)) (length rest) rest) ≡ Some (ms, r)
       → converted of_json (value depth ts) ≡ Some (object ms, r)
   object_made ms r some is made = read_object some is ∙ ap (parse_map object) made
+
+  -- ---- what is said of the token alone
+
+  pub begun_there : {E : Type 0} (r : Result Begun E) → IfOk r (λ begun. BeginsWith begun depth (token_of t)) → IfOk r (λ begun. HasBegun begun depth ts rest)
+  begun_there (Ok begun) said = subst (λ us. HasBegun begun depth us rest) (sym first) (said rest).0
+  begun_there (Err e) said = tt
+
+  pub opened_there : {E : Type 0} (r : Result Begun E) → IfOk r (λ begun. BeginsWith begun depth (token_of t)) → IfOk r (λ begun. HasOpened begun depth ts rest)
+  opened_there (Ok begun) said = subst (λ us. HasOpened begun depth us rest) (sym first) (said rest).1
+  opened_there (Err e) said = tt
+
+  pub none_there : {E : Type 0} (r : Result Begun E) → OnErr r (BeginsNone depth (token_of t)) → OnErr r (IsNoValue depth ts)
+  none_there (Ok begun) said = tt
+  none_there (Err e) said = subst (IsNoValue depth) (sym first) (said rest)
+
+  pub shorter_there : {E : Type 0} (r : Result Begun E) → OnOk r (length rest < length ts)
+  shorter_there (Ok begun) = shorter ts rest (token_of t) first
+  shorter_there (Err e) = tt

@@ -1,5 +1,5 @@
 -- What a parsed text says of its bytes.
-use Rattle.std.proofs.Common.{◌≡◌, ℕ, suc, Bool, true, false, List, [], ◌∷◌, length, Some, None, refl, ap, ⊎_elim}
+use Rattle.std.proofs.Common.{◌≡◌, ◌≤◌, ℕ, suc, Bool, true, false, List, [], ◌∷◌, length, Some, None, refl, sym, ap, ◌∙◌, ⊎_elim}
 use Rattle.std.specs.Str.{IsUtf8, is_utf8}
 use Rattle.std.proofs.lemmas.Bool.{cases_Bool}
 use Rattle.std.proofs.lemmas.Str.{IsUtf8-from_is_utf8, is_utf8-from_IsUtf8}
@@ -9,6 +9,9 @@ use Rattle.serde_json.specs.Read.{read}
 use Rattle.serde_json.specs.View.{items_view}
 use Rattle.serde_json.specs.declared.value.Value.{Value}
 use Rattle.apply_json.specs.Keeping.{keeping_tree_of, keeping_tree_of_text}
+use Rattle.apply_json.specs.declared.read_fault.ReadFault.{ReadFault}
+use Rattle.apply_json.specs.declared.read_fault.ReadFault.TheVariants as fault
+use Rattle.apply_json.specs.Parsed.{IsNoTree, json_fault_of}
 use Rattle.apply_json.specs.Tree.{tree_of}
 
 pub tree_is : (bytes : List ℕ) (tree : Data) → IsUtf8 bytes → read bytes ≡ Some tree → tree_of bytes ≡ Some tree
@@ -20,6 +23,11 @@ kept_tree_is kept bytes tree utf8 found = rw (is_utf8-from_IsUtf8 bytes utf8) fo
 pub no_tree : (bytes : List ℕ) → (IsUtf8 bytes → read bytes ≡ None) → tree_of bytes ≡ None
 no_tree bytes refused =
     ⊎_elim (λ (yes : is_utf8 bytes ≡ true). rw yes (refused (IsUtf8-from_is_utf8 bytes yes))) (λ (no : is_utf8 bytes ≡ false). rw no refl) (cases_Bool (is_utf8 bytes))
+
+-- the same of a text that is refused
+pub no_tree_of_text : (most : ℕ) (why : ReadFault) (text bytes : List ℕ) → text ≡ bytes → length bytes ≤ most → (why ≡ fault.NotJson → read text ≡ None) → IsNoTree most (json_fault_of why) bytes
+no_tree_of_text most fault.NotJson text bytes same few refused = (few, no_tree bytes (λ utf8. ap read (sym same) ∙ refused refl))
+no_tree_of_text most fault.Memory text bytes same few refused = few
 
 pub items_len-view : (values : List Value) → items_len (items_view values) ≡ length values
 items_len-view [] = refl

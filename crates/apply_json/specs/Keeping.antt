@@ -1,6 +1,6 @@
 -- Values in which the members of some names are kept as their own texts: as they stand in a JSON text, token by token,
 -- without blanks, members in their order, numbers as they were written, strings in the shortest escapes (RFC 8259).
-use Rattle.std.specs.Prelude.{◌≡◌, ℕ, ◌-◌, ◌<◌, ◌≤◌, List, length, Bool, if◌then◌else◌, Option, Some, None, option_map, option_and_then}
+use Rattle.std.specs.Prelude.{◌≡◌, ℕ, ◌-◌, ◌<◌, ◌≤◌, List, ◌∷◌, length, Bool, if◌then◌else◌, Option, Some, None, option_map, option_and_then}
 use Rattle.std.specs.Str.{is_utf8}
 use Rattle.json.specs.Json as json
 use Rattle.json.specs.Json.{items, members, parse_map, value}
@@ -14,6 +14,7 @@ use Rattle.apply_json.specs.declared.begun.Begun.{Begun}
 use Rattle.apply_json.specs.declared.begun.Begun.TheVariants as begun
 use Rattle.apply_json.specs.declared.json_fault.JsonFault.{JsonFault}
 use Rattle.apply_json.specs.declared.json_fault.JsonFault.TheVariants.{TooLarge, NotJson, Memory}
+use Rattle.apply_json.specs.Tokens.{HasBegun, IsNoValue}
 
 -- the value as it stands
 abbrev pub own_text : json.Json → List ℕ
@@ -96,3 +97,11 @@ abbrev pub HasOpened : Begun → (depth : ℕ) → (before : List Token) → (re
 HasOpened (begun.Scalar s) depth before rest = Unit {0}
 HasOpened begun.Array depth before rest = value depth before ≡ parse_map json.array (items (value (depth - 1)) (length rest) rest)
 HasOpened begun.Object depth before rest = value depth before ≡ parse_map json.object (members (value (depth - 1)) (length rest) rest)
+
+-- with this token a value begins so, whatever stands behind it
+abbrev pub BeginsWith : Begun → (depth : ℕ) → Token → Type 0
+BeginsWith begun depth t = (rest : List Token) → HasBegun begun depth (t ∷ rest) rest × HasOpened begun depth (t ∷ rest) rest
+
+-- with this token no value begins
+abbrev pub BeginsNone : (depth : ℕ) → Token → Type 0
+BeginsNone depth t = (rest : List Token) → IsNoValue depth (t ∷ rest)

@@ -3,8 +3,15 @@ use Rattle.std.specs.Prelude.{◌≡◌, ◌<◌, ◌≤◌, ℕ, List, length, 
 use Rattle.serde_json.specs.Data.{Data}
 use Rattle.apply_json.specs.declared.json_fault.JsonFault.{JsonFault}
 use Rattle.apply_json.specs.declared.json_fault.JsonFault.TheVariants.{TooLarge, NotJson, Memory}
+use Rattle.apply_json.specs.declared.read_fault.ReadFault.{ReadFault}
+use Rattle.apply_json.specs.declared.read_fault.ReadFault.TheVariants as read
 use Rattle.apply_json.specs.Tree.{tree_of}
 use Rattle.apply_json.specs.Trimmed.{Selection, trimmed}
+
+-- why bytes gave no tree whose text gave none
+abbrev pub json_fault_of : ReadFault → JsonFault
+json_fault_of read.NotJson = NotJson
+json_fault_of read.Memory = Memory
 
 -- there are more bytes than there may be, or they are no tree; want of memory says only that there are not more
 abbrev pub IsNoTree : (most : ℕ) → JsonFault → List ℕ → Type 0

@@ -1,7 +1,9 @@
 //! How a value begins.
 
-ghost use Rattle.std.specs.Prelude.{◌≡◌, ◌<◌, length, IfOk, OnErr, OnOk};
-ghost use Rattle.apply_json.specs.Keeping.{HasOpened};
+ghost use Rattle.std.specs.Prelude.{◌≡◌, ◌≢◌, ◌<◌, length, IfOk, OnErr, OnOk};
+ghost use Rattle.json.specs.Reads.{token_of};
+ghost use Rattle.json.specs.declared.token.Token.TheVariants.{Bad};
+ghost use Rattle.apply_json.specs.Keeping.{BeginsNone, BeginsWith, HasOpened};
 ghost use Rattle.apply_json.specs.Tokens.{HasBegun, IsNoValue};
 
 use crate::number::number;
@@ -28,6 +30,16 @@ pub fn begin<'a>(reader: &mut Reader<'a>, depth: usize) -> Result<Begun<'a>, Inv
     ensures shorter { OnOk result (length reader.new < length reader.old) }
 {
     let token = reader.next().ok_or(Invalid)?;
+    beginning(token, depth)
+}
+
+/// What a value begins with, by its first token.
+#[inline(always)]
+pub fn beginning<'a>(token: Token<'a>, depth: usize) -> Result<Begun<'a>, Invalid>
+    ensures ok { IfOk result (λ begun. BeginsWith begun depth (token_of token.entry)) }
+    ensures err { OnErr result (BeginsNone depth (token_of token.entry)) }
+    ensures known { OnOk result (token.entry ≢ Bad) }
+{
     match token {
         Token::String(text) => Ok(Begun::Scalar(Scalar::Text(text))),
         Token::Number(text) => match number(text) {

@@ -1,7 +1,7 @@
 //! Whether a value is a list.
 
 /// What a value is to who looks for a list.
-#[derive(Clone, Copy, Debug, PartialEq, Eq)]
+#[derive(Clone, Copy)]
 pub enum Listed {
     /// `null`, which counts as absent.
     Absent,

@@ -7,14 +7,14 @@ ghost use Rattle.serde_json.specs.View.{view};
 ghost use Rattle.apply_json.specs.Keeping.{IsNoKeptTree, keeping_tree_of, keeping_tree_of_text};
 ghost use Rattle.apply_json.specs.Seen.{members_in};
 ghost use Rattle.apply_json.specs.Tree.{tree_of};
-ghost use Rattle.apply_json.specs.Parsed.{IsNoTree, IsTrimmedTree};
+ghost use Rattle.apply_json.specs.Parsed.{IsNoTree, IsTrimmedTree, json_fault_of};
 
 use crate::json_fault::JsonFault;
 use crate::keeping_slots::{KeepingSlots, read_kept_object};
 use crate::read_fault::ReadFault;
 use crate::shape::Shape;
 use crate::slots::{Slots, read_object};
-use crate::trimming::{MAX_DEPTH, read_trimmed};
+use crate::trimming::{MAX_DEPTH, end, read_trimmed};
 use json::{Reader, Scratch};
 use serde_json::Value;
 use simdutf8::basic::from_utf8;
@@ -32,6 +32,16 @@ fn text_of(bytes: &[u8], most: usize) -> Result<&str, JsonFault>
     match from_utf8(bytes) {
         Ok(text) => Ok(text),
         Err(_) => Err(JsonFault::NotJson),
+    }
+}
+
+/// Why bytes gave no tree whose text gave none.
+fn json_fault(fault: ReadFault) -> JsonFault
+    ensures { result ≡ json_fault_of fault }
+{
+    match fault {
+        ReadFault::NotJson => JsonFault::NotJson,
+        ReadFault::Memory => JsonFault::Memory,
     }
 }
 
@@ -73,8 +83,7 @@ pub fn parse_trimmed<S: Shape>(
     let text = text_of(bytes, most)?;
     match read_trimmed(alloc, scratch, text, shape) {
         Ok(tree) => Ok(tree),
-        Err(ReadFault::NotJson) => Err(JsonFault::NotJson),
-        Err(ReadFault::Memory) => Err(JsonFault::Memory),
+        Err(fault) => Err(json_fault(fault)),
     }
 }
 
@@ -95,8 +104,7 @@ pub fn read_slots<'a, S: Slots<'a>>(
     let text = text_of(bytes, most)?;
     match read_whole(alloc, scratch, text, slots) {
         Ok(()) => Ok(()),
-        Err(ReadFault::NotJson) => Err(JsonFault::NotJson),
-        Err(ReadFault::Memory) => Err(JsonFault::Memory),
+        Err(fault) => Err(json_fault(fault)),
     }
 }
 
@@ -113,10 +121,7 @@ fn read_whole<'a, S: Slots<'a>>(
 {
     let mut reader = Reader::new(text, scratch)?;
     read_object(alloc, &mut reader, MAX_DEPTH, slots)?;
-    if reader.next().is_some() {
-        return Err(ReadFault::NotJson);
-    }
-    Ok(())
+    end(&mut reader)
 }
 
 /// Reads the members of the object that the bytes are, of which there may be `most`, into slots, where the values of some
@@ -134,30 +139,10 @@ pub fn read_kept_slots<'a, S: KeepingSlots<'a>>(
         × ((tree : Data) × (keeping_tree_of S.kept bytes.now ≡ Some tree) × S.holds slots.old slots.new (members_in tree))) }
     ensures err { IfErr result (λ fault. IsNoKeptTree S.kept most fault bytes.now) }
 {
-    match read_kept_bytes(alloc, scratch, bytes, most, slots) {
-        Ok(()) => Ok(()),
-        Err(fault) => Err(fault),
-    }
-}
-
-/// The same, refused as no tree at all.
-fn read_kept_bytes<'a, S: KeepingSlots<'a>>(
-    alloc: Global,
-    scratch: &'a mut Scratch,
-    bytes: &'a [u8],
-    most: usize,
-    slots: &mut S,
-) -> Result<(), JsonFault>
-    requires { S.holds slots.old slots.old no_members }
-    ensures ok { OnOk result ((length bytes.now ≤ most)
-        × ((tree : Data) × (keeping_tree_of S.kept bytes.now ≡ Some tree) × S.holds slots.old slots.new (members_in tree))) }
-    ensures err { IfErr result (λ fault. IsNoTree most fault bytes.now) }
-{
     let text = text_of(bytes, most)?;
     match read_whole_kept(alloc, scratch, text, slots) {
         Ok(()) => Ok(()),
-        Err(ReadFault::NotJson) => Err(JsonFault::NotJson),
-        Err(ReadFault::Memory) => Err(JsonFault::Memory),
+        Err(fault) => Err(json_fault(fault)),
     }
 }
 
@@ -174,8 +159,5 @@ fn read_whole_kept<'a, S: KeepingSlots<'a>>(
 {
     let mut reader = Reader::new(text, scratch)?;
     read_kept_object(alloc, &mut reader, MAX_DEPTH, slots)?;
-    if reader.next().is_some() {
-        return Err(ReadFault::NotJson);
-    }
-    Ok(())
+    end(&mut reader)
 }

@@ -7,7 +7,7 @@ use json::Invalid;
 use std::alloc::{AllocError, AllocFailed};
 
 /// Why a text gave no tree.
-#[derive(Clone, Copy, Debug, Drop, PartialEq, Eq)]
+#[derive(Clone, Copy, Drop)]
 pub enum ReadFault {
     /// The text is not JSON (RFC 8259), or it nests more than 127 deep.
     NotJson,

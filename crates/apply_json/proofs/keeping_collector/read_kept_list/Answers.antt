@@ -2,6 +2,7 @@ use Rattle.std.proofs.Common.{refl, subst, arith}
 use Rattle.json.specs.Json.{value}
 use Rattle.serde_json.specs.Data.{array, object}
 use Rattle.apply_json.proofs.Keeping.{array_of, no_array, no_items_in, passed_object, scalar_is}
+use Rattle.apply_json.proofs.Turns.{refused_of}
 use Rattle.apply_json.proofs.keeping_collector.read_kept_list.Goals as goal
 
 pub returns-in_err-read_kept_items-in-Array-clause-err : goal.returns-in_err-read_kept_items-in-Array-clause-err
@@ -30,3 +31,8 @@ returns-in_ok-pass_members-in-Object-clause-ok g c =
     let passed = c.in_ok-pass_members-in-Object.ensures.ok in
     let made = passed_object g.C.KeepingCollector.kept _ _ passed.0 _ opened passed.1 in
     (object made.0, made.1, refl, c.requires)
+
+pub returns-in_err-pass_members-in-Object-clause-err : goal.returns-in_err-pass_members-in-Object-clause-err
+returns-in_err-pass_members-in-Object-clause-err g c =
+    let begun = rw c.in-Object.is at c.in_ok-scalar.ensures.ok in
+    λ refused. refused_of object _ _ begun.1 c.in_err-pass_members-in-Object.ensures.err

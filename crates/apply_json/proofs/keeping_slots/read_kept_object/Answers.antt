@@ -2,6 +2,7 @@ use Rattle.std.proofs.Common.{refl, subst, arith}
 use Rattle.json.specs.Json.{value}
 use Rattle.serde_json.specs.Data.{array, object}
 use Rattle.apply_json.proofs.Keeping.{no_members_in, no_object, object_of, passed_array, scalar_is}
+use Rattle.apply_json.proofs.Turns.{refused_of}
 use Rattle.apply_json.proofs.keeping_slots.read_kept_object.Goals as goal
 
 pub returns-in_err-read_kept_members-in-Object-clause-err : goal.returns-in_err-read_kept_members-in-Object-clause-err
@@ -30,3 +31,8 @@ returns-in_ok-read_kept_members-in-Object-clause-ok g c =
     let opened = rw c.in-Object.is at c.in_ok-scalar.ensures.opened in
     let done = c.in_ok-read_kept_members-in-Object.ensures.ok in
     (object done.0, object_of g.S.KeepingSlots.kept _ _ done.0 _ opened done.1, refl, done.2)
+
+pub returns-in_err-pass_items-in-Array-clause-err : goal.returns-in_err-pass_items-in-Array-clause-err
+returns-in_err-pass_items-in-Array-clause-err g c =
+    let begun = rw c.in-Array.is at c.in_ok-scalar.ensures.ok in
+    λ refused. refused_of array _ _ begun.1 c.in_err-pass_items-in-Array.ensures.err

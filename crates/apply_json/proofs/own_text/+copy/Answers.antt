@@ -1,127 +1,59 @@
-use Rattle.std.proofs.Common.{◌≡◌, ◌<◌, ◌-◌, ◌++◌, ◌∷◌, [], length, None, Some, refl, sym, ap, ◌∙◌, arith}
+use Rattle.std.proofs.Common.{◌≡◌, ◌<◌, ◌-◌, ◌++◌, length, None, Some, refl, ap, ◌∙◌, arith}
 use Rattle.json.specs.Token.{Token}
-use Rattle.json.specs.Json as json
-use Rattle.json.specs.Json.{after_end_array, parse_map, items, members, value}
-use Rattle.json.specs.Reads.{token_of}
-use Rattle.json.specs.Tree.{json_tokens, items_tokens, members_tokens}
-use Rattle.json.proofs.Grammar.{items_end, items_more, members_end, members_more, read_key-shorter, value_is}
-use Rattle.serde_json.specs.Data.{array, object, number, item, no_items, no_members, put}
-use Rattle.serde_json.specs.Read.{converted, of_json}
-use Rattle.serde_json.specs.View.{number_view}
-use Rattle.apply_json.specs.declared.read_fault.ReadFault.TheVariants.{NotJson}
-use Rattle.apply_json.proofs.Copied.{behind, fused, if_ok, one_number, one_token, unchanged}
-use Rattle.apply_json.proofs.FirstToken.{first_token, plain, read_number, no_number, no_value, array_too_deep, object_too_deep, array_refused, array_made, object_refused, object_made, opened_array, opened_object}
-use Rattle.apply_json.proofs.Turns.{item_behind, refused_behind, over_behind, key_named, member_read, member_refused, key_refused, members_over, none_before}
+use Rattle.json.specs.Json.{after_end_array, items, read_key, value}
+use Rattle.json.proofs.Grammar.{after_end_array-shorter, closed_array, read_key-shorter, read_key_is}
+use Rattle.serde_json.specs.Data.{array, object, no_items, item, no_members, put}
+use Rattle.serde_json.specs.Read.{of_items, converted}
+use Rattle.apply_json.proofs.Copied.{if_ok, moved}
+use Rattle.apply_json.proofs.Turns.{made_of, refused_of, item_behind, refused_behind, over_behind, key_named, member_read, member_refused, key_refused, members_over, none_before}
 use Rattle.apply_json.proofs.own_text.+copy.Goals as goal
-
-pub copy-returns-in_err-token-clause-err : goal.copy-returns-in_err-token-clause-err
-copy-returns-in_err-token-clause-err t c =
-    let empty : c.args.reader.now ≡ [] = grind arith in
-    λ refused. ap (converted of_json) (ap (value c.args.depth) empty ∙ value_is c.args.depth [])
-
--- ---- a value of one token
-
-pub copy-returns-in_ok-token-in-String-clause-copied : goal.copy-returns-in_ok-token-in-String-clause-copied
-copy-returns-in_ok-token-in-String-clause-copied t c =
-    let first = first_token c.next.result c.in_ok-token.token NotJson c.args.reader.now c.next.new.self c.in_ok-token.ensures.value c.next.ensures.value in
-    let one = one_token c.args.depth c.args.reader.now c.next.new.self c.in_ok-token.token first c.in-String.is in
-    let grown : c.token.new.self.tokens ≡ c.args.out.now.tokens ++ token_of c.in_ok-token.token ∷ [] = grind arith in
-    (one.0, one.1, grown ∙ ap (λ ts. c.args.out.now.tokens ++ ts) (sym one.2))
-
-pub copy-returns-in_ok-token-in-String-clause-tree : goal.copy-returns-in_ok-token-in-String-clause-tree
-copy-returns-in_ok-token-in-String-clause-tree t c =
-    let first = first_token c.next.result c.in_ok-token.token NotJson c.args.reader.now c.next.new.self c.in_ok-token.ensures.value c.next.ensures.value in
-    plain c.args.depth c.args.reader.now c.next.new.self c.in_ok-token.token first c.in-String.is
-
-pub copy-returns-in_ok-token-in-Some-clause-copied : goal.copy-returns-in_ok-token-in-Some-clause-copied
-copy-returns-in_ok-token-in-Some-clause-copied t c =
-    let first = first_token c.next.result c.in_ok-token.token NotJson c.args.reader.now c.next.new.self c.in_ok-token.ensures.value c.next.ensures.value in
-    let one = one_number c.args.depth c.args.reader.now c.next.new.self c.in_ok-token.token first c.in-Number.text c.in-Number.is in
-    let grown : c.token-in-Some.new.self.tokens ≡ c.args.out.now.tokens ++ token_of c.in_ok-token.token ∷ [] = grind arith in
-    (one.0, one.1, grown ∙ ap (λ ts. c.args.out.now.tokens ++ ts) (sym one.2))
-
-pub copy-returns-in_ok-token-in-Some-clause-tree : goal.copy-returns-in_ok-token-in-Some-clause-tree
-copy-returns-in_ok-token-in-Some-clause-tree t c =
-    let first = first_token c.next.result c.in_ok-token.token NotJson c.args.reader.now c.next.new.self c.in_ok-token.ensures.value c.next.ensures.value in
-    (number (number_view c.in-Some._number), read_number c.args.depth c.args.reader.now c.next.new.self c.in_ok-token.token first c.in-Number.text (number_view c.in-Some._number) c.in-Number.is c.in-Some.ensures)
-
-pub copy-returns-in-None-clause-err : goal.copy-returns-in-None-clause-err
-copy-returns-in-None-clause-err t c =
-    let first = first_token c.next.result c.in_ok-token.token NotJson c.args.reader.now c.next.new.self c.in_ok-token.ensures.value c.next.ensures.value in
-    λ refused. no_number c.args.depth c.args.reader.now c.next.new.self c.in_ok-token.token first c.in-Number.text c.in-Number.is c.in-None.ensures
-
-pub copy-returns-in-EndObject-clause-err : goal.copy-returns-in-EndObject-clause-err
-copy-returns-in-EndObject-clause-err t c =
-    let first = first_token c.next.result c.in_ok-token.token NotJson c.args.reader.now c.next.new.self c.in_ok-token.ensures.value c.next.ensures.value in
-    λ refused. no_value c.args.depth c.args.reader.now c.next.new.self c.in_ok-token.token first c.in-EndObject.is
 
 -- ---- an array or an object
 
-pub copy-returns-then-depth-eq0-clause-err : goal.copy-returns-then-depth-eq0-clause-err
-copy-returns-then-depth-eq0-clause-err t c =
-    let first = first_token c.next.result c.in_ok-token.token NotJson c.args.reader.now c.next.new.self c.in_ok-token.ensures.value c.next.ensures.value in
-    λ refused. array_too_deep c.args.depth c.args.reader.now c.next.new.self c.in_ok-token.token first (omega arith) c.in-BeginArray.is
+pub copy-returns-in-Array-clause-copied : goal.copy-returns-in-Array-clause-copied
+copy-returns-in-Array-clause-copied t c =
+    if_ok c.copy_items.result (λ f. (f.0 ∙ c.in_ok-copy_beginning.ensures.copied.0, f.1 ∙ c.in_ok-copy_beginning.ensures.copied.1)) c.copy_items.ensures.copied
 
-pub copy-returns-then-depth-eq0-2-clause-err : goal.copy-returns-then-depth-eq0-2-clause-err
-copy-returns-then-depth-eq0-2-clause-err t c =
-    let first = first_token c.next.result c.in_ok-token.token NotJson c.args.reader.now c.next.new.self c.in_ok-token.ensures.value c.next.ensures.value in
-    λ refused. object_too_deep c.args.depth c.args.reader.now c.next.new.self c.in_ok-token.token first (omega arith) c.in-BeginObject.is
+pub copy-returns-in-Array-clause-tree : goal.copy-returns-in-Array-clause-tree
+copy-returns-in-Array-clause-tree t c =
+    let begun = rw c.in-Array.is at c.in_ok-copy_beginning.ensures.ok in
+    if_ok c.copy_items.result (λ f. (array f.0, made_of array _ _ f.0 _ begun.1 f.1)) c.copy_items.ensures.tree
 
-pub copy-returns-in_ok-begin_array-in-BeginArray-clause-copied : goal.copy-returns-in_ok-begin_array-in-BeginArray-clause-copied
-copy-returns-in_ok-begin_array-in-BeginArray-clause-copied t c =
-    let first = first_token c.next.result c.in_ok-token.token NotJson c.args.reader.now c.next.new.self c.in_ok-token.ensures.value c.next.ensures.value in
-    let old = c.args.out.now.tokens in
-    let grown : c.begin_array.new.self.tokens ≡ old ++ Token.begin_array ∷ [] = grind arith in
-    if_ok c.copy_items.result
-    (λ f. (
-      json.array f.0,
-      opened_array c.args.depth c.args.reader.now c.next.new.self c.in_ok-token.token first (omega arith) c.in-BeginArray.is ∙ ap (parse_map json.array) f.1,
-      f.2 ∙ sym (behind old c.begin_array.new.self.tokens (Token.begin_array ∷ []) (items_tokens f.0) _ grown refl),
-    ))
-    c.copy_items.ensures.copied
+pub copy-returns-in-Array-clause-shorter : goal.copy-returns-in-Array-clause-shorter
+copy-returns-in-Array-clause-shorter t c =
+    let began = c.in_ok-copy_beginning.ensures.shorter in
+    if_ok c.copy_items.result (λ less. omega (arith, less, began)) c.copy_items.ensures.shorter
 
-pub copy-returns-in_ok-begin_array-in-BeginArray-clause-tree : goal.copy-returns-in_ok-begin_array-in-BeginArray-clause-tree
-copy-returns-in_ok-begin_array-in-BeginArray-clause-tree t c =
-    let first = first_token c.next.result c.in_ok-token.token NotJson c.args.reader.now c.next.new.self c.in_ok-token.ensures.value c.next.ensures.value in
-    if_ok c.copy_items.result
-    (λ f. (array f.0, array_made c.args.depth c.args.reader.now c.next.new.self c.in_ok-token.token first f.0 c.copy_items.new.reader (omega arith) c.in-BeginArray.is f.1))
-    c.copy_items.ensures.tree
+pub copy-returns-in-Array-clause-err : goal.copy-returns-in-Array-clause-err
+copy-returns-in-Array-clause-err t c =
+    let begun = rw c.in-Array.is at c.in_ok-copy_beginning.ensures.ok in
+    λ refused. refused_of array _ _ begun.1 (c.copy_items.ensures.err refused)
 
-pub copy-returns-in_ok-begin_array-in-BeginArray-clause-err : goal.copy-returns-in_ok-begin_array-in-BeginArray-clause-err
-copy-returns-in_ok-begin_array-in-BeginArray-clause-err t c =
-    let first = first_token c.next.result c.in_ok-token.token NotJson c.args.reader.now c.next.new.self c.in_ok-token.ensures.value c.next.ensures.value in
-    λ refused. array_refused c.args.depth c.args.reader.now c.next.new.self c.in_ok-token.token first (omega arith) c.in-BeginArray.is (c.copy_items.ensures.err refused)
+pub copy-returns-in-Object-clause-copied : goal.copy-returns-in-Object-clause-copied
+copy-returns-in-Object-clause-copied t c =
+    if_ok c.copy_members.result (λ f. (f.0 ∙ c.in_ok-copy_beginning.ensures.copied.0, f.1 ∙ c.in_ok-copy_beginning.ensures.copied.1)) c.copy_members.ensures.copied
 
-pub copy-returns-in_ok-begin_object-in-BeginObject-clause-copied : goal.copy-returns-in_ok-begin_object-in-BeginObject-clause-copied
-copy-returns-in_ok-begin_object-in-BeginObject-clause-copied t c =
-    let first = first_token c.next.result c.in_ok-token.token NotJson c.args.reader.now c.next.new.self c.in_ok-token.ensures.value c.next.ensures.value in
-    let old = c.args.out.now.tokens in
-    let grown : c.begin_object.new.self.tokens ≡ old ++ Token.begin_object ∷ [] = grind arith in
-    if_ok c.copy_members.result
-    (λ f. (
-      json.object f.0,
-      opened_object c.args.depth c.args.reader.now c.next.new.self c.in_ok-token.token first (omega arith) c.in-BeginObject.is ∙ ap (parse_map json.object) f.1,
-      f.2 ∙ sym (behind old c.begin_object.new.self.tokens (Token.begin_object ∷ []) (members_tokens f.0) _ grown refl),
-    ))
-    c.copy_members.ensures.copied
+pub copy-returns-in-Object-clause-tree : goal.copy-returns-in-Object-clause-tree
+copy-returns-in-Object-clause-tree t c =
+    let begun = rw c.in-Object.is at c.in_ok-copy_beginning.ensures.ok in
+    if_ok c.copy_members.result (λ f. (object f.0, made_of object _ _ f.0 _ begun.1 f.1)) c.copy_members.ensures.tree
 
-pub copy-returns-in_ok-begin_object-in-BeginObject-clause-tree : goal.copy-returns-in_ok-begin_object-in-BeginObject-clause-tree
-copy-returns-in_ok-begin_object-in-BeginObject-clause-tree t c =
-    let first = first_token c.next.result c.in_ok-token.token NotJson c.args.reader.now c.next.new.self c.in_ok-token.ensures.value c.next.ensures.value in
-    if_ok c.copy_members.result
-    (λ f. (object f.0, object_made c.args.depth c.args.reader.now c.next.new.self c.in_ok-token.token first f.0 c.copy_members.new.reader (omega arith) c.in-BeginObject.is f.1))
-    c.copy_members.ensures.tree
+pub copy-returns-in-Object-clause-shorter : goal.copy-returns-in-Object-clause-shorter
+copy-returns-in-Object-clause-shorter t c =
+    let began = c.in_ok-copy_beginning.ensures.shorter in
+    if_ok c.copy_members.result (λ less. omega (arith, less, began)) c.copy_members.ensures.shorter
 
-pub copy-returns-in_ok-begin_object-in-BeginObject-clause-err : goal.copy-returns-in_ok-begin_object-in-BeginObject-clause-err
-copy-returns-in_ok-begin_object-in-BeginObject-clause-err t c =
-    let first = first_token c.next.result c.in_ok-token.token NotJson c.args.reader.now c.next.new.self c.in_ok-token.ensures.value c.next.ensures.value in
-    λ refused. object_refused c.args.depth c.args.reader.now c.next.new.self c.in_ok-token.token first (omega arith) c.in-BeginObject.is (c.copy_members.ensures.err refused)
+pub copy-returns-in-Object-clause-err : goal.copy-returns-in-Object-clause-err
+copy-returns-in-Object-clause-err t c =
+    let begun = rw c.in-Object.is at c.in_ok-copy_beginning.ensures.ok in
+    λ refused. refused_of object _ _ begun.1 (c.copy_members.ensures.err refused)
 
 -- ---- the items of an array
 
 pub copy_items-items-init : goal.copy_items-items-init
 copy_items-items-init t c =
-    (length c.args.reader.now, omega arith, (λ js. js), unchanged _, (λ js. refl), refl, omega arith, (λ ds. ds), none_before _)
+    let all = converted of_items (items (value c.args.depth) (length c.args.reader.now) c.args.reader.now) in
+    (length c.args.reader.now, omega arith, (λ ds. ds), none_before all, omega arith, refl, refl)
 
 pub copy_items-items-preserved : goal.copy_items-items-preserved
 copy_items-items-preserved t c =
@@ -129,25 +61,19 @@ copy_items-items-preserved t c =
     let l = c.items in
     let n = l.invariant.0 in
     let front = l.invariant.2 in
-    let trees = l.invariant.7 in
     let going : (after_end_array l.reader ≡ None) × (c.take_end_array.new.self ≡ l.reader) = c.items-test.ensures in
     let done = c.in_ok-copy.ensures in
-    let j = done.copied.0 in
     let d = done.tree.0 in
     let r = c.copy.new.reader in
     let less : length r < length l.reader = rw (← going.1) done.shorter in
-    let read : p l.reader ≡ Some (j, r) = rw (← going.1) done.copied.1 in
-    let turn = l.invariant.3 ∙ ap (parse_map front) (items_more p n l.reader r j (omega (arith, l.invariant.1)) going.0 read) ∙ fused front (json.item j) _ in
-    let tree = item_behind p _ trees n l.reader l.invariant.8 r d (omega (arith, l.invariant.1)) going.0 (rw (← going.1) done.tree.1) in (
+    let turn = item_behind p _ front n l.reader l.invariant.3 r d (omega (arith, l.invariant.1)) going.0 (rw (← going.1) done.tree.1) in (
       n - 1,
       omega (arith, l.invariant.1),
-      (λ js. front (json.item j js)),
+      (λ ds. front (item d ds)),
       turn,
-      (λ js. l.invariant.4 (json.item j js) ∙ behind l.out.tokens c.copy.new.out.tokens (json_tokens j) (items_tokens js) _ done.copied.2 refl),
-      done.before ∙ l.invariant.5,
-      omega (arith, l.invariant.6),
-      (λ ds. trees (item d ds)),
-      tree,
+      omega (arith, l.invariant.4),
+      done.copied.0 ∙ ap (λ ts. l.out.tokens ++ ts) going.1 ∙ l.invariant.5,
+      done.copied.1 ∙ l.invariant.6,
     )
 
 pub copy_items-returns-in_err-copy-clause-err : goal.copy_items-returns-in_err-copy-clause-err
@@ -155,66 +81,53 @@ copy_items-returns-in_err-copy-clause-err t c =
     let p = value c.args.depth in
     let l = c.items in
     let going : (after_end_array l.reader ≡ None) × (c.take_end_array.new.self ≡ l.reader) = c.items-test.ensures in
-    λ refused. refused_behind p _ l.invariant.7 l.invariant.0 l.reader l.invariant.8 going.0 (rw (← going.1) (c.copy.ensures.err (grind arith)))
+    λ refused. refused_behind p _ l.invariant.2 l.invariant.0 l.reader l.invariant.3 going.0 (rw (← going.1) (c.copy.ensures.err (grind arith)))
 
 pub copy_items-returns-clause-copied : goal.copy_items-returns-clause-copied
 copy_items-returns-clause-copied t c =
-    let p = value c.args.depth in
     let l = c.items in
-    let r = c.take_end_array.new.self in
-    let grown : c.end_array.new.self.tokens ≡ l.out.tokens ++ Token.end_array ∷ [] = grind arith in (
-      l.invariant.2 json.no_items,
-      l.invariant.3 ∙ ap (parse_map l.invariant.2) (items_end p l.invariant.0 l.reader r l.invariant.1 c.items-test.ensures),
-      grown ∙ sym (l.invariant.4 json.no_items),
+    let r = c.take_end_array.new.self in (
+      moved l.out.tokens c.end_array.new.self.tokens l.reader r Token.end_array c.in_ok-end_array.ensures.ok (closed_array l.reader r c.items-test.ensures) ∙ l.invariant.5,
+      c.end_array.ensures.room.0 ∙ l.invariant.6,
     )
 
 pub copy_items-returns-clause-tree : goal.copy_items-returns-clause-tree
 copy_items-returns-clause-tree t c =
-    let p = value c.args.depth in
     let l = c.items in
     let r = c.take_end_array.new.self in
-    (l.invariant.7 no_items, over_behind p _ l.invariant.7 l.invariant.0 l.reader l.invariant.8 r l.invariant.1 c.items-test.ensures)
+    (l.invariant.2 no_items, over_behind (value c.args.depth) _ l.invariant.2 l.invariant.0 l.reader l.invariant.3 r l.invariant.1 c.items-test.ensures)
 
 -- ---- the members of an object
 
 pub copy_members-members-init : goal.copy_members-members-init
-copy_members-members-init t c =
-    (length c.args.reader.now, omega arith, (λ ms. ms), unchanged _, (λ ms. refl), refl, omega arith, no_members, refl)
+copy_members-members-init t c = (length c.args.reader.now, omega arith, no_members, refl, omega arith, refl, refl)
 
 pub copy_members-returns-in_err-name-clause-err : goal.copy_members-returns-in_err-name-clause-err
 copy_members-returns-in_err-name-clause-err t c =
     let l = c.members in
-    λ refused. l.invariant.8 ∙ key_refused (value c.args.depth) l.invariant.7 l.invariant.0 l.reader c.in_err-name.ensures.value
+    λ refused. l.invariant.3 ∙ key_refused (value c.args.depth) l.invariant.2 l.invariant.0 l.reader c.in_err-name.ensures.value
 
 pub copy_members-members-preserved : goal.copy_members-members-preserved
 copy_members-members-preserved t c =
     let p = value c.args.depth in
     let l = c.members in
     let n = l.invariant.0 in
-    let front = l.invariant.2 in
-    let found = l.invariant.7 in
+    let found = l.invariant.2 in
     let k = c.in-Some.name.now in
     let s = c.next_key.new.self in
     let named = key_named l.reader s c.in_ok-name.field-0 c.in-Some.name c.in_ok-name.ensures.value c.in-Some.is in
     let done = c.in_ok-copy.ensures in
-    let j = done.copied.0 in
     let d = done.tree.0 in
     let r = c.copy.new.reader in
     let less = read_key-shorter l.reader (Some k) s named in
-    let lesser = done.shorter in
-    let turn = l.invariant.3 ∙ ap (parse_map front) (members_more p n k l.reader s r j (omega (arith, l.invariant.1)) named done.copied.1) ∙ fused front (json.member k j) _ in
-    let keyed : c.key.new.self.tokens ≡ l.out.tokens ++ Token.key k ∷ [] = grind arith in (
+    let lesser = done.shorter in (
       n - 1,
       omega (arith, l.invariant.1),
-      (λ ms. front (json.member k j ms)),
-      turn,
-      (λ ms. l.invariant.4 (json.member k j ms)
-          ∙ behind l.out.tokens c.key.new.self.tokens (Token.key k ∷ []) (json_tokens j ++ members_tokens ms) _ keyed refl
-          ∙ behind c.key.new.self.tokens c.copy.new.out.tokens (json_tokens j) (members_tokens ms) _ done.copied.2 refl),
-      done.before ∙ c.key.ensures.room.0 ∙ l.invariant.5,
-      omega (arith, l.invariant.6),
       put k d found,
-      l.invariant.8 ∙ member_read p found n k l.reader s r d (omega (arith, l.invariant.1)) named done.tree.1,
+      l.invariant.3 ∙ member_read p found n k l.reader s r d (omega (arith, l.invariant.1)) named done.tree.1,
+      omega (arith, l.invariant.4),
+      done.copied.0 ∙ moved l.out.tokens c.key.new.self.tokens l.reader s (Token.key k) c.in_ok-key.ensures.ok (read_key_is l.reader (Some k) s named) ∙ l.invariant.5,
+      done.copied.1 ∙ c.key.ensures.room.0 ∙ l.invariant.6,
     )
 
 pub copy_members-returns-in_err-copy-clause-err : goal.copy_members-returns-in_err-copy-clause-err
@@ -224,22 +137,39 @@ copy_members-returns-in_err-copy-clause-err t c =
     let k = c.in-Some.name.now in
     let s = c.next_key.new.self in
     let named = key_named l.reader s c.in_ok-name.field-0 c.in-Some.name c.in_ok-name.ensures.value c.in-Some.is in
-    λ refused. l.invariant.8 ∙ member_refused p l.invariant.7 l.invariant.0 k l.reader s named (c.copy.ensures.err (grind arith))
+    λ refused. l.invariant.3 ∙ member_refused p l.invariant.2 l.invariant.0 k l.reader s named (c.copy.ensures.err (grind arith))
 
 pub copy_members-returns-clause-copied : goal.copy_members-returns-clause-copied
 copy_members-returns-clause-copied t c =
-    let p = value c.args.depth in
     let l = c.members in
-    let over : json.read_key l.reader ≡ Some (None, c.next_key.new.self) = grind arith in
-    let grown : c.end_object.new.self.tokens ≡ l.out.tokens ++ Token.end_object ∷ [] = grind arith in (
-      l.invariant.2 json.no_members,
-      l.invariant.3 ∙ ap (parse_map l.invariant.2) (members_end p l.invariant.0 l.reader c.next_key.new.self l.invariant.1 over),
-      grown ∙ sym (l.invariant.4 json.no_members),
+    let s = c.next_key.new.self in
+    let over : read_key l.reader ≡ Some (None, s) = grind arith in (
+      moved l.out.tokens c.end_object.new.self.tokens l.reader s Token.end_object c.in_ok-end_object.ensures.ok (read_key_is l.reader None s over) ∙ l.invariant.5,
+      c.end_object.ensures.room.0 ∙ l.invariant.6,
     )
 
 pub copy_members-returns-clause-tree : goal.copy_members-returns-clause-tree
 copy_members-returns-clause-tree t c =
-    let p = value c.args.depth in
     let l = c.members in
-    let over : json.read_key l.reader ≡ Some (None, c.next_key.new.self) = grind arith in
-    (l.invariant.7, l.invariant.8 ∙ members_over p l.invariant.7 l.invariant.0 l.reader c.next_key.new.self l.invariant.1 over)
+    let over : read_key l.reader ≡ Some (None, c.next_key.new.self) = grind arith in
+    (l.invariant.2, l.invariant.3 ∙ members_over (value c.args.depth) l.invariant.2 l.invariant.0 l.reader c.next_key.new.self l.invariant.1 over)
+
+-- ---- what is left grows shorter
+
+pub copy_items-items-smaller : goal.copy_items-items-smaller
+copy_items-items-smaller t c =
+    let going : (after_end_array c.items.reader ≡ None) × (c.take_end_array.new.self ≡ c.items.reader) = c.items-test.ensures in
+    rw (← going.1) c.in_ok-copy.ensures.shorter
+
+pub copy_items-returns-clause-shorter : goal.copy_items-returns-clause-shorter
+copy_items-returns-clause-shorter t c =
+    let less = after_end_array-shorter c.items.reader c.take_end_array.new.self c.items-test.ensures in
+    omega (arith, less, c.items.invariant.4)
+
+pub copy_members-members-smaller : goal.copy_members-members-smaller
+copy_members-members-smaller t c =
+    let l = c.members in
+    let s = c.next_key.new.self in
+    let less = read_key-shorter l.reader (Some c.in-Some.name.now) s (key_named l.reader s c.in_ok-name.field-0 c.in-Some.name c.in_ok-name.ensures.value c.in-Some.is) in
+    let lesser = c.in_ok-copy.ensures.shorter in
+    omega (arith, less, lesser)
