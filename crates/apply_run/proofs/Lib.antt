@@ -1,4 +1,3 @@
 pub mod Runs
 pub mod Sizes
-pub mod Taken
 pub mod Workers

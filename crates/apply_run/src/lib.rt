@@ -3,7 +3,6 @@
 
 mod applying;
 mod bytes;
-mod collector;
 mod form_report;
 mod in_form;
 mod lanes;

@@ -3,7 +3,7 @@ use Rattle.std.proofs.lemmas.List.Elements.{All-head}
 use Rattle.apply_bus.specs.Items.{events}
 use Rattle.apply_events.specs.Fits.{IsOfPlan}
 use Rattle.apply_writer.specs.Stream.Telling.{HasTold, telling_of}
-use Rattle.apply_run.proofs.collector.note.Goals as goal
+use Rattle.apply_collector.proofs.collector.note.Goals as goal
 
 pub returns-then-is_of_plan-clause-told : goal.returns-then-is_of_plan-clause-told
 returns-then-is_of_plan-clause-told g c before failures so_far fits was =

@@ -3,7 +3,7 @@ use Rattle.apply_bus.specs.Items.{events, max_taken}
 use Rattle.apply_writer.specs.Stream.Counting.{CountsFit}
 use Rattle.apply_events.specs.Fits.{IsOfPlan}
 use Rattle.apply_writer.specs.Stream.Telling.{HasTold, telling_of}
-use Rattle.apply_run.proofs.collector.collect.Given as goal
+use Rattle.apply_collector.proofs.collector.collect.Given as goal
 
 -- the events so far were told
 abbrev pub invariant-loop-rx : goal.invariant-loop-rx

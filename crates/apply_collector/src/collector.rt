@@ -16,8 +16,10 @@ use std::sync::Wait;
 /// What a collector gives back: the stream as far as it was told, with the notes that it keeps, what was taken, and
 /// whether a take was lost.
 #[derive(Drop)]
-pub(crate) struct Collected<S: Drop, F: Drop> {
+pub struct Collected<S: Drop, F: Drop> {
+    /// The stream, as far as it was told.
     pub stream: StreamWriter<S, F>,
+    /// What was taken from the bus.
     pub taken: Taken,
     /// Whether a take was lost. What was taken does not tell it: a later take may have given what was missing.
     pub lost: bool,
@@ -28,8 +30,8 @@ const MAX_LOST: u32 = 1_000;
 
 /// Writes what comes first, and takes events until each worker has closed. Each event of the plan is told when it is
 /// taken: counted, and written at once unless it is a note, which the stream keeps. A take that fails is tried again,
-/// up to 1,000 times.
-pub(crate) fn collect<S: Sink + Drop, F: FormLines, R: Wait>(
+/// up to 1,000 times in all, and `lost` says so. Where the writing stops, the taking goes on.
+pub fn collect<S: Sink + Drop, F: FormLines, R: Wait>(
     rt: &R,
     mut rx: Rx,
     mut stream: StreamWriter<S, F>,

@@ -4,9 +4,9 @@ use Rattle.apply_bus.specs.Bus.{Account, NamesWorkersBelow}
 use Rattle.apply_bus.specs.Items.{closes, events}
 use Rattle.apply_events.specs.Fits.{IsOfPlan}
 use Rattle.apply_writer.specs.Stream.Telling.{HasTold, telling_of}
-use Rattle.apply_run.proofs.Taken.{count_more, fewer_to_lose, fewer_to_take, room_to_tell, told_more_items, told_no_items}
-use Rattle.apply_run.proofs.collector.collect.Goals as goal
-use Rattle.apply_run.proofs.collector.collect.Goals.{then-loop-rx-test+else-lost_takes-lt-MAX_LOST, else-loop-rx-test}
+use Rattle.apply_collector.proofs.Taken.{count_more, fewer_to_lose, fewer_to_take, room_to_tell, told_more_items, told_no_items}
+use Rattle.apply_collector.proofs.collector.collect.Goals as goal
+use Rattle.apply_collector.proofs.collector.collect.Goals.{then-loop-rx-test+else-lost_takes-lt-MAX_LOST, else-loop-rx-test}
 
 pub loop-rx-init : goal.loop-rx-init
 loop-rx-init g c =
