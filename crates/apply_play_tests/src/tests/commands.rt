@@ -108,8 +108,7 @@ fn rest_of_a_reader_with_a_buffer(rt: HostRuntime) {
 /// Fails where the word ends otherwise than with that status and a text that begins so, or leaves another number of bytes of the
 /// input, which is a terminal or not.
 fn word_leaves(
-    rt: &impl Abort,
-    files: &impl Files,
+    rt: &(impl Abort + Files),
     alloc: Global,
     word: &str,
     is_terminal: bool,
@@ -124,7 +123,7 @@ fn word_leaves(
     let out = no_bytes(rt, alloc);
     let faults = no_bytes(rt, alloc);
     let found = follow(
-        files,
+        rt,
         world,
         alloc,
         array::from_ref(word),
@@ -151,8 +150,7 @@ fn parted<'a>(rt: &impl Abort, row: &'a str) -> (&'a str, &'a str) {
 /// Fails where a row is answered otherwise than with status 2 and its text, or leaves another number of bytes of the input. Each
 /// row has a word and the text, each with a mark behind it.
 fn words_are_refused(
-    rt: &impl Abort,
-    files: &impl Files,
+    rt: &(impl Abort + Files),
     alloc: Global,
     is_terminal: bool,
     rows: &str,
@@ -161,7 +159,7 @@ fn words_are_refused(
     for row in rows.lines() {
         let (word, rest) = parted(rt, row);
         let (wanted, _) = parted(rt, rest);
-        word_leaves(rt, files, alloc, word, is_terminal, 2, wanted, left);
+        word_leaves(rt, alloc, word, is_terminal, 2, wanted, left);
     }
 }
 
@@ -176,11 +174,11 @@ no such file|applystream: the file no such file could not be opened: |
 #[test]
 fn words(rt: HostRuntime) {
     let alloc = rt.alloc();
-    word_leaves(&rt, &rt, alloc, "-", false, 0, "a\n", 0);
+    word_leaves(&rt, alloc, "-", false, 0, "a\n", 0);
     let fast = "--speed=86400";
-    word_leaves(&rt, &rt, alloc, fast, false, 0, "a\n", 0);
-    word_leaves(&rt, &rt, alloc, "--help", false, 0, "Writes a stream", 2);
-    words_are_refused(&rt, &rt, alloc, false, REFUSED, 0);
+    word_leaves(&rt, alloc, fast, false, 0, "a\n", 0);
+    word_leaves(&rt, alloc, "--help", false, 0, "Writes a stream", 2);
+    words_are_refused(&rt, alloc, false, REFUSED, 0);
 }
 
 /// At a terminal, at which nobody writes, refused words and a file that can't be opened.
@@ -191,7 +189,7 @@ no|applystream: |";
 #[test]
 fn input_that_is_left_alone(rt: HostRuntime) {
     let alloc = rt.alloc();
-    words_are_refused(&rt, &rt, alloc, true, AT_A_TERMINAL, 2);
+    words_are_refused(&rt, alloc, true, AT_A_TERMINAL, 2);
     let folder = "applystream: the file . could not be read: ";
-    word_leaves(&rt, &rt, alloc, ".", false, 2, folder, 2);
+    word_leaves(&rt, alloc, ".", false, 2, folder, 2);
 }
