@@ -2,62 +2,44 @@
 
 use super::*;
 
-/// How many sleeps are noted.
-const NOTED: usize = 16;
-
 /// A clock that counts and adds what it is asked to sleep, and what was seen of it and of the output.
 #[derive(Drop)]
 pub(super) struct World {
     /// Its time, in microseconds.
-    now: Cell<u64>,
-    /// How many sleeps it was asked for, and how long they were, in microseconds.
-    count: Cell<usize>,
-    sleeps: Cell<[u64; NOTED]>,
+    pub now: Cell<u64>,
+    /// The sleeps that are to be asked for yet, in microseconds, each with a blank behind it.
+    sleeps: Cell<&'static str>,
     /// How many sleeps more return at once.
-    pub lazy: Cell<u32>,
+    pub lazy: Cell<u64>,
     /// How many times more it can be read.
-    pub readings: Cell<u32>,
+    pub readings: Cell<u64>,
     /// How long each read of the input takes, in microseconds.
     pub read_time: Cell<u64>,
-    /// How many bytes were written and not sent on.
-    pending: Cell<usize>,
-    /// Whether a sleep or a read came while bytes were.
-    pub is_held_back: Cell<bool>,
+    /// Whether bytes were written and not sent on.
+    is_pending: Cell<bool>,
+    /// Whether a sleep or a read came while bytes were, or another sleep than the next one.
+    is_wrong: Cell<bool>,
+}
+
+/// A clock at 0 that is to be asked for these sleeps.
+pub(super) fn new_world(rt: &impl Abort, alloc: Global, sleeps: &'static str) -> &'static World {
+    let world = World {
+        now: Cell::new(0),
+        sleeps: Cell::new(sleeps),
+        lazy: Cell::new(0),
+        readings: Cell::new(u64::MAX),
+        read_time: Cell::new(0),
+        is_pending: Cell::new(false),
+        is_wrong: Cell::new(false),
+    };
+    &*kept(rt, alloc, world)
 }
 
 impl World {
-    /// A clock at 0.
-    pub fn new() -> World {
-        World {
-            now: Cell::new(0),
-            count: Cell::new(0),
-            sleeps: Cell::new([0; NOTED]),
-            lazy: Cell::new(0),
-            readings: Cell::new(u32::MAX),
-            read_time: Cell::new(0),
-            pending: Cell::new(0),
-            is_held_back: Cell::new(false),
-        }
-    }
-
-    /// Its time, in microseconds.
-    pub fn now(&self) -> u64 {
-        self.now.get()
-    }
-
-    /// The sleeps that it was asked for, in microseconds, parted by blanks.
-    pub fn sleeps(&self, rt: &impl Abort, alloc: Global) -> String {
-        let mut text = String::new(alloc);
-        for sleep in self.sleeps.get().iter().take(self.count.get()) {
-            let one = format!(in alloc; "{sleep} ").expect(rt, "memory");
-            text.push_str(one.as_str()).expect(rt, "memory");
-        }
-        text
-    }
-
-    /// Whether all that was written was sent on.
-    pub fn is_sent_on(&self) -> bool {
-        self.pending.get() == 0
+    /// Whether the sleeps that were to come came and none other, nothing was held back before one and before a read, and all
+    /// that was written was sent on.
+    pub fn is_as_wanted(&self) -> bool {
+        !self.is_wrong.get() && !self.is_pending.get() && self.sleeps.get().is_empty()
     }
 
     /// Lets so many microseconds go by.
@@ -67,20 +49,17 @@ impl World {
 
     /// Notes that somebody may have to wait now.
     fn waits(&self) {
-        if self.pending.get() > 0 {
-            self.is_held_back.set(true);
+        if self.is_pending.get() {
+            self.is_wrong.set(true);
         }
     }
 
     /// Notes one sleep.
     fn note(&self, micros: u64) {
-        let mut sleeps = self.sleeps.get();
-        let count = self.count.get();
-        if let Some(place) = sleeps.get_mut(count) {
-            *place = micros;
+        match self.sleeps.get().split_once(' ') {
+            Some((next, rest)) if next.parse::<u64>().ok() == Some(micros) => self.sleeps.set(rest),
+            _ => self.is_wrong.set(true),
         }
-        self.sleeps.set(sleeps);
-        self.count.set(count.saturating_add(1));
     }
 }
 
@@ -112,62 +91,91 @@ impl Clock for World {
 }
 
 /// A reader that gives at most so many bytes at once, and no more than to the end of a line.
-#[derive(Drop)]
-pub(super) struct Pieces<'a> {
-    pub world: &'a World,
-    pub bytes: &'a [u8],
+#[derive(Clone, Copy)]
+pub(super) struct Pieces {
+    pub world: &'static World,
+    pub bytes: &'static [u8],
     pub most: usize,
     /// Whether it fails at the end.
     pub is_broken: bool,
 }
 
-impl Read for Pieces<'_> {
+impl Read for Pieces {
     fn read(&mut self, buf: &mut [u8]) -> io::Result<usize> {
         self.world.waits();
         self.world.pass(self.world.read_time.get());
         if self.bytes.is_empty() && self.is_broken {
             return Err(io::Error::from_raw_os_error(5));
         }
-        let most = self.most.min(self.bytes.len()).min(buf.len());
-        let count = match self.bytes[..most].iter().position(|byte| *byte == b'\n') {
-            Some(place) => place + 1,
-            None => most,
-        };
+        let mut behind = self.bytes;
+        let line = behind.skip_until(b'\n')?;
+        let most = line.min(self.most);
+        let count = most.min(self.bytes.len()).min(buf.len());
         buf[..count].copy_from_slice(&self.bytes[..count]);
         self.bytes = &self.bytes[count..];
         Ok(count)
     }
 }
 
+/// A reader with a buffer, which gives the text in pieces of at most so many bytes.
+pub(super) fn new_reader(
+    rt: &impl Abort,
+    alloc: Global,
+    world: &'static World,
+    text: &'static str,
+    most: usize,
+) -> &'static mut BufReader<Pieces> {
+    let pieces = Pieces {
+        world,
+        bytes: text.as_bytes(),
+        most,
+        is_broken: false,
+    };
+    let reader = BufReader::new(alloc, pieces);
+    kept(rt, alloc, reader.expect(rt, "memory"))
+}
+
 /// A writer that takes at most so many bytes at once, and fails so behind so many, in a write as in a flush.
-#[derive(Drop)]
-pub(super) struct Taker<'a> {
-    pub world: &'a World,
-    pub taken: Vec<u8>,
+#[derive(Clone, Copy)]
+pub(super) struct Taker {
+    pub world: &'static World,
+    /// The bytes that are to come yet.
+    pub wanted: &'static [u8],
+    /// Whether others came.
+    pub is_other: bool,
     pub most: usize,
+    /// How many more it takes.
     pub room: usize,
     pub kind: ErrorKind,
 }
 
-impl Write for Taker<'_> {
+impl Taker {
+    /// Whether the bytes that were to come came and none other.
+    pub fn has_all(&self) -> bool {
+        !self.is_other && self.wanted.is_empty()
+    }
+}
+
+impl Write for Taker {
     fn write(&mut self, buf: &[u8]) -> io::Result<usize> {
-        let left = self.room.saturating_sub(self.taken.len());
-        let count = self.most.min(left).min(buf.len());
+        let count = self.most.min(self.room).min(buf.len());
         if count == 0 && !buf.is_empty() {
             return Err(io::Error::from(self.kind));
         }
-        self.taken.extend_from_slice(&buf[..count])?;
-        self.world
-            .pending
-            .set(self.world.pending.get().saturating_add(count));
+        self.room -= count;
+        match self.wanted.strip_prefix(&buf[..count]) {
+            Some(rest) => self.wanted = rest,
+            None => self.is_other = true,
+        }
+        self.world.is_pending.set(true);
         Ok(count)
     }
 
     fn flush(&mut self) -> io::Result<()> {
-        if self.taken.len() >= self.room {
+        if self.room == 0 {
             return Err(io::Error::from(self.kind));
         }
-        self.world.pending.set(0);
+        self.world.is_pending.set(false);
         Ok(())
     }
 }
