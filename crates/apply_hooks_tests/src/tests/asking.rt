@@ -25,7 +25,7 @@ fn rules_twice(
 
 /// Fails where a hook was refused though there is room, or was added though there is none, or where another error or another hook
 /// came back than the one that halts.
-fn is_added_or_comes_back(
+pub(super) fn is_added_or_comes_back(
     rt: &impl Abort,
     alloc: Global,
     has_room: bool,
@@ -85,6 +85,19 @@ fn is_so<R: Threads + Sync + Abort>(
     }
 }
 
+/// Fails where a row of the table is not so.
+pub(super) fn rows_are_so<R: Threads + Sync + Abort>(
+    rt: &R,
+    alloc: Global,
+    registry: &Registry,
+    calls: &AtomicU64,
+    table: &str,
+) {
+    for row in table.lines() {
+        is_so(rt, alloc, registry, calls, row);
+    }
+}
+
 /// Fails where a row of the table is not so of a registry to which so many hooks were added. The first of them, as many as are
 /// quiet, halt nothing, and the others halt steps of that kind in that phase. The first counts its calls by one, the
 /// second by a thousand, the third by a million. There is room for 32.
@@ -112,9 +125,7 @@ fn are_so<R: Threads + Sync + Abort>(
         let added = registry.add(FnHook::new(rules, answer));
         is_added_or_comes_back(rt, alloc, (number as usize) < MAX_HOOKS, added);
     }
-    for row in table.lines() {
-        is_so(rt, alloc, registry, calls, row);
-    }
+    rows_are_so(rt, alloc, registry, calls, table);
 }
 
 /// A registry whose second and third hook halt deletes before they start. That the first and the second were called once, and

@@ -1,5 +1,6 @@
 //! The closures of callers: each meets the one condition of `FnHook::new` with no proof of its own.
 
+use super::asking::{is_added_or_comes_back, rows_are_so};
 use super::*;
 
 /// Fails where the hook answers the call of the row otherwise, or the count is another by then.
@@ -7,11 +8,6 @@ fn is_counted(rt: &impl Abort, alloc: Global, hook: &FnHook, calls: &AtomicU64, 
     let (row, so_far) = parted(rt, row, "; ");
     is_decided(rt, alloc, hook, row);
     number_is(rt, alloc, row, calls.load(Ordering::SeqCst), so_far);
-}
-
-/// Fails where the hook was not added.
-fn is_added(rt: &impl Abort, added: Result<(), (HookError, FnHook)>) {
-    holds(rt, "a hook was added", added.is_ok());
 }
 
 /// Fails where the hook answers a call of the table otherwise, or the count is another by then, or where a registry of that hook
@@ -28,7 +24,7 @@ fn answers_so(
         is_counted(rt, alloc, &hook, calls, row);
     }
     let registry = kept(rt, alloc, Registry::new(alloc));
-    is_added(rt, registry.add(hook));
+    is_added_or_comes_back(rt, alloc, true, registry.add(hook));
     holds(rt, "one hook", registry.len() == 1);
     is_asked(rt, alloc, registry, last);
 }
@@ -81,34 +77,25 @@ fn rules_of_values_that_are_known_when_the_program_runs(rt: HostRuntime) {
     let registry = kept(&rt, alloc, Registry::new(alloc));
     for row in HALTED.lines() {
         let (kind, beginning) = parted(&rt, row, " ");
-        if let Some(kind) = kind_of(&rt, kind) {
-            let rules = halting(&rt, alloc, Some(Phase::Pre), Some(kind), "");
-            let answer: HookClosure = Box::new(alloc, move |call: &HookCall<'_>| {
-                if call.phase == Phase::Pre && call.kind == kind {
-                    Verdict::Halt
-                } else {
-                    Verdict::Continue
-                }
-            })
-            .expect(&rt, "memory");
-            is_added(&rt, registry.add(FnHook::new(rules, answer)));
-        } else {
-            let prefix = Text::new(alloc, beginning).expect(&rt, "memory");
-            let rules = halting(&rt, alloc, Some(Phase::Pre), None, prefix.as_str());
-            let answer: HookClosure = Box::new(alloc, move |call: &HookCall<'_>| {
-                if call.phase == Phase::Pre && call.address_begins(prefix.as_str()) {
-                    Verdict::Halt
-                } else {
-                    Verdict::Continue
-                }
-            })
-            .expect(&rt, "memory");
-            is_added(&rt, registry.add(FnHook::new(rules, answer)));
-        }
+        let kind = kind_of(&rt, kind);
+        let prefix = Text::new(alloc, beginning).expect(&rt, "memory");
+        let rules = halting(&rt, alloc, Some(Phase::Pre), kind, prefix.as_str());
+        let answer: HookClosure = Box::new(alloc, move |call: &HookCall<'_>| {
+            let is_of_kind = match kind {
+                Some(kind) => call.kind == kind,
+                None => true,
+            };
+            if call.phase == Phase::Pre && is_of_kind && call.address_begins(prefix.as_str()) {
+                Verdict::Halt
+            } else {
+                Verdict::Continue
+            }
+        })
+        .expect(&rt, "memory");
+        let added = registry.add(FnHook::new(rules, answer));
+        is_added_or_comes_back(&rt, alloc, true, added);
     }
-    for row in CALLS.lines() {
-        is_asked(&rt, alloc, registry, row);
-    }
+    rows_are_so(&rt, alloc, registry, count(&rt, alloc), CALLS);
 }
 
 /// Calls on a hook that halts what has failed, what it answers, and how often its closure was called by then.
