@@ -48,46 +48,44 @@ fn create<'a>() -> HookCall<'a> {
     }
 }
 
-/// Fails where one of eight threads was answered otherwise.
-fn all_are_answered(rt: &impl Abort, alloc: Global, all: &[Asked], wanted: &str) {
-    holds(rt, "eight threads", all.len() == 8);
+/// Fails where one of so many threads was answered otherwise than that the first hook halts.
+fn all_are_halted(rt: &impl Abort, all: &[Asked], threads: usize) {
+    holds(rt, "an answer for each", all.len() == threads);
     for asked in all {
-        text_is(rt, "a thread", printed(rt, alloc, asked), wanted);
+        holds(rt, "the first hook halts", *asked == Asked::HaltedBy(0));
     }
 }
 
-/// Fails where one of eight threads that ask the registry is answered otherwise.
+/// Fails where one of so many threads that ask the registry is answered otherwise than that the first hook halts.
 fn threads_ask<R: Threads + Sync + Abort>(
     rt: &R,
     alloc: Global,
     registry: &Registry,
-    wanted: &str,
+    threads: usize,
 ) {
-    let all = thread::map_indices(rt, alloc, 8, &|_number: usize| { registry.ask(&create()) });
-    all_are_answered(rt, alloc, &all.expect(rt, "memory"), wanted);
+    let all = thread::map_indices(
+        rt,
+        alloc,
+        threads,
+        &|_number: usize| { registry.ask(&create()) },
+    );
+    all_are_halted(rt, &all.expect(rt, "memory"), threads);
 }
 
 /// Fails where the registry has another number of hooks than the row says, where they were called another number of times so
-/// far, or where threads or the call of the row are answered otherwise.
-fn is_so<R: Threads + Sync + Abort>(
-    rt: &R,
-    alloc: Global,
-    registry: &Registry,
-    calls: &AtomicU64,
-    row: &str,
-) {
+/// far, or where the call of the row is answered otherwise.
+fn is_so(rt: &impl Abort, alloc: Global, registry: &Registry, calls: &AtomicU64, row: &str) {
     let (asked, wanted) = parted(rt, row, " => ");
     match asked {
         "hooks" => number_is(rt, alloc, row, registry.len() as u64, wanted),
         "calls" => number_is(rt, alloc, row, calls.load(Ordering::SeqCst), wanted),
-        "threads" => threads_ask(rt, alloc, registry, wanted),
         _ => is_asked(rt, alloc, registry, row),
     }
 }
 
 /// Fails where a row of the table is not so.
-pub(super) fn rows_are_so<R: Threads + Sync + Abort>(
-    rt: &R,
+pub(super) fn rows_are_so(
+    rt: &impl Abort,
     alloc: Global,
     registry: &Registry,
     calls: &AtomicU64,
@@ -100,7 +98,7 @@ pub(super) fn rows_are_so<R: Threads + Sync + Abort>(
 
 /// Fails where a row of the table is not so of a registry to which so many hooks were added. The first of them, as many as are
 /// quiet, halt nothing, and the others halt steps of that kind in that phase. The first counts its calls by one, the
-/// second by a thousand, the third by a million. There is room for 32.
+/// second by a thousand, the third by a million. There is room for 32. So many threads ask before the table is looked at.
 fn are_so<R: Threads + Sync + Abort>(
     rt: &R,
     alloc: Global,
@@ -108,6 +106,7 @@ fn are_so<R: Threads + Sync + Abort>(
     quiet: u32,
     phase: Option<Phase>,
     kind: Option<StepKind>,
+    threads: usize,
     table: &str,
 ) {
     let calls = count(rt, alloc);
@@ -125,6 +124,7 @@ fn are_so<R: Threads + Sync + Abort>(
         let added = registry.add(FnHook::new(rules, answer));
         is_added_or_comes_back(rt, alloc, (number as usize) < MAX_HOOKS, added);
     }
+    threads_ask(rt, alloc, registry, threads);
     rows_are_so(rt, alloc, registry, calls, table);
 }
 
@@ -140,7 +140,16 @@ Pre Create null_resource.a => Go";
 #[test]
 fn hooks_are_called_up_to_the_first_that_halts(rt: HostRuntime) {
     let kind = Some(StepKind::Delete);
-    are_so(&rt, rt.alloc(), 3, 1, Some(Phase::Pre), kind, SECOND_HALTS);
+    are_so(
+        &rt,
+        rt.alloc(),
+        3,
+        1,
+        Some(Phase::Pre),
+        kind,
+        0,
+        SECOND_HALTS,
+    );
 }
 
 /// A registry to which a 33rd hook, which halts all, could not be added.
@@ -149,15 +158,14 @@ Pre Create null_resource.a => Go";
 
 #[test]
 fn the_33rd_hook_comes_back(rt: HostRuntime) {
-    are_so(&rt, rt.alloc(), 33, 32, None, None, FULL);
+    are_so(&rt, rt.alloc(), 33, 32, None, None, 0, FULL);
 }
 
 /// A registry of one hook, which halts creates, and is asked by each thread once.
-const ASKED_BY_THREADS: &str = "threads => HaltedBy(0)
-calls => 8";
+const ASKED_BY_THREADS: &str = "calls => 8";
 
 #[test]
 fn threads_ask_one_registry(rt: HostRuntime) {
     let kind = Some(StepKind::Create);
-    are_so(&rt, rt.alloc(), 1, 0, None, kind, ASKED_BY_THREADS);
+    are_so(&rt, rt.alloc(), 1, 0, None, kind, 8, ASKED_BY_THREADS);
 }
