@@ -2,7 +2,6 @@
 //! that the definitions are the ones that were meant.
 
 ghost use Rattle.std.specs.Prelude.{◌≡◌, ◌∷◌, []};
-ghost use Rattle.apply_hooks.specs.HookClosure.{AnswersAs};
 
 mod asking;
 mod closures;
@@ -19,16 +18,11 @@ use std::process::Abort;
 use std::sync::Arc;
 use std::sync::atomic::{AtomicU64, Ordering};
 use std::thread;
+use std::thread::Threads;
 
 /// What stands before the first mark of a row, and behind it.
 fn parted<'a>(rt: &impl Abort, row: &'a str, mark: &str) -> (&'a str, &'a str) {
     row.split_once(mark).expect(rt, row)
-}
-
-/// None, which is called `any`.
-fn any<T>(rt: &impl Abort, name: &str) -> Option<T> {
-    holds(rt, name, name == "any");
-    None
 }
 
 /// The phase of that name; none for `any`.
@@ -37,7 +31,10 @@ fn phase_of(rt: &impl Abort, name: &str) -> Option<Phase> {
         "Pre" => Some(Phase::Pre),
         "PostDone" => Some(Phase::PostDone),
         "PostFailed" => Some(Phase::PostFailed),
-        _ => any(rt, name),
+        _ => {
+            holds(rt, name, name == "any");
+            None
+        }
     }
 }
 
@@ -48,7 +45,10 @@ fn kind_of(rt: &impl Abort, name: &str) -> Option<StepKind> {
         "Update" => Some(StepKind::Update),
         "Delete" => Some(StepKind::Delete),
         "Read" => Some(StepKind::Read),
-        _ => any(rt, name),
+        _ => {
+            holds(rt, name, name == "any");
+            None
+        }
     }
 }
 
@@ -84,6 +84,11 @@ fn text_is(rt: &impl Abort, case: &str, found: &str, wanted: &str) {
     assert!(rt; found == wanted, "{case}: {found}");
 }
 
+/// Fails where a number is another than the text says.
+fn number_is(rt: &impl Abort, alloc: Global, case: &str, found: u64, wanted: &str) {
+    text_is(rt, case, printed(rt, alloc, &found), wanted);
+}
+
 /// Fails where the registry answers the call of the row otherwise.
 fn is_asked(rt: &impl Abort, alloc: Global, registry: &Registry, row: &str) {
     let (call, wanted) = parted(rt, row, " => ");
@@ -96,28 +101,6 @@ fn is_decided(rt: &impl Abort, alloc: Global, hook: &impl Hook, row: &str) {
     let (call, wanted) = parted(rt, row, " => ");
     let verdict = hook.decide(&call_of(rt, call));
     text_is(rt, row, printed(rt, alloc, &verdict), wanted);
-}
-
-/// Fails where a number is another.
-fn number_is(rt: &impl Abort, case: &str, found: u64, wanted: u64) {
-    assert!(rt; found == wanted, "{case}: {found}");
-}
-
-/// Fails where the registry has another number of hooks.
-fn len_is(rt: &impl Abort, registry: &Registry, wanted: u64) {
-    number_is(rt, "hooks", registry.len() as u64, wanted);
-}
-
-/// Fails where the hook was not added.
-fn is_added(rt: &impl Abort, added: Result<(), (HookError, FnHook)>) {
-    holds(rt, "a hook was added", added.is_ok());
-}
-
-/// Adds a hook of that closure, which answers as the rules do.
-fn add(rt: &impl Abort, registry: &mut Registry, rules: Rules, answer: HookClosure)
-    requires { AnswersAs (pre answer) (post answer) rules }
-{
-    is_added(rt, registry.add(FnHook::new(rules, answer)));
 }
 
 /// A list of one rule, which halts.
@@ -138,12 +121,13 @@ fn halting(
     Rules::halting(alloc, phase, kind, beginning).expect(rt, "memory")
 }
 
-/// A count that a closure may share.
-fn count(rt: &impl Abort, alloc: Global) -> Arc<AtomicU64> {
-    Arc::new(alloc, AtomicU64::new(0)).expect(rt, "memory")
+/// A count that closures may share.
+fn count(rt: &impl Abort, alloc: Global) -> &'static Arc<AtomicU64> {
+    let count = Arc::new(alloc, AtomicU64::new(0)).expect(rt, "memory");
+    &*kept(rt, alloc, count)
 }
 
-/// A second owner of the count.
+/// One more owner of the count.
 fn shared(rt: &impl Abort, count: &Arc<AtomicU64>) -> Arc<AtomicU64> {
     Arc::try_clone(count).expect(rt, "memory")
 }

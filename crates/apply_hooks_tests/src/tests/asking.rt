@@ -1,78 +1,42 @@
 //! Registries: how full they are, which hooks are called, and that threads share them.
 
+ghost use Rattle.std.specs.Prelude.{◌≡◌};
+
 use super::*;
 
-/// Fails where one of three hooks was called another number of times. The first counts its calls by one, the second by a
-/// thousand and the third by a million.
-fn calls_are(rt: &impl Abort, calls: &AtomicU64, first: u64, second: u64, third: u64) {
-    let found = calls.load(Ordering::SeqCst);
-    number_is(rt, "calls of the first hook", found % 1000, first);
-    number_is(rt, "calls of the second hook", found / 1000 % 1000, second);
-    number_is(rt, "calls of the third hook", found / 1_000_000, third);
-}
-
-/// A call on a registry whose second and third hook halt deletes before they start.
-const HALTED: &str = "Pre Delete null_resource.a => HaltedBy(1)";
-
-const NOT_HALTED: &str = "Pre Create null_resource.a => Go";
-
-/// A registry that worked out the verdicts from the rules alone would call nothing. The second hook halts, so the third is
-/// not called.
-#[test]
-fn hooks_are_called_up_to_the_first_that_halts(rt: HostRuntime) {
-    let alloc = rt.alloc();
-    let calls = count(&rt, alloc);
-    let counted = shared(&rt, &calls);
-    let mut registry = Registry::new(alloc);
-    let answer: HookClosure = Box::new(alloc, move |_call: &HookCall<'_>| {
-        counted.fetch_add(1, Ordering::SeqCst);
-        Verdict::Continue
-    })
-    .expect(&rt, "memory");
-    add(&rt, &mut registry, Rules::new(alloc), answer);
-    for number in 1..3 {
-        let weight = 1000_u64.wrapping_pow(number);
-        let counted = shared(&rt, &calls);
-        let rules = halting(&rt, alloc, Some(Phase::Pre), Some(StepKind::Delete), "");
-        let own = halting(&rt, alloc, Some(Phase::Pre), Some(StepKind::Delete), "");
-        let answer: HookClosure = Box::new(alloc, move |call: &HookCall<'_>| {
-            counted.fetch_add(weight, Ordering::SeqCst);
-            own.decide(call)
-        })
-        .expect(&rt, "memory");
-        add(&rt, &mut registry, rules, answer);
-        len_is(&rt, &registry, number as u64 + 1);
+/// Rules for a hook, and for its closure: none, or one that halts steps of that kind in that phase.
+fn rules_twice(
+    rt: &impl Abort,
+    alloc: Global,
+    is_quiet: bool,
+    phase: Option<Phase>,
+    kind: Option<StepKind>,
+) -> (Rules, Rules)
+    ensures { result.0 ≡ result.1 }
+{
+    if is_quiet {
+        (Rules::new(alloc), Rules::new(alloc))
+    } else {
+        let rules = halting(rt, alloc, phase, kind, "");
+        let own = halting(rt, alloc, phase, kind, "");
+        (rules, own)
     }
-    is_asked(&rt, alloc, &registry, HALTED);
-    calls_are(&rt, &calls, 1, 1, 0);
-    is_asked(&rt, alloc, &registry, NOT_HALTED);
 }
 
-/// Fails where the hook was added, or another error or another hook came back than the one that halts.
-fn comes_back(rt: &impl Abort, alloc: Global, added: Result<(), (HookError, FnHook)>) {
-    let (error, hook) = added.err().expect(rt, "a 33rd hook was refused");
-    holds(rt, "it is full", error == HookError::Full);
-    is_decided(rt, alloc, &hook, "Pre Create null_resource.a => Halt");
-}
-
-#[test]
-fn the_33rd_hook_comes_back(rt: HostRuntime) {
-    let alloc = rt.alloc();
-    let mut registry = Registry::new(alloc);
-    for number in 0..MAX_HOOKS {
-        len_is(&rt, &registry, number as u64);
-        let answer: HookClosure = Box::new(alloc, |_call: &HookCall<'_>| Verdict::Continue).expect(
-            &rt, "memory",
-        );
-        add(&rt, &mut registry, Rules::new(alloc), answer);
+/// Fails where a hook was refused though there is room, or was added though there is none, or where another error or another hook
+/// came back than the one that halts.
+pub(super) fn is_added_or_comes_back(
+    rt: &impl Abort,
+    alloc: Global,
+    has_room: bool,
+    added: Result<(), (HookError, FnHook)>,
+) {
+    holds(rt, "added where there is room", added.is_ok() == has_room);
+    if let Err((error, hook)) = added {
+        holds(rt, "it is full", error == HookError::Full);
+        let hook = kept(rt, alloc, hook);
+        is_decided(rt, alloc, hook, "Pre Create null_resource.a => Halt");
     }
-    let rules = halting(&rt, alloc, None, None, "");
-    let answer: HookClosure = Box::new(alloc, |_call: &HookCall<'_>| Verdict::Halt).expect(
-        &rt, "memory",
-    );
-    comes_back(&rt, alloc, registry.add(FnHook::new(rules, answer)));
-    len_is(&rt, &registry, 32);
-    is_asked(&rt, alloc, &registry, NOT_HALTED);
 }
 
 /// The call that the threads ask about.
@@ -84,30 +48,124 @@ fn create<'a>() -> HookCall<'a> {
     }
 }
 
-/// Fails where one of eight threads was answered otherwise than that the first hook halts.
-fn all_are_halted(rt: &impl Abort, all: &[Asked]) {
-    number_is(rt, "threads", all.len() as u64, 8);
+/// Fails where one of so many threads was answered otherwise than that the first hook halts.
+fn all_are_halted(rt: &impl Abort, all: &[Asked], threads: usize) {
+    holds(rt, "an answer for each", all.len() == threads);
     for asked in all {
         holds(rt, "the first hook halts", *asked == Asked::HaltedBy(0));
     }
 }
 
+/// Fails where one of so many threads that ask the registry is answered otherwise than that the first hook halts.
+fn threads_ask<R: Threads + Sync + Abort>(
+    rt: &R,
+    alloc: Global,
+    registry: &Registry,
+    threads: usize,
+) {
+    let all = thread::map_indices(
+        rt,
+        alloc,
+        threads,
+        &|_number: usize| { registry.ask(&create()) },
+    );
+    all_are_halted(rt, &all.expect(rt, "memory"), threads);
+}
+
+/// Fails where the registry has another number of hooks than the row says, where they were called another number of times so
+/// far, or where the call of the row is answered otherwise.
+fn is_so(rt: &impl Abort, alloc: Global, registry: &Registry, calls: &AtomicU64, row: &str) {
+    let (asked, wanted) = parted(rt, row, " => ");
+    match asked {
+        "hooks" => number_is(rt, alloc, row, registry.len() as u64, wanted),
+        "calls" => number_is(rt, alloc, row, calls.load(Ordering::SeqCst), wanted),
+        _ => is_asked(rt, alloc, registry, row),
+    }
+}
+
+/// Fails where a row of the table is not so.
+pub(super) fn rows_are_so(
+    rt: &impl Abort,
+    alloc: Global,
+    registry: &Registry,
+    calls: &AtomicU64,
+    table: &str,
+) {
+    for row in table.lines() {
+        is_so(rt, alloc, registry, calls, row);
+    }
+}
+
+/// Fails where a row of the table is not so of a registry to which so many hooks were added. The first of them, as many as are
+/// quiet, halt nothing, and the others halt steps of that kind in that phase. The first counts its calls by one, the
+/// second by a thousand, the third by a million. There is room for 32. So many threads ask before the table is looked at.
+fn are_so<R: Threads + Sync + Abort>(
+    rt: &R,
+    alloc: Global,
+    hooks: u32,
+    quiet: u32,
+    phase: Option<Phase>,
+    kind: Option<StepKind>,
+    threads: usize,
+    table: &str,
+) {
+    let calls = count(rt, alloc);
+    let registry = kept(rt, alloc, Registry::new(alloc));
+    for number in 0..hooks {
+        holds(rt, "hooks", registry.len() == number as usize);
+        let counted = shared(rt, calls);
+        let weight = 1000_u64.wrapping_pow(number);
+        let (rules, own) = rules_twice(rt, alloc, number < quiet, phase, kind);
+        let answer: HookClosure = Box::new(alloc, move |call: &HookCall<'_>| {
+            counted.fetch_add(weight, Ordering::SeqCst);
+            own.decide(call)
+        })
+        .expect(rt, "memory");
+        let added = registry.add(FnHook::new(rules, answer));
+        is_added_or_comes_back(rt, alloc, (number as usize) < MAX_HOOKS, added);
+    }
+    threads_ask(rt, alloc, registry, threads);
+    rows_are_so(rt, alloc, registry, calls, table);
+}
+
+/// A registry whose second and third hook halt deletes before they start. That the first and the second were called once, and
+/// the third never, are 1001 calls.
+const SECOND_HALTS: &str = "hooks => 3
+Pre Delete null_resource.a => HaltedBy(1)
+calls => 1001
+Pre Create null_resource.a => Go";
+
+/// A registry that worked out the verdicts from the rules alone would call nothing. The second hook halts, so the third is
+/// not called.
+#[test]
+fn hooks_are_called_up_to_the_first_that_halts(rt: HostRuntime) {
+    let kind = Some(StepKind::Delete);
+    are_so(
+        &rt,
+        rt.alloc(),
+        3,
+        1,
+        Some(Phase::Pre),
+        kind,
+        0,
+        SECOND_HALTS,
+    );
+}
+
+/// A registry to which a 33rd hook, which halts all, could not be added.
+const FULL: &str = "hooks => 32
+Pre Create null_resource.a => Go";
+
+#[test]
+fn the_33rd_hook_comes_back(rt: HostRuntime) {
+    are_so(&rt, rt.alloc(), 33, 32, None, None, 0, FULL);
+}
+
+/// A registry of one hook, which halts creates, and is asked by each thread once.
+const ASKED_BY_THREADS: &str = "calls => 8";
+
 #[test]
 fn threads_ask_one_registry(rt: HostRuntime) {
-    let alloc = rt.alloc();
-    let calls = count(&rt, alloc);
-    let counted = shared(&rt, &calls);
-    let rules = halting(&rt, alloc, None, Some(StepKind::Create), "");
-    let own = halting(&rt, alloc, None, Some(StepKind::Create), "");
-    let answer: HookClosure = Box::new(alloc, move |call: &HookCall<'_>| {
-        counted.fetch_add(1, Ordering::SeqCst);
-        own.decide(call)
-    })
-    .expect(&rt, "memory");
-    let mut registry = Registry::new(alloc);
-    add(&rt, &mut registry, rules, answer);
-    let registry = &registry;
-    let all = thread::map_indices(&rt, alloc, 8, &|_number: usize| { registry.ask(&create()) });
-    all_are_halted(&rt, &all.expect(&rt, "memory"));
-    number_is(&rt, "calls", calls.load(Ordering::SeqCst), 8);
+    let kind = Some(StepKind::Create);
+    are_so(&rt, rt.alloc(), 1, 0, None, kind, 8, ASKED_BY_THREADS);
 }

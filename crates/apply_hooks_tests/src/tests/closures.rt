@@ -1,15 +1,43 @@
 //! The closures of callers: each meets the one condition of `FnHook::new` with no proof of its own.
 
+use super::asking::{is_added_or_comes_back, rows_are_so};
 use super::*;
 
-/// Calls on a hook that halts deletes in `a` before they start.
-const ONE_RULE: &str = "Pre Delete ab => Halt
-PostDone Delete ab => Continue
-Pre Delete b => Continue";
+/// Fails where the hook answers the call of the row otherwise, or the count is another by then.
+fn is_counted(rt: &impl Abort, alloc: Global, hook: &FnHook, calls: &AtomicU64, row: &str) {
+    let (row, so_far) = parted(rt, row, "; ");
+    is_decided(rt, alloc, hook, row);
+    number_is(rt, alloc, row, calls.load(Ordering::SeqCst), so_far);
+}
+
+/// Fails where the hook answers a call of the table otherwise, or the count is another by then, or where a registry of that hook
+/// alone answers the last call otherwise.
+fn answers_so(
+    rt: &impl Abort,
+    alloc: Global,
+    hook: FnHook,
+    calls: &AtomicU64,
+    table: &str,
+    last: &str,
+) {
+    for row in table.lines() {
+        is_counted(rt, alloc, &hook, calls, row);
+    }
+    let registry = kept(rt, alloc, Registry::new(alloc));
+    is_added_or_comes_back(rt, alloc, true, registry.add(hook));
+    holds(rt, "one hook", registry.len() == 1);
+    is_asked(rt, alloc, registry, last);
+}
+
+/// Calls on a hook that halts deletes in `a` before they start, and counts nothing.
+const ONE_RULE: &str = "Pre Delete ab => Halt; 0
+PostDone Delete ab => Continue; 0
+Pre Delete b => Continue; 0";
 
 #[test]
 fn one_rule(rt: HostRuntime) {
     let alloc = rt.alloc();
+    let calls = count(&rt, alloc);
     let rules = halting(&rt, alloc, Some(Phase::Pre), Some(StepKind::Delete), "a");
     let answer: HookClosure = Box::new(alloc, |call: &HookCall<'_>| {
         if call.phase == Phase::Pre && call.kind == StepKind::Delete && call.address_begins("a") {
@@ -20,76 +48,54 @@ fn one_rule(rt: HostRuntime) {
     })
     .expect(&rt, "memory");
     let hook = FnHook::new(rules, answer);
-    for row in ONE_RULE.lines() {
-        is_decided(&rt, alloc, &hook, row);
-    }
-    let mut registry = Registry::new(alloc);
-    is_added(&rt, registry.add(hook));
-    len_is(&rt, &registry, 1);
-    is_asked(&rt, alloc, &registry, "Pre Delete ab => HaltedBy(0)");
+    answers_so(
+        &rt,
+        alloc,
+        hook,
+        calls,
+        ONE_RULE,
+        "Pre Delete ab => HaltedBy(0)",
+    );
 }
 
-/// Calls on a registry with a hook that halts reads before they start, one that halts all in a module, and one that halts
-/// creates.
+/// What three hooks halt before it starts: all of a kind, or all whose address begins so.
+const HALTED: &str = "Read 
+any module.a
+Create ";
+
+/// Calls on a registry of those hooks.
 const CALLS: &str = "Pre Read module.a.b.c => HaltedBy(0)
 Pre Create module.a.b.c => HaltedBy(1)
 Pre Create b.c => HaltedBy(2)
 Pre Delete b.c => Go
 PostDone Read module.a.b.c => Go";
 
-/// A kind, as an option of a command line would say it.
-fn halted_kind(rt: &impl Abort, name: &str) -> StepKind {
-    kind_of(rt, name).expect(rt, "a kind")
-}
-
+/// Kinds and beginnings are read while the test runs, as options of a command line would be.
 #[test]
 fn rules_of_values_that_are_known_when_the_program_runs(rt: HostRuntime) {
     let alloc = rt.alloc();
-    let mut registry = Registry::new(alloc);
-    let read = halted_kind(&rt, "Read");
-    let rules = halting(&rt, alloc, Some(Phase::Pre), Some(read), "");
-    let answer: HookClosure = Box::new(alloc, move |call: &HookCall<'_>| {
-        if call.phase == Phase::Pre && call.kind == read {
-            Verdict::Halt
-        } else {
-            Verdict::Continue
-        }
-    })
-    .expect(&rt, "memory");
-    add(&rt, &mut registry, rules, answer);
-    let prefix = Text::new(alloc, "module.a").expect(&rt, "memory");
-    let rules = halting(&rt, alloc, Some(Phase::Pre), None, prefix.as_str());
-    let answer: HookClosure = Box::new(alloc, move |call: &HookCall<'_>| {
-        if call.phase == Phase::Pre && call.address_begins(prefix.as_str()) {
-            Verdict::Halt
-        } else {
-            Verdict::Continue
-        }
-    })
-    .expect(&rt, "memory");
-    add(&rt, &mut registry, rules, answer);
-    let create = halted_kind(&rt, "Create");
-    let rules = halting(&rt, alloc, Some(Phase::Pre), Some(create), "");
-    let answer: HookClosure = Box::new(alloc, move |call: &HookCall<'_>| {
-        if call.phase == Phase::Pre && call.kind == create {
-            Verdict::Halt
-        } else {
-            Verdict::Continue
-        }
-    })
-    .expect(&rt, "memory");
-    add(&rt, &mut registry, rules, answer);
-    for row in CALLS.lines() {
-        is_asked(&rt, alloc, &registry, row);
+    let registry = kept(&rt, alloc, Registry::new(alloc));
+    for row in HALTED.lines() {
+        let (kind, beginning) = parted(&rt, row, " ");
+        let kind = kind_of(&rt, kind);
+        let prefix = Text::new(alloc, beginning).expect(&rt, "memory");
+        let rules = halting(&rt, alloc, Some(Phase::Pre), kind, prefix.as_str());
+        let answer: HookClosure = Box::new(alloc, move |call: &HookCall<'_>| {
+            let is_of_kind = match kind {
+                Some(kind) => call.kind == kind,
+                None => true,
+            };
+            if call.phase == Phase::Pre && is_of_kind && call.address_begins(prefix.as_str()) {
+                Verdict::Halt
+            } else {
+                Verdict::Continue
+            }
+        })
+        .expect(&rt, "memory");
+        let added = registry.add(FnHook::new(rules, answer));
+        is_added_or_comes_back(&rt, alloc, true, added);
     }
-}
-
-/// Fails where the hook answers the call of the row otherwise, or its closure was called another number of times by then.
-fn is_counted(rt: &impl Abort, alloc: Global, hook: &impl Hook, calls: &AtomicU64, row: &str) {
-    let (row, so_far) = parted(rt, row, "; ");
-    is_decided(rt, alloc, hook, row);
-    let found = calls.load(Ordering::SeqCst);
-    text_is(rt, row, printed(rt, alloc, &found), so_far);
+    rows_are_so(&rt, alloc, registry, count(&rt, alloc), CALLS);
 }
 
 /// Calls on a hook that halts what has failed, what it answers, and how often its closure was called by then.
@@ -101,7 +107,7 @@ PostDone Update a.b => Continue; 3";
 fn a_closure_that_counts_its_calls(rt: HostRuntime) {
     let alloc = rt.alloc();
     let calls = count(&rt, alloc);
-    let counted = shared(&rt, &calls);
+    let counted = shared(&rt, calls);
     let rules = halting(&rt, alloc, Some(Phase::PostFailed), None, "");
     let answer: HookClosure = Box::new(alloc, move |call: &HookCall<'_>| {
         counted.fetch_add(1, Ordering::SeqCst);
@@ -113,7 +119,12 @@ fn a_closure_that_counts_its_calls(rt: HostRuntime) {
     })
     .expect(&rt, "memory");
     let hook = FnHook::new(rules, answer);
-    for row in COUNTED.lines() {
-        is_counted(&rt, alloc, &hook, &calls, row);
-    }
+    answers_so(
+        &rt,
+        alloc,
+        hook,
+        calls,
+        COUNTED,
+        "PostFailed Update a.b => HaltedBy(0)",
+    );
 }

@@ -2,35 +2,41 @@
 
 use super::*;
 
-/// Calls, by their phase, their kind and their address.
-const CALLS: &str = "Pre Delete ab
-Pre Create ab
-PostDone Delete ab
-PostFailed Update a
-Pre Delete ba
-PostDone Read ";
+/// Calls, by a letter, their phase, their kind and their address.
+const CALLS: &str = "a Pre Delete ab
+b Pre Create ab
+c PostDone Delete ab
+d PostFailed Update a
+e Pre Delete ba
+f PostDone Read ";
 
-/// Rules, by their phase, their kind and how the address begins. Each names the calls that it matches by an x.
-const RULES: &str = "any any  => xxxxxx
-Pre any  => xx..x.
-PostDone any  => ..x..x
-PostFailed any  => ...x..
-any Create  => .x....
-any Update  => ...x..
-any Delete  => x.x.x.
-any Read  => .....x
-any any a => xxxx..
-any any ab => xxx...
-any any abc => ......
-Pre Delete a => x.....
-Pre Delete  => x...x.
-Pre any a => xx....
-any Delete a => x.x...";
+/// Rules, by their verdict, their phase, their kind and how the address begins. Each names the calls that it matches.
+const RULES: &str = "Halt any any  => abcdef
+Halt Pre any  => abe
+Halt PostDone any  => cf
+Halt PostFailed any  => d
+Halt any Create  => b
+Halt any Update  => d
+Halt any Delete  => ace
+Halt any Read  => f
+Halt any any a => abcd
+Halt any any ab => abc
+Halt any any abc => 
+Halt Pre Delete a => a
+Halt Pre Delete  => ae
+Halt Pre any a => ab
+Halt any Delete a => ac";
 
-/// The rule that the text tells by its phase, its kind and how the address begins.
-fn rule_of(rt: &impl Abort, alloc: Global, text: &str, verdict: Verdict) -> Rule {
-    let (phase, rest) = parted(rt, text, " ");
+/// The rule that the text tells by its verdict, its phase, its kind and how the address begins.
+fn rule_of(rt: &impl Abort, alloc: Global, text: &str) -> Rule {
+    let (verdict, rest) = parted(rt, text, " ");
+    let (phase, rest) = parted(rt, rest, " ");
     let (kind, beginning) = parted(rt, rest, " ");
+    let verdict = if verdict == "Halt" {
+        Verdict::Halt
+    } else {
+        Verdict::Continue
+    };
     Rule {
         phase: phase_of(rt, phase),
         kind: kind_of(rt, kind),
@@ -39,83 +45,68 @@ fn rule_of(rt: &impl Abort, alloc: Global, text: &str, verdict: Verdict) -> Rule
     }
 }
 
-/// Adds an x or a dot.
-fn push_mark(rt: &impl Abort, marks: &mut String, is_x: bool) {
-    let mark = if is_x { "x" } else { "." };
-    marks.push_str(mark).expect(rt, "memory");
+/// Adds the rule of that text.
+fn push_rule(rt: &impl Abort, alloc: Global, rules: &mut Rules, text: &str) {
+    let pushed = rules.push(rule_of(rt, alloc, text));
+    holds(rt, "a rule was added", pushed.is_ok());
 }
 
-/// An x for each call that the rule matches.
-fn matched(rt: &impl Abort, alloc: Global, rule: &Rule) -> &'static str {
-    let mut marks = String::new(alloc);
-    for call in CALLS.lines() {
-        push_mark(rt, &mut marks, rule.matches(&call_of(rt, call)));
-    }
-    kept(rt, alloc, marks).as_str()
-}
-
-/// An x for each call that the hook halts.
-fn halted(rt: &impl Abort, alloc: Global, hook: &impl Hook) -> &'static str {
-    let mut marks = String::new(alloc);
-    for call in CALLS.lines() {
-        push_mark(
-            rt,
-            &mut marks,
-            hook.decide(&call_of(rt, call)) == Verdict::Halt,
-        );
-    }
-    kept(rt, alloc, marks).as_str()
-}
-
-/// Adds a rule.
-fn push_rule(rt: &impl Abort, rules: &mut Rules, rule: Rule) {
-    holds(rt, "a rule was added", rules.push(rule).is_ok());
+/// Fails where the rule, which halts, or the list of it alone, takes the call and should not, or leaves it and should take it.
+fn takes(rt: &impl Abort, row: &str, rule: &Rule, rules: &Rules, call: &str, taken: &str) {
+    let (letter, call) = parted(rt, call, " ");
+    let is_taken = taken.contains(letter);
+    let call = call_of(rt, call);
+    let verdict = rules.decide(&call);
+    holds(rt, row, rule.matches(&call) == is_taken);
+    holds(rt, row, (verdict == Verdict::Halt) == is_taken);
 }
 
 /// Fails where the rule of the row, or a list of it alone, takes other calls.
-fn takes(rt: &impl Abort, alloc: Global, row: &str) {
-    let (rule, wanted) = parted(rt, row, " => ");
-    let found = kept(rt, alloc, rule_of(rt, alloc, rule, Verdict::Halt));
-    text_is(rt, row, matched(rt, alloc, found), wanted);
+fn takes_calls(rt: &impl Abort, alloc: Global, row: &str) {
+    let (text, taken) = parted(rt, row, " => ");
+    let rule = kept(rt, alloc, rule_of(rt, alloc, text));
     let rules = kept(rt, alloc, Rules::new(alloc));
-    push_rule(rt, rules, rule_of(rt, alloc, rule, Verdict::Halt));
-    text_is(rt, row, halted(rt, alloc, rules), wanted);
+    push_rule(rt, alloc, rules, text);
+    for call in CALLS.lines() {
+        takes(rt, row, rule, rules, call, taken);
+    }
 }
 
 #[test]
 fn rules_against_calls(rt: HostRuntime) {
-    for row in RULES.lines() {
-        takes(&rt, rt.alloc(), row);
-    }
+    rows_hold(&rt, rt.alloc(), RULES);
 }
 
-/// Calls on a list that goes on in `ab` and then halts in `a`.
-const GOES_ON_FIRST: &str = "Pre Create abc => Continue
-Pre Create ac => Halt
-Pre Create b => Continue";
+/// Lists of two rules, and calls on them.
+const LISTS: &str = "Continue any any ab then Halt any any a: Pre Create abc => Continue
+Continue any any ab then Halt any any a: Pre Create ac => Halt
+Continue any any ab then Halt any any a: Pre Create b => Continue
+Halt any any a then Continue any any ab: Pre Create abc => Halt
+Halt any any a then Continue any any ab: Pre Create ac => Halt
+Halt any any a then Continue any any ab: Pre Create b => Continue";
 
-/// Calls on a list that halts in `a` and then goes on in `ab`.
-const HALTS_FIRST: &str = "Pre Create abc => Halt
-Pre Create ac => Halt
-Pre Create b => Continue";
-
-/// Fails where a list of both rules answers otherwise.
-fn decide(rt: &impl Abort, alloc: Global, first: Rule, second: Rule, table: &str) {
+/// Fails where the list of the row answers otherwise.
+fn decides(rt: &impl Abort, alloc: Global, row: &str) {
+    let (list, call) = parted(rt, row, ": ");
+    let (first, second) = parted(rt, list, " then ");
     let rules = kept(rt, alloc, Rules::new(alloc));
-    push_rule(rt, rules, first);
-    push_rule(rt, rules, second);
+    push_rule(rt, alloc, rules, first);
+    push_rule(rt, alloc, rules, second);
+    is_decided(rt, alloc, rules, call);
+}
+
+/// Fails where a row does not hold, of a list of two rules or of one rule.
+fn rows_hold(rt: &impl Abort, alloc: Global, table: &str) {
     for row in table.lines() {
-        is_decided(rt, alloc, rules, row);
+        if row.contains(" then ") {
+            decides(rt, alloc, row);
+        } else {
+            takes_calls(rt, alloc, row);
+        }
     }
 }
 
 #[test]
 fn the_first_rule_that_matches_decides(rt: HostRuntime) {
-    let alloc = rt.alloc();
-    let goes_on = rule_of(&rt, alloc, "any any ab", Verdict::Continue);
-    let halts = rule_of(&rt, alloc, "any any a", Verdict::Halt);
-    decide(&rt, alloc, goes_on, halts, GOES_ON_FIRST);
-    let halts = rule_of(&rt, alloc, "any any a", Verdict::Halt);
-    let goes_on = rule_of(&rt, alloc, "any any ab", Verdict::Continue);
-    decide(&rt, alloc, halts, goes_on, HALTS_FIRST);
+    rows_hold(&rt, rt.alloc(), LISTS);
 }
