@@ -105,17 +105,18 @@ true => true
  => no JSON
 "#;
 
-/// The text of a tree.
-fn text_of(rt: &impl Abort, alloc: Global, tree: &Value) -> &'static str {
-    kept(rt, alloc, tree.to_string(alloc).expect(rt, "memory")).as_str()
+/// Fails where the tree is another text.
+fn is_text_of(rt: &impl Abort, alloc: Global, tree: &Value, text: &str, wanted: &str) {
+    let left = tree.to_string(alloc).expect(rt, "memory");
+    compare(rt, text, left.as_str(), wanted);
 }
 
-/// What is left of the text, as a text; or its fault.
-fn left_of(rt: &impl Abort, alloc: Global, text: &str) -> &'static str {
+/// Fails where something else is left of the text, or it has another fault.
+fn is_left(rt: &impl Abort, alloc: Global, text: &str, wanted: &str) {
     let left = trimmed(alloc, text.as_bytes(), 100, TestShape::Object);
     match kept(rt, alloc, left) {
-        Ok(tree) => text_of(rt, alloc, tree),
-        Err(fault) => named(*fault),
+        Ok(tree) => is_text_of(rt, alloc, tree, text, wanted),
+        Err(fault) => compare(rt, text, named(*fault), wanted),
     }
 }
 
@@ -123,7 +124,7 @@ fn left_of(rt: &impl Abort, alloc: Global, text: &str) -> &'static str {
 fn what_is_looked_at_is_left(rt: HostRuntime) {
     for row in TEXTS.trim().lines() {
         let (text, wanted) = parted(&rt, row);
-        compare(&rt, text, left_of(&rt, rt.alloc(), text), wanted);
+        is_left(&rt, rt.alloc(), text, wanted);
     }
 }
 
@@ -188,6 +189,11 @@ fn says(rt: &impl Abort, tree: &Value, name: &str, word: &str) -> bool {
     is_text(tree.get(name).expect(rt, name), word)
 }
 
+/// Fails where it is not so.
+fn holds(rt: &impl Abort, case: &str, is_so: bool) {
+    assert!(rt; is_so, "{case}");
+}
+
 #[test]
 fn members_are_found(rt: HostRuntime) {
     let text = r#"{"a":"b","none":null,"empty":"","number":5}"#;
@@ -195,9 +201,9 @@ fn members_are_found(rt: HostRuntime) {
     for row in FOUND.trim().lines() {
         is_found(&rt, tree, row);
     }
-    assert!(rt; null_is_absent(tree));
-    assert!(rt; says(&rt, tree, "a", "b"));
-    assert!(rt; !says(&rt, tree, "number", "5"));
+    holds(&rt, "null", null_is_absent(tree));
+    holds(&rt, "b", says(&rt, tree, "a", "b"));
+    holds(&rt, "5", !says(&rt, tree, "number", "5"));
 }
 
 /// Members, and how many items they have.
@@ -226,6 +232,6 @@ fn a_list_may_be_absent(rt: HostRuntime) {
     let tree = tree_of(&rt, rt.alloc(), text);
     for row in COUNTS.trim().lines() {
         let (name, wanted) = parted(&rt, row);
-        assert!(rt; has_items(tree, name, wanted), "at {row}");
+        holds(&rt, row, has_items(tree, name, wanted));
     }
 }
