@@ -1,5 +1,8 @@
 //! What no clause says: that calls succeed with ample memory, whole streams as bytes, that workers run at once and lines are
 //! written meanwhile, and how sinks answer in turn.
+//!
+//! A test is proved before it runs, and its proof grows with each function and each call. So a plan, its script and the stream
+//! of both stand in one text, and few functions run them and compare what comes of it.
 
 ghost use Rattle.std.specs.Prelude.{◌≡◌, ◌<◌, ◌-◌, ◌^◌};
 
@@ -11,13 +14,14 @@ mod refusals;
 mod reports;
 mod sinks;
 mod threads;
+mod watching;
 
 use apply_events::Counts;
 use apply_hooks::Registry;
 use apply_plan::{Plan, PlanError, Script, ScriptError, read_plan, read_script};
 use apply_run::{
     Fault, Gate, MemorySink, NoGate, Options, Refusal, Report, Sink, SinkFault, StdSink, Why,
-    apply_bytes, apply_bytes_in_lanes, apply_in_lanes, apply_stream,
+    apply_bytes, apply_bytes_in_lanes, apply_in_lanes, apply_stream, write_all,
 };
 use apply_text::{Operation, Start};
 use std::alloc::Global;
@@ -26,32 +30,24 @@ use std::sync::Wait;
 use std::sync::atomic::{AtomicU64, Ordering};
 use std::thread::{Threads, yield_now};
 
-/// Stands in a table where there is no script.
-const NO_SCRIPT: &str = r#"no script"#;
+/// Stands where there is no script.
+const NO_SCRIPT: &str = "no script";
 
-/// A plan with one change.
+/// A run: a plan with one change, behind it its script, and then the stream of both.
 const ONE_CREATE: &str =
-    r#"{"format_version":"1.2","terraform_version":"1.9.0","resource_changes":[{"address":"random_pet.animal","mode":"managed","type":"random_pet","name":"animal","change":{"actions":["create"]}}]}"#;
-
-/// Its stream.
-const ONE_CREATE_STREAM: &str =
-    r#"{"@level":"info","@message":"Terraform 1.9.0","@module":"terraform.ui","@timestamp":"1970-01-01T00:00:00Z","terraform":"1.9.0","type":"version","ui":"1.0"}
+    r#"{"format_version":"1.2","terraform_version":"1.9.0","resource_changes":[{"address":"random_pet.animal","mode":"managed","type":"random_pet","name":"animal","change":{"actions":["create"]}}]}
+no script
+{"@level":"info","@message":"Terraform 1.9.0","@module":"terraform.ui","@timestamp":"1970-01-01T00:00:00Z","terraform":"1.9.0","type":"version","ui":"1.0"}
 {"@level":"info","@message":"random_pet.animal: Creating...","@module":"terraform.ui","@timestamp":"1970-01-01T00:00:00Z","hook":{"action":"create","resource":{"addr":"random_pet.animal","implied_provider":"random","module":"","resource":"random_pet.animal","resource_key":null,"resource_name":"animal","resource_type":"random_pet"}},"type":"apply_start"}
 {"@level":"info","@message":"random_pet.animal: Creation complete after 0s","@module":"terraform.ui","@timestamp":"1970-01-01T00:00:00Z","hook":{"action":"create","elapsed_seconds":0,"resource":{"addr":"random_pet.animal","implied_provider":"random","module":"","resource":"random_pet.animal","resource_key":null,"resource_name":"animal","resource_type":"random_pet"}},"type":"apply_complete"}
 {"@level":"info","@message":"Apply complete! Resources: 1 added, 0 changed, 0 destroyed.","@module":"terraform.ui","@timestamp":"1970-01-01T00:00:00Z","changes":{"add":1,"change":0,"operation":"apply","remove":0},"type":"change_summary"}
 "#;
 
-/// A replacement that creates first.
+/// A replacement that creates first, of which the second step fails.
 const FAILED_DESTROY: &str =
-    r#"{"format_version":"1.2","terraform_version":"1.9.0","resource_changes":[{"address":"null_resource.a","mode":"managed","type":"null_resource","name":"a","change":{"actions":["create","delete"]}}]}"#;
-
-/// Its second step fails.
-const FAILED_DESTROY_SCRIPT: &str =
-    r#"{"changes":[{"address":"null_resource.a","steps":[{"seconds":0},{"seconds":4,"failed":{"summary":"boom"}}]}]}"#;
-
-/// What is written of both.
-const FAILED_DESTROY_STREAM: &str =
-    r#"{"@level":"info","@message":"Terraform 1.9.0","@module":"terraform.ui","@timestamp":"1970-01-01T00:00:00Z","terraform":"1.9.0","type":"version","ui":"1.0"}
+    r#"{"format_version":"1.2","terraform_version":"1.9.0","resource_changes":[{"address":"null_resource.a","mode":"managed","type":"null_resource","name":"a","change":{"actions":["create","delete"]}}]}
+{"changes":[{"address":"null_resource.a","steps":[{"seconds":0},{"seconds":4,"failed":{"summary":"boom"}}]}]}
+{"@level":"info","@message":"Terraform 1.9.0","@module":"terraform.ui","@timestamp":"1970-01-01T00:00:00Z","terraform":"1.9.0","type":"version","ui":"1.0"}
 {"@level":"info","@message":"null_resource.a: Creating...","@module":"terraform.ui","@timestamp":"1970-01-01T00:00:00Z","hook":{"action":"create","resource":{"addr":"null_resource.a","implied_provider":"null","module":"","resource":"null_resource.a","resource_key":null,"resource_name":"a","resource_type":"null_resource"}},"type":"apply_start"}
 {"@level":"info","@message":"null_resource.a: Creation complete after 0s","@module":"terraform.ui","@timestamp":"1970-01-01T00:00:00Z","hook":{"action":"create","elapsed_seconds":0,"resource":{"addr":"null_resource.a","implied_provider":"null","module":"","resource":"null_resource.a","resource_key":null,"resource_name":"a","resource_type":"null_resource"}},"type":"apply_complete"}
 {"@level":"info","@message":"null_resource.a: Destroying...","@module":"terraform.ui","@timestamp":"1970-01-01T00:00:00Z","hook":{"action":"delete","resource":{"addr":"null_resource.a","implied_provider":"null","module":"","resource":"null_resource.a","resource_key":null,"resource_name":"a","resource_type":"null_resource"}},"type":"apply_start"}
@@ -60,17 +56,12 @@ const FAILED_DESTROY_STREAM: &str =
 {"@level":"info","@message":"Apply complete! Resources: 1 added, 0 changed, 0 destroyed.","@module":"terraform.ui","@timestamp":"1970-01-01T00:00:04Z","changes":{"add":1,"change":0,"operation":"apply","remove":0},"type":"change_summary"}
 "#;
 
-/// Two creates.
-const TWO_CREATES: &str =
-    r#"{"format_version":"1.2","terraform_version":"1.9.0","resource_changes":[{"address":"null_resource.a","mode":"managed","type":"null_resource","name":"a","change":{"actions":["create"]}},{"address":"null_resource.b","mode":"managed","type":"null_resource","name":"b","change":{"actions":["create"]}}]}"#;
-
-/// The first of them fails, and the other goes on.
+/// Two creates: the first of them fails, and the other goes on. What one worker writes of them: the diagnostic stands behind
+/// all other lines, at the latest moment.
 const FIRST_FAILS: &str =
-    r#"{"changes":[{"address":"null_resource.a","steps":[{"seconds":5,"failed":{"summary":"boom"}}]},{"address":"null_resource.b","steps":[{"seconds":3}]}]}"#;
-
-/// What one worker writes of both: the diagnostic stands behind all other lines, at the latest moment.
-const FIRST_FAILS_STREAM: &str =
-    r#"{"@level":"info","@message":"Terraform 1.9.0","@module":"terraform.ui","@timestamp":"1970-01-01T00:00:00Z","terraform":"1.9.0","type":"version","ui":"1.0"}
+    r#"{"format_version":"1.2","terraform_version":"1.9.0","resource_changes":[{"address":"null_resource.a","mode":"managed","type":"null_resource","name":"a","change":{"actions":["create"]}},{"address":"null_resource.b","mode":"managed","type":"null_resource","name":"b","change":{"actions":["create"]}}]}
+{"changes":[{"address":"null_resource.a","steps":[{"seconds":5,"failed":{"summary":"boom"}}]},{"address":"null_resource.b","steps":[{"seconds":3}]}]}
+{"@level":"info","@message":"Terraform 1.9.0","@module":"terraform.ui","@timestamp":"1970-01-01T00:00:00Z","terraform":"1.9.0","type":"version","ui":"1.0"}
 {"@level":"info","@message":"null_resource.a: Creating...","@module":"terraform.ui","@timestamp":"1970-01-01T00:00:00Z","hook":{"action":"create","resource":{"addr":"null_resource.a","implied_provider":"null","module":"","resource":"null_resource.a","resource_key":null,"resource_name":"a","resource_type":"null_resource"}},"type":"apply_start"}
 {"@level":"info","@message":"null_resource.a: Creation errored after 5s","@module":"terraform.ui","@timestamp":"1970-01-01T00:00:05Z","hook":{"action":"create","elapsed_seconds":5,"resource":{"addr":"null_resource.a","implied_provider":"null","module":"","resource":"null_resource.a","resource_key":null,"resource_name":"a","resource_type":"null_resource"}},"type":"apply_errored"}
 {"@level":"info","@message":"null_resource.b: Creating...","@module":"terraform.ui","@timestamp":"1970-01-01T00:00:05Z","hook":{"action":"create","resource":{"addr":"null_resource.b","implied_provider":"null","module":"","resource":"null_resource.b","resource_key":null,"resource_name":"b","resource_type":"null_resource"}},"type":"apply_start"}
@@ -79,7 +70,7 @@ const FIRST_FAILS_STREAM: &str =
 {"@level":"info","@message":"Apply complete! Resources: 1 added, 0 changed, 0 destroyed.","@module":"terraform.ui","@timestamp":"1970-01-01T00:00:08Z","changes":{"add":1,"change":0,"operation":"apply","remove":0},"type":"change_summary"}
 "#;
 
-/// A replacement that destroys first, and a create.
+/// A plan of a replacement that destroys first, and a create.
 const REPLACEMENT_AND_CREATE: &str =
     r#"{"format_version":"1.2","terraform_version":"1.9.0","resource_changes":[{"address":"null_resource.a","mode":"managed","type":"null_resource","name":"a","change":{"actions":["delete","create"]}},{"address":"null_resource.b","mode":"managed","type":"null_resource","name":"b","change":{"actions":["create"]}}]}"#;
 
@@ -96,6 +87,18 @@ fn options(workers: u8, capacity: u16) -> Options {
 /// What stands before the first mark, and what behind it.
 fn parted<'a>(rt: &impl Abort, text: &'a str, mark: &str) -> (&'a str, &'a str) {
     text.split_once(mark).expect(rt, mark)
+}
+
+/// The plan of a run, its script, and the stream of both.
+fn parts_of<'a>(rt: &impl Abort, run: &'a str) -> (&'a str, &'a str, &'a str) {
+    let (plan, rest) = parted(rt, run, "\n");
+    let (script, stream) = parted(rt, rest, "\n");
+    (plan, script, stream)
+}
+
+/// The word at that place of a row, and no text where there is none.
+fn cell(row: &str, place: usize) -> &str {
+    row.split_whitespace().nth(place).unwrap_or("")
 }
 
 /// The value, for as long as the test runs: a proof grows with each place at which something has to be dropped.
@@ -131,9 +134,12 @@ fn memory(alloc: Global) -> MemorySink
     MemorySink::new(alloc, usize::MAX, None)
 }
 
-/// What the sink has, as text.
-fn text_of<'a>(rt: &impl Abort, sink: &'a MemorySink) -> &'a str {
-    str::from_utf8(sink.bytes()).ok().expect(rt, "a text")
+/// A sink that takes so many bytes with each write, and so many in all, or any number.
+fn limited(rt: &impl Abort, alloc: Global, per_write: usize, room: Option<usize>) -> MemorySink
+    ensures { result.failures ≡ 0 }
+{
+    assert!(rt; per_write > 0);
+    MemorySink::new(alloc, per_write, room)
 }
 
 /// The bytes of a script, where there is one.
@@ -145,23 +151,27 @@ fn script_bytes(script: &str) -> Option<&[u8]> {
     }
 }
 
-/// Applies what both say into memory, and holds nothing back.
-fn apply_into_memory<R: Threads + Wait + Sync + Abort>(
+/// Applies what both say into memory. The contract of a run is long, so it is called in few places.
+fn apply_into_memory<G: Gate, R: Threads + Wait + Sync + Abort>(
     rt: &R,
     alloc: Global,
-    plan: &[u8],
-    script: Option<&[u8]>,
+    plan: &str,
+    script: &str,
     registry: &Registry,
     options: Options,
+    gate: &G,
 ) -> (&'static MemorySink, Result<Report, Refusal>) {
-    let sink = memory(alloc);
-    let (sink, result) = apply_bytes(rt, alloc, plan, script, registry, options, sink, &NoGate);
-    (kept(rt, alloc, sink), result)
+    let (plan, script, sink) = (plan.as_bytes(), script_bytes(script), memory(alloc));
+    let (sink, end) = apply_bytes(rt, alloc, plan, script, registry, options, sink, gate);
+    (kept(rt, alloc, sink), end)
 }
 
-/// Fails where the sink has not as many bytes as are told.
-fn has_taken(rt: &impl Abort, sink: &MemorySink, written: u128) {
-    assert!(rt; written == sink.bytes().len() as u128);
+/// The end of a run of what was read, as one of bytes tells it.
+fn end_of(end: Result<Report, Fault>) -> Result<Report, Refusal> {
+    match end {
+        Ok(report) => Ok(report),
+        Err(fault) => Err(Refusal::Fault(fault)),
+    }
 }
 
 /// Reads both texts and applies them, without hooks.
@@ -173,17 +183,18 @@ fn apply_texts<S: Sink + Drop, G: Gate, R: Threads + Wait + Sync + Abort>(
     options: Options,
     sink: S,
     gate: &G,
-) -> (S, Result<Report, Fault>)
+) -> (S, Result<Report, Refusal>)
     requires { S.failed sink < 2 ^ 64 - 1 }
 {
     let plan = plan_of(rt, alloc, plan);
     let script = script_of(rt, alloc, script, plan);
     let registry = no_hooks(rt, alloc);
     assert!(rt; options.in_range());
-    apply_stream(rt, alloc, plan, script, registry, options, sink, gate)
+    let (sink, end) = apply_stream(rt, alloc, plan, script, registry, options, sink, gate);
+    (sink, end_of(end))
 }
 
-/// The same where it has to succeed.
+/// The same where it has to succeed: the sink, and what was counted.
 fn apply_plan<'a, S: Sink + Drop + 'a, G: Gate, R: Threads + Wait + Sync + Abort>(
     rt: &R,
     alloc: Global,
@@ -192,48 +203,60 @@ fn apply_plan<'a, S: Sink + Drop + 'a, G: Gate, R: Threads + Wait + Sync + Abort
     options: Options,
     sink: S,
     gate: &G,
-) -> (&'a S, Report)
+) -> (&'a S, Counts)
     requires { S.failed sink < 2 ^ 64 - 1 }
 {
-    let (sink, result) = apply_texts(rt, alloc, plan, script, options, sink, gate);
-    (kept(rt, alloc, sink), report_of(rt, result))
+    let (sink, end) = apply_texts(rt, alloc, plan, script, options, sink, gate);
+    let report = end.ok().expect(rt, "an end that is well");
+    (kept(rt, alloc, sink), report.counts)
 }
 
-/// What a run has done that had to end well.
-fn report_of(rt: &impl Abort, end: Result<Report, Fault>) -> Report {
-    end.ok().expect(rt, "an end that is well")
-}
-
-/// Keeps what has passed it in one number, for one worker: a hexadecimal digit for each, the last pass last.
-#[derive(Drop)]
-struct Passes {
-    passes: AtomicU64,
-}
-
-impl Gate for Passes {
-    fn pass(&self, _worker: u8, change: u32, step: u8) {
-        let digit = u64::from(change)
-            .wrapping_mul(2)
-            .wrapping_add(u64::from(step))
-            .wrapping_add(1);
-        let before = self.passes.load(Ordering::SeqCst);
-        let passes = before.wrapping_mul(16).wrapping_add(digit);
-        self.passes.store(passes, Ordering::SeqCst);
+/// What is told of a run.
+fn told(counts: Counts, taken: u64, written: usize) -> Report {
+    Report {
+        counts,
+        taken,
+        written: written as u128,
     }
 }
 
-/// What passes the gate while one worker applies the replacement and the create: 1 and 2 stand for the steps of the
-/// replacement, and 3 for the create.
-fn passes_of<R: Threads + Wait + Sync + Abort>(rt: &R, alloc: Global, registry: &Registry) -> u64 {
-    let gate = Passes {
-        passes: AtomicU64::new(0),
+/// The end of a run whose sink failed.
+fn failed(report: Report) -> Result<Report, Refusal> {
+    let why = Why::Write;
+    Err(Refusal::Fault(Fault { why, report }))
+}
+
+/// Fails where a run ended otherwise.
+fn ends(
+    rt: &impl Abort,
+    name: &str,
+    found: Result<Report, Refusal>,
+    wanted: Result<Report, Refusal>,
+) {
+    holds(rt, name, found == wanted);
+}
+
+/// Fails where the sink has not the first bytes of the stream, as many as it had room for, or where the run did not end with
+/// these counts: well with the whole stream, and otherwise with one write that failed.
+fn has_written(
+    rt: &impl Abort,
+    sink: &MemorySink,
+    stream: &str,
+    room: usize,
+    end: Result<Report, Refusal>,
+    counts: Counts,
+    taken: u64,
+) {
+    let front = stream.as_bytes().get(..room);
+    holds(rt, "the front of the stream", Some(sink.bytes()) == front);
+    let report = told(counts, taken, room);
+    let (failures, wanted) = if room < stream.len() {
+        (1, failed(report))
+    } else {
+        (0, Ok(report))
     };
-    let (plan, options, sink) = (REPLACEMENT_AND_CREATE, options(1, 64), memory(alloc));
-    let plan = plan.as_bytes();
-    let (sink, result) = apply_bytes(rt, alloc, plan, None, registry, options, sink, &gate);
-    let _sink = kept(rt, alloc, sink);
-    holds(rt, "an end that is well", result.is_ok());
-    gate.passes.load(Ordering::SeqCst)
+    number_is(rt, "failed writes", sink.failures(), failures);
+    ends(rt, stream, end, wanted);
 }
 
 /// Fails where the number is another.
@@ -253,28 +276,18 @@ fn text_is(rt: &impl Abort, name: &str, found: &str, wanted: &str) {
     assert!(rt; found == wanted, "{name}: {found}");
 }
 
-/// Fails where the bytes are others.
-fn bytes_are(rt: &impl Abort, found: &[u8], wanted: &[u8]) {
-    assert!(rt; found == wanted);
+/// Fails where other steps were counted than so many that were added and removed.
+fn counts_are(rt: &impl Abort, found: Counts, added: u64, removed: u64) {
+    holds(rt, "counts", found == counts(added, 0, removed, 0, 0));
 }
 
-/// Fails where other steps were counted.
-fn counts_are(rt: &impl Abort, found: Counts, wanted: Counts) {
-    holds(rt, "counts", found == wanted);
-}
-
-/// Fails where a flush ended otherwise.
-fn flush_is(rt: &impl Abort, found: Result<(), SinkFault>, wanted: Result<(), SinkFault>) {
-    assert!(rt; found == wanted);
-}
-
-/// Counts of steps, none of them halted.
-fn counts(added: u64, changed: u64, removed: u64, failed: u64) -> Counts {
+/// Counts of steps.
+fn counts(added: u64, changed: u64, removed: u64, failed: u64, halted: u64) -> Counts {
     Counts {
         added,
         changed,
         removed,
         failed,
-        halted: 0,
+        halted,
     }
 }

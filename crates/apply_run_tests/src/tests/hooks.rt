@@ -6,33 +6,26 @@ ghost use Rattle.apply_hooks.specs.HookClosure.{AnswersAs};
 ghost use Rattle.apply_hooks.specs.Rules.{verdict_of};
 ghost use Rattle.apply_run_tests.specs.Halting.{halting};
 
-use super::reports::{report_is, whole};
+use super::reports::runs_so;
+use super::watching::passes_of;
 use super::*;
 use apply_hooks::{FnHook, HookCall, HookClosure, Phase, Rules, Verdict};
 use apply_plan::StepKind;
 
-/// A replacement that destroys first.
-const REPLACEMENT: &str =
-    r#"{"format_version":"1.2","terraform_version":"1.9.0","resource_changes":[{"address":"null_resource.a","mode":"managed","type":"null_resource","name":"a","change":{"actions":["delete","create"]}}]}"#;
-
-/// Its stream where the second of three hooks is the first to halt it.
+/// A replacement that destroys first, and its stream where the second of three hooks is the first to halt it.
 const HALTED_REPLACEMENT: &str =
-    r#"{"@level":"info","@message":"Terraform 1.9.0","@module":"terraform.ui","@timestamp":"1970-01-01T00:00:00Z","terraform":"1.9.0","type":"version","ui":"1.0"}
+    r#"{"format_version":"1.2","terraform_version":"1.9.0","resource_changes":[{"address":"null_resource.a","mode":"managed","type":"null_resource","name":"a","change":{"actions":["delete","create"]}}]}
+no script
+{"@level":"info","@message":"Terraform 1.9.0","@module":"terraform.ui","@timestamp":"1970-01-01T00:00:00Z","terraform":"1.9.0","type":"version","ui":"1.0"}
 {"@level":"error","@message":"Error: execution halted","@module":"terraform.ui","@timestamp":"1970-01-01T00:00:00Z","diagnostic":{"address":"null_resource.a","detail":"Hook 1 answered Halt before delete.","severity":"error","summary":"execution halted"},"type":"diagnostic"}
 {"@level":"info","@message":"Apply complete! Resources: 0 added, 0 changed, 0 destroyed.","@module":"terraform.ui","@timestamp":"1970-01-01T00:00:00Z","changes":{"add":0,"change":0,"operation":"apply","remove":0},"type":"change_summary"}
 "#;
 
-/// A create.
-const CREATE: &str =
-    r#"{"format_version":"1.2","terraform_version":"1.9.0","resource_changes":[{"address":"null_resource.a","mode":"managed","type":"null_resource","name":"a","change":{"actions":["create"]}}]}"#;
-
-/// It fails after 5 seconds.
-const FAILS: &str =
-    r#"{"changes":[{"address":"null_resource.a","steps":[{"seconds":5,"failed":{"summary":"boom"}}]}]}"#;
-
-/// Its stream where a hook halts what has failed.
+/// A create that fails after 5 seconds, and its stream where a hook halts what has failed.
 const HALTED_CREATE: &str =
-    r#"{"@level":"info","@message":"Terraform 1.9.0","@module":"terraform.ui","@timestamp":"1970-01-01T00:00:00Z","terraform":"1.9.0","type":"version","ui":"1.0"}
+    r#"{"format_version":"1.2","terraform_version":"1.9.0","resource_changes":[{"address":"null_resource.a","mode":"managed","type":"null_resource","name":"a","change":{"actions":["create"]}}]}
+{"changes":[{"address":"null_resource.a","steps":[{"seconds":5,"failed":{"summary":"boom"}}]}]}
+{"@level":"info","@message":"Terraform 1.9.0","@module":"terraform.ui","@timestamp":"1970-01-01T00:00:00Z","terraform":"1.9.0","type":"version","ui":"1.0"}
 {"@level":"info","@message":"null_resource.a: Creating...","@module":"terraform.ui","@timestamp":"1970-01-01T00:00:00Z","hook":{"action":"create","resource":{"addr":"null_resource.a","implied_provider":"null","module":"","resource":"null_resource.a","resource_key":null,"resource_name":"a","resource_type":"null_resource"}},"type":"apply_start"}
 {"@level":"info","@message":"null_resource.a: Creation errored after 5s","@module":"terraform.ui","@timestamp":"1970-01-01T00:00:05Z","hook":{"action":"create","elapsed_seconds":5,"resource":{"addr":"null_resource.a","implied_provider":"null","module":"","resource":"null_resource.a","resource_key":null,"resource_name":"a","resource_type":"null_resource"}},"type":"apply_errored"}
 {"@level":"error","@message":"Error: boom","@module":"terraform.ui","@timestamp":"1970-01-01T00:00:05Z","diagnostic":{"address":"null_resource.a","detail":"","severity":"error","summary":"boom"},"type":"diagnostic"}
@@ -48,9 +41,7 @@ struct Case {
     halting: u8,
     phase: Phase,
     kind: Option<StepKind>,
-    plan: &'static str,
-    script: &'static str,
-    stream: &'static str,
+    run: &'static str,
     counts: Counts,
     taken: u64,
     passes: u64,
@@ -86,21 +77,15 @@ fn add_hook(rt: &impl Abort, registry: &mut Registry, rules: Rules, answer: Hook
     holds(rt, "a hook was added", added.is_ok());
 }
 
-/// Fails where one worker writes another text under the hooks, or tells otherwise of the run, or where other steps pass
-/// the gate while it applies the replacement and the create.
+/// Fails where one worker writes another stream of the run under the hooks, or tells otherwise of it, or where other steps
+/// pass the gate while it applies the replacement and the create.
 fn ends_so<R: Threads + Wait + Sync + Abort>(
     rt: &R,
     alloc: Global,
     registry: &Registry,
     case: &Case,
 ) {
-    let (plan, script) = (case.plan.as_bytes(), script_bytes(case.script));
-    let options = options(1, 64);
-    let (sink, found) = apply_into_memory(rt, alloc, plan, script, registry, options);
-    text_is(rt, case.plan, text_of(rt, sink), case.stream);
-    number_is(rt, "failed writes", sink.failures(), 0);
-    let wanted = whole(case.counts, case.taken, case.stream.len());
-    report_is(rt, case.plan, found, wanted);
+    runs_so(rt, alloc, registry, case.run, case.counts, case.taken);
     number_is(rt, "passes", passes_of(rt, alloc, registry), case.passes);
 }
 
@@ -125,17 +110,6 @@ fn halts_so<R: Threads + Wait + Sync + Abort>(rt: &R, alloc: Global, case: &Case
     ends_so(rt, alloc, &registry, case);
 }
 
-/// Counts of steps that failed, and one halt.
-fn halted(failed: u64) -> Counts {
-    Counts {
-        added: 0,
-        changed: 0,
-        removed: 0,
-        failed,
-        halted: 1,
-    }
-}
-
 /// A hook without rules, and behind it so many that halt each step of the kind before it begins, or each where none is
 /// given: the halt of a replacement's first step is the only event.
 fn replacement_is_halted<R: Threads + Wait + Sync + Abort>(
@@ -149,10 +123,8 @@ fn replacement_is_halted<R: Threads + Wait + Sync + Abort>(
         halting,
         phase: Phase::Pre,
         kind,
-        plan: REPLACEMENT,
-        script: NO_SCRIPT,
-        stream: HALTED_REPLACEMENT,
-        counts: halted(0),
+        run: HALTED_REPLACEMENT,
+        counts: counts(0, 0, 0, 0, 1),
         taken: 1,
         passes: 0x13,
     };
@@ -177,10 +149,8 @@ fn halted_steps_pass_the_gate(rt: HostRuntime) {
         halting: 1,
         phase: Phase::Pre,
         kind: Some(StepKind::Delete),
-        plan: ONE_CREATE,
-        script: NO_SCRIPT,
-        stream: ONE_CREATE_STREAM,
-        counts: counts(1, 0, 0, 0),
+        run: ONE_CREATE,
+        counts: counts(1, 0, 0, 0, 0),
         taken: 2,
         passes: 0x13,
     };
@@ -196,10 +166,8 @@ fn hooks_halt_what_has_failed(rt: HostRuntime) {
         halting: 1,
         phase: Phase::PostFailed,
         kind: None,
-        plan: CREATE,
-        script: FAILS,
-        stream: HALTED_CREATE,
-        counts: halted(1),
+        run: HALTED_CREATE,
+        counts: counts(0, 0, 0, 1, 1),
         taken: 4,
         passes: 0x123,
     };

@@ -1,26 +1,24 @@
 //! Plans that are applied in lanes: what is told of a run, refusals, and sinks that fail.
 
-ghost use Rattle.std.specs.Prelude.{◌<◌, ◌≤◌, ◌-◌, ◌^◌};
+ghost use Rattle.std.specs.Prelude.{◌<◌, ◌-◌, ◌^◌};
 
-use super::failing_sinks::is_cut_off;
 use super::refusals::is_refused;
 use super::*;
 
 /// Applies what both texts say in so many lanes.
-fn apply_texts_in_lanes<S: Sink + Drop>(
+fn apply_texts_in_lanes(
     rt: &impl Abort,
     alloc: Global,
     plan: &str,
     script: &str,
     lanes: u8,
-    sink: S,
-) -> (S, Result<Report, Refusal>)
-    requires { S.failed sink < 2 ^ 64 - 1 }
+    sink: MemorySink,
+) -> (&'static MemorySink, Result<Report, Refusal>)
+    requires { sink.failures < 2 ^ 64 - 1 }
 {
+    let (plan, script) = (plan.as_bytes(), script_bytes(script));
     let registry = no_hooks(rt, alloc);
-    let script = script_bytes(script);
-    let plan = plan.as_bytes();
-    apply_bytes_in_lanes(
+    let (sink, end) = apply_bytes_in_lanes(
         alloc,
         plan,
         script,
@@ -29,39 +27,37 @@ fn apply_texts_in_lanes<S: Sink + Drop>(
         Start::zero(),
         Operation::Apply,
         sink,
-    )
-}
-
-/// What 64 lanes make of a plan that was read, without a script.
-fn applied_in_lanes(
-    rt: &impl Abort,
-    alloc: Global,
-    plan: &Plan,
-) -> (&'static MemorySink, Result<Report, Fault>) {
-    let script = script_of(rt, alloc, NO_SCRIPT, plan);
-    let (sink, result) = apply_in_lanes(
-        alloc,
-        plan,
-        script,
-        no_hooks(rt, alloc),
-        64,
-        Start::zero(),
-        Operation::Apply,
-        memory(alloc),
     );
-    (kept(rt, alloc, sink), result)
+    (kept(rt, alloc, sink), end)
 }
 
 /// A plan and a script that were read, and what was done.
 #[test]
 fn a_plan_that_was_read_in_lanes(rt: HostRuntime) {
     let alloc = rt.alloc();
-    let (sink, result) = applied_in_lanes(&rt, alloc, plan_of(&rt, alloc, ONE_CREATE));
-    text_is(&rt, "64 lanes", text_of(&rt, sink), ONE_CREATE_STREAM);
-    let report = report_of(&rt, result);
-    counts_are(&rt, report.counts, counts(1, 0, 0, 0));
-    number_is(&rt, "events", report.taken, 2);
-    has_taken(&rt, sink, report.written);
+    let (plan, script, stream) = parts_of(&rt, ONE_CREATE);
+    let plan = plan_of(&rt, alloc, plan);
+    let script = script_of(&rt, alloc, script, plan);
+    let (sink, end) = apply_in_lanes(
+        alloc,
+        plan,
+        script,
+        no_hooks(&rt, alloc),
+        64,
+        Start::zero(),
+        Operation::Apply,
+        memory(alloc),
+    );
+    let (sink, end) = (kept(&rt, alloc, sink), end_of(end));
+    has_written(
+        &rt,
+        sink,
+        stream,
+        stream.len(),
+        end,
+        counts(1, 0, 0, 0, 0),
+        2,
+    );
 }
 
 /// Fails where the texts are not refused so in so many lanes, or anything was written.
@@ -73,21 +69,26 @@ fn lanes_refuse(
     lanes: u8,
     wanted: Refusal,
 ) {
-    let (sink, result) = apply_texts_in_lanes(rt, alloc, plan, script, lanes, memory(alloc));
-    let sink = kept(rt, alloc, sink);
-    is_refused(rt, plan, script, sink, result == Err(wanted));
+    let (sink, end) = apply_texts_in_lanes(rt, alloc, plan, script, lanes, memory(alloc));
+    is_refused(rt, plan, script, sink, end, wanted);
 }
 
 /// The plan is refused before the script, and the script before the number of lanes.
 #[test]
 fn refusals_in_lanes(rt: HostRuntime) {
     let alloc = rt.alloc();
-    let no_json = Refusal::Plan(PlanError::NotJson);
-    lanes_refuse(&rt, alloc, "[", "{", 0, no_json);
-    let no_script = Refusal::Script(ScriptError::NotJson);
-    lanes_refuse(&rt, alloc, ONE_CREATE, "{", 65, no_script);
+    let (plan, _, _) = parts_of(&rt, ONE_CREATE);
+    lanes_refuse(&rt, alloc, "[", "{", 0, Refusal::Plan(PlanError::NotJson));
+    lanes_refuse(
+        &rt,
+        alloc,
+        plan,
+        "{",
+        65,
+        Refusal::Script(ScriptError::NotJson),
+    );
     for lanes in [0, 65, 255] {
-        lanes_refuse(&rt, alloc, ONE_CREATE, NO_SCRIPT, lanes, Refusal::Size);
+        lanes_refuse(&rt, alloc, plan, NO_SCRIPT, lanes, Refusal::Size);
     }
 }
 
@@ -95,25 +96,11 @@ fn refusals_in_lanes(rt: HostRuntime) {
 /// counted.
 #[test]
 fn fails_at_each_byte_in_lanes(rt: HostRuntime) {
-    for room in 0..FAILED_DESTROY_STREAM.len() {
-        is_cut_off_in_lanes(&rt, rt.alloc(), room);
+    let alloc = rt.alloc();
+    let (plan, script, stream) = parts_of(&rt, FAILED_DESTROY);
+    for room in 0..stream.len() {
+        let sink = limited(&rt, alloc, 7, Some(room));
+        let (sink, end) = apply_texts_in_lanes(&rt, alloc, plan, script, 10, sink);
+        has_written(&rt, sink, stream, room, end, counts(1, 0, 0, 1, 0), 5);
     }
-}
-
-/// Fails where a sink with room for so many bytes of the stream gets others, or the run does not end as it has to.
-fn is_cut_off_in_lanes(rt: &impl Abort, alloc: Global, room: usize) {
-    let sink = MemorySink::new(alloc, 7, Some(room));
-    let (plan, script) = (FAILED_DESTROY, FAILED_DESTROY_SCRIPT);
-    let (sink, result) = apply_texts_in_lanes(rt, alloc, plan, script, 10, sink);
-    let sink = kept(rt, alloc, sink);
-    is_cut_off(rt, sink.bytes(), FAILED_DESTROY_STREAM, room);
-    let report = Report {
-        counts: counts(1, 0, 0, 1),
-        taken: 5,
-        written: room as u128,
-    };
-    let why = Why::Write;
-    let wanted = Refusal::Fault(Fault { why, report });
-    holds(rt, "an end", result == Err(wanted));
-    number_is(rt, "failed writes", sink.failures(), 1);
 }

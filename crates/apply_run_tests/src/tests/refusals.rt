@@ -3,6 +3,19 @@
 use super::*;
 use std::fmt::Display;
 
+/// Fails where the texts were not refused so, or the sink took anything, or failed.
+pub(super) fn is_refused(
+    rt: &impl Abort,
+    plan: &str,
+    script: &str,
+    sink: &MemorySink,
+    end: Result<Report, Refusal>,
+    wanted: Refusal,
+) {
+    ends(rt, plan, end, Err(wanted));
+    holds(rt, script, sink.bytes().is_empty() && sink.failures() == 0);
+}
+
 /// Fails where the texts are not refused so, or anything was written.
 fn refuses<R: Threads + Wait + Sync + Abort>(
     rt: &R,
@@ -12,21 +25,9 @@ fn refuses<R: Threads + Wait + Sync + Abort>(
     options: Options,
     wanted: Refusal,
 ) {
-    let (registry, bytes) = (no_hooks(rt, alloc), script_bytes(script));
-    let (sink, result) = apply_into_memory(rt, alloc, plan.as_bytes(), bytes, registry, options);
-    is_refused(rt, plan, script, sink, result == Err(wanted));
-}
-
-/// Fails where the texts were not refused as they have to be, or the sink took anything, or failed.
-pub(super) fn is_refused(
-    rt: &impl Abort,
-    plan: &str,
-    script: &str,
-    sink: &MemorySink,
-    is_so: bool,
-) {
-    let untouched = sink.bytes().is_empty() && sink.failures() == 0;
-    assert!(rt; is_so && untouched, "{plan} {script}");
+    let registry = no_hooks(rt, alloc);
+    let (sink, end) = apply_into_memory(rt, alloc, plan, script, registry, options, &NoGate);
+    is_refused(rt, plan, script, sink, end, wanted);
 }
 
 /// A number of workers, a capacity, and whether they are in range.
@@ -44,27 +45,22 @@ const SIZES: &str = "0 64 out
 8 1024 in
 9 1025 out";
 
-fn sizes_of(rt: &impl Abort, workers: &str, capacity: &str) -> Options {
-    let workers = workers.parse::<u8>().ok().expect(rt, workers);
-    let capacity = capacity.parse::<u16>().ok().expect(rt, capacity);
-    options(workers, capacity)
-}
-
-/// Fails where the sizes of the line are taken for others, or one create is not refused where they are out of range.
-fn sizes_are<R: Threads + Wait + Sync + Abort>(rt: &R, alloc: Global, line: &str) {
-    let (workers, rest) = parted(rt, line, " ");
-    let (capacity, wanted) = parted(rt, rest, " ");
-    let options = sizes_of(rt, workers, capacity);
-    holds(rt, line, options.in_range() == (wanted == "in"));
+/// Fails where the sizes of the row are taken for others, or the plan is not refused where they are out of range.
+fn sizes_are<R: Threads + Wait + Sync + Abort>(rt: &R, alloc: Global, plan: &str, row: &str) {
+    let workers = cell(row, 0).parse::<u8>().ok().expect(rt, row);
+    let capacity = cell(row, 1).parse::<u16>().ok().expect(rt, row);
+    let (options, wanted) = (options(workers, capacity), cell(row, 2));
+    holds(rt, row, options.in_range() == (wanted == "in"));
     if wanted == "out" {
-        refuses(rt, alloc, ONE_CREATE, NO_SCRIPT, options, Refusal::Size);
+        refuses(rt, alloc, plan, NO_SCRIPT, options, Refusal::Size);
     }
 }
 
 #[test]
 fn sizes_and_limits(rt: HostRuntime) {
-    for line in SIZES.lines() {
-        sizes_are(&rt, rt.alloc(), line);
+    let (plan, _, _) = parts_of(&rt, ONE_CREATE);
+    for row in SIZES.lines() {
+        sizes_are(&rt, rt.alloc(), plan, row);
     }
 }
 
@@ -78,6 +74,7 @@ const ONE_WAIT: &str = r#"{"changes":[{"address":"a.a","steps":[{"seconds":1,"af
 /// A plan of a change more than there may be.
 fn too_many(rt: &impl Abort, alloc: Global) -> &'static str {
     let changes = "0,".repeat(alloc, 10_000).expect(rt, "memory");
+    let changes = kept(rt, alloc, changes).as_str();
     let plan = format!(in alloc;
         "{{\"format_version\":\"1.2\",\"resource_changes\":[{changes}0]}}"
     );
@@ -99,18 +96,19 @@ fn nine_refuse<R: Threads + Wait + Sync + Abort>(
 #[test]
 fn sizes_are_looked_at_last(rt: HostRuntime) {
     let alloc = rt.alloc();
+    let (plan, _, _) = parts_of(&rt, ONE_CREATE);
     let no_json = Refusal::Plan(PlanError::NotJson);
     nine_refuse(&rt, alloc, "[", "{", no_json);
     let too_large = Refusal::Plan(PlanError::TooMany);
     nine_refuse(&rt, alloc, too_many(&rt, alloc), NO_SCRIPT, too_large);
     let no_script = Refusal::Script(ScriptError::NotJson);
-    nine_refuse(&rt, alloc, ONE_CREATE, "{", no_script);
+    nine_refuse(&rt, alloc, plan, "{", no_script);
     nine_refuse(&rt, alloc, TWO_CREATES, ONE_WAIT, Refusal::Waits);
 }
 
 /// Fails where the error has another text.
-pub(super) fn shows<E: Display>(rt: &impl Abort, alloc: Global, error: &E, wanted: &str) {
-    let text = error.to_string(alloc).expect(rt, "memory");
+fn shows<E: Display>(rt: &impl Abort, alloc: Global, error: &E, wanted: &str) {
+    let text = kept(rt, alloc, error.to_string(alloc).expect(rt, "memory"));
     text_is(rt, "error", text.as_str(), wanted);
 }
 
@@ -118,16 +116,11 @@ pub(super) fn shows<E: Display>(rt: &impl Abort, alloc: Global, error: &E, wante
 #[test]
 fn errors_have_their_texts(rt: HostRuntime) {
     let alloc = rt.alloc();
+    shows(&rt, alloc, &SinkFault, "the sink failed");
     shows(&rt, alloc, &Why::Bus, "the event bus failed");
     shows(&rt, alloc, &Refusal::Size, "the sizes are out of range");
-    let report = Report {
-        counts: counts(1, 2, 3, 4),
-        taken: 5,
-        written: 6,
-    };
-    let why = Why::Bus;
+    let (why, report) = (Why::Bus, told(counts(1, 2, 3, 4, 0), 5, 6));
     let lost = Fault { why, report };
     shows(&rt, alloc, &lost, "the event bus failed");
-    let lost = Refusal::Fault(lost);
-    shows(&rt, alloc, &lost, "the event bus failed");
+    shows(&rt, alloc, &Refusal::Fault(lost), "the event bus failed");
 }

@@ -1,22 +1,17 @@
-//! Sinks whose writes are short, take nothing or fail.
+//! Sinks whose writes are short, take nothing or fail: what is done with each, and what it answers.
 
-ghost use Rattle.std.specs.Prelude.{◌≡◌, ◌<◌, ◌≤◌, ◌+◌, ◌-◌, ◌^◌};
+ghost use Rattle.std.specs.Prelude.{◌≡◌};
 
-use super::refusals::shows;
-use super::{bytes_are, flush_is, number_is};
-use apply_run::{MemorySink, Sink, SinkFault, StdSink, write_all};
-use std::alloc::Global;
+use super::*;
 use std::io;
 use std::io::{ErrorKind, Write};
-use std::process::Abort;
 
-/// Takes at most `per_write` bytes a call, or fails.
+/// Takes at most `per_write` bytes a call, or fails, to flush too.
 #[derive(Drop)]
-struct TestWriter {
+pub(super) struct TestWriter {
     taken: Vec<u8>,
     per_write: usize,
     fails: bool,
-    fails_to_flush: bool,
 }
 
 impl Write for TestWriter {
@@ -30,107 +25,127 @@ impl Write for TestWriter {
     }
 
     fn flush(&mut self) -> io::Result<()> {
-        if self.fails_to_flush {
+        if self.fails {
             return Err(io::Error::from(ErrorKind::BrokenPipe));
         }
         Ok(())
     }
 }
 
-fn writer(alloc: Global, per_write: usize) -> TestWriter {
-    TestWriter {
+/// A sink over such a writer.
+pub(super) fn writing(alloc: Global, per_write: usize, fails: bool) -> StdSink<TestWriter>
+    ensures { result.failures ≡ 0 }
+{
+    StdSink::new(TestWriter {
         taken: Vec::new(alloc),
         per_write,
-        fails: false,
-        fails_to_flush: false,
+        fails,
+    })
+}
+
+/// The text of a line, in which a dash stands for none.
+fn text_in(text: &str) -> &str {
+    if text == "-" { "" } else { text }
+}
+
+/// Fails where other bytes were taken by the step than its third word says, of which `no` is a write that failed, or where
+/// not as many writes have failed since the sink began as the fourth says.
+fn answers_so(rt: &impl Abort, step: &str, taken: Option<usize>, failures: u64) {
+    let (bytes, failed) = (cell(step, 2), cell(step, 3));
+    holds(rt, step, taken == bytes.parse::<usize>().ok());
+    holds(rt, step, Some(failures) == failed.parse::<u64>().ok());
+}
+
+/// Fails where the sink answers otherwise when it is given the text of the step: by one write, or `all` of it.
+fn takes_so<S: Sink, R: Abort>(rt: &R, sink: &mut S, step: &str) {
+    assert!(rt; sink.failures() < u64::MAX);
+    let text = text_in(cell(step, 1)).as_bytes();
+    let taken = if cell(step, 0) == "all" {
+        Some(write_all(sink, text))
+    } else {
+        sink.write(text).ok()
+    };
+    answers_so(rt, step, taken, sink.failures());
+}
+
+/// Fails where the sink flushes otherwise than the step says.
+fn flushes_so(rt: &impl Abort, sink: &mut StdSink<TestWriter>, step: &str) {
+    assert!(rt; sink.failures() < u64::MAX);
+    let flushed = if sink.flush().is_ok() { Some(0) } else { None };
+    answers_so(rt, step, flushed, sink.failures());
+}
+
+/// Fails where the bytes are others.
+fn bytes_are(rt: &impl Abort, found: &[u8], wanted: &[u8]) {
+    holds(rt, "bytes", found == wanted);
+}
+
+/// Sinks in memory, of three lines each: how many bytes it takes with a write, and in all; the steps; and the bytes that it
+/// has then.
+const IN_MEMORY: &str = "7 any
+one abcdefghij 7 0; one - 0 0; one hi 2 0; all jklmnopqrstuvwxyz 17 0
+abcdefghijklmnopqrstuvwxyz
+
+7 9
+all abcdefghij 9 1; one j no 2; one - 0 2
+abcdefghi
+
+1 0
+one a no 1
+-";
+
+/// Fails where a sink in memory takes other bytes than the lines say.
+fn memory_takes_so(rt: &impl Abort, alloc: Global, lines: &str) {
+    let (limits, steps, bytes) = parts_of(rt, lines);
+    let per_write = cell(limits, 0).parse::<usize>().ok().expect(rt, limits);
+    let room = cell(limits, 1).parse::<usize>().ok();
+    let mut sink = limited(rt, alloc, per_write, room);
+    for step in steps.split("; ") {
+        takes_so(rt, &mut sink, step);
+    }
+    bytes_are(rt, sink.bytes(), text_in(bytes).as_bytes());
+}
+
+#[test]
+fn memory_takes_as_much_as_it_may(rt: HostRuntime) {
+    for lines in IN_MEMORY.split("\n\n") {
+        memory_takes_so(&rt, rt.alloc(), lines);
     }
 }
 
-/// A write that has to end so.
-fn expect_write<S: Sink, R: Abort>(
-    rt: &R,
-    sink: &mut S,
-    slice: &[u8],
-    wanted: Result<usize, SinkFault>,
-)
-    requires { S.failed sink.old < 2 ^ 64 - 1 }
-    ensures { S.failed sink.new ≤ S.failed sink.old + 1 }
-{
-    assert!(rt; sink.write(slice) == wanted);
-}
+/// Sinks over a writer: how many bytes it takes with a write, and whether it does or fails; the steps; and the bytes that it
+/// has then.
+const OVER_WRITERS: &str = "3 does
+one abcdefgh 3 0; all defgh 5 0; flush - 0 0
+abcdefgh
 
-/// Writes of all bytes that have to take so many.
-fn expect_all<S: Sink, R: Abort>(rt: &R, sink: &mut S, slice: &[u8], wanted: usize)
-    requires { S.failed sink.old < 2 ^ 64 - 1 }
-    ensures { S.failed sink.new ≤ S.failed sink.old + 1 }
-{
-    assert!(rt; write_all(sink, slice) == wanted);
-}
+0 does
+one - 0 0; one a no 1; all ab 0 2
+-
 
-#[test]
-fn memory_takes_so_many_with_each_write(rt: HostRuntime) {
-    let mut sink = MemorySink::new(rt.alloc(), 7, None);
-    expect_write(&rt, &mut sink, b"abcdefghij", Ok(7));
-    expect_write(&rt, &mut sink, b"", Ok(0));
-    expect_write(&rt, &mut sink, b"hi", Ok(2));
-    expect_all(&rt, &mut sink, b"jklmnopqrstuvwxyz", 17);
-    bytes_are(&rt, sink.bytes(), b"abcdefghijklmnopqrstuvwxyz");
-    number_is(&rt, "failed writes", sink.failures(), 0);
-}
+3 fails
+one a no 1; flush - no 2; one - 0 2
+-";
 
-#[test]
-fn memory_fails_when_it_is_full(rt: HostRuntime) {
-    let mut sink = MemorySink::new(rt.alloc(), 7, Some(9));
-    expect_all(&rt, &mut sink, b"abcdefghij", 9);
-    number_is(&rt, "failed writes", sink.failures(), 1);
-    expect_write(&rt, &mut sink, b"j", Err(SinkFault));
-    expect_write(&rt, &mut sink, b"", Ok(0));
-    bytes_are(&rt, sink.bytes(), b"abcdefghi");
-    number_is(&rt, "failed writes", sink.failures(), 2);
+/// Fails where a sink over a writer takes other bytes than the lines say.
+fn writer_takes_so(rt: &impl Abort, alloc: Global, lines: &str) {
+    let (limits, steps, bytes) = parts_of(rt, lines);
+    let per_write = cell(limits, 0).parse::<usize>().ok().expect(rt, limits);
+    let mut sink = writing(alloc, per_write, cell(limits, 1) == "fails");
+    for step in steps.split("; ") {
+        if cell(step, 0) == "flush" {
+            flushes_so(rt, &mut sink, step);
+        } else {
+            takes_so(rt, &mut sink, step);
+        }
+    }
+    let writer = kept(rt, alloc, sink.into_inner());
+    bytes_are(rt, writer.taken.as_slice(), text_in(bytes).as_bytes());
 }
 
 #[test]
-fn memory_without_room_takes_nothing(rt: HostRuntime) {
-    let mut sink = MemorySink::new(rt.alloc(), 1, Some(0));
-    expect_write(&rt, &mut sink, b"a", Err(SinkFault));
-    assert!(rt; sink.bytes().is_empty());
-    number_is(&rt, "failed writes", sink.failures(), 1);
-}
-
-#[test]
-fn writers_may_take_less(rt: HostRuntime) {
-    let mut sink = StdSink::new(writer(rt.alloc(), 3));
-    expect_write(&rt, &mut sink, b"abcdefgh", Ok(3));
-    expect_all(&rt, &mut sink, b"defgh", 5);
-    flush_is(&rt, sink.flush(), Ok(()));
-    number_is(&rt, "failed writes", sink.failures(), 0);
-    bytes_are(&rt, sink.into_inner().taken.as_slice(), b"abcdefgh");
-}
-
-#[test]
-fn a_writer_that_takes_nothing_fails(rt: HostRuntime) {
-    let mut sink = StdSink::new(writer(rt.alloc(), 0));
-    expect_write(&rt, &mut sink, b"", Ok(0));
-    number_is(&rt, "failed writes", sink.failures(), 0);
-    expect_write(&rt, &mut sink, b"a", Err(SinkFault));
-    expect_all(&rt, &mut sink, b"ab", 0);
-    number_is(&rt, "failed writes", sink.failures(), 2);
-}
-
-#[test]
-fn a_writer_may_fail(rt: HostRuntime) {
-    let mut writer = writer(rt.alloc(), 3);
-    writer.fails = true;
-    writer.fails_to_flush = true;
-    let mut sink = StdSink::new(writer);
-    expect_write(&rt, &mut sink, b"a", Err(SinkFault));
-    flush_is(&rt, sink.flush(), Err(SinkFault));
-    expect_write(&rt, &mut sink, b"", Ok(0));
-    number_is(&rt, "failed writes", sink.failures(), 2);
-    assert!(rt; sink.into_inner().taken.is_empty());
-}
-
-#[test]
-fn a_fault_has_its_text(rt: HostRuntime) {
-    shows(&rt, rt.alloc(), &SinkFault, "the sink failed");
+fn writers_may_take_less_or_fail(rt: HostRuntime) {
+    for lines in OVER_WRITERS.split("\n\n") {
+        writer_takes_so(&rt, rt.alloc(), lines);
+    }
 }
