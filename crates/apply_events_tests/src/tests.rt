@@ -1,7 +1,7 @@
 //! What no clause says: that the definitions are the ones that were meant, by rows worked out by hand, and how often a
 //! stored closure is asked.
 
-ghost use Rattle.std.specs.Prelude.{◌≡◌, true};
+ghost use Rattle.std.specs.Prelude.{◌≡◌, ◌<◌, true};
 ghost use Rattle.apply_hooks.specs.HookCall.{call_of};
 ghost use Rattle.apply_hooks.specs.HookClosure.{AnswersAs};
 ghost use Rattle.apply_hooks.specs.Rules.{verdict_of};
@@ -56,11 +56,6 @@ fn text_is(rt: &impl Abort, case: &str, found: &str, wanted: &str) {
     assert!(rt; found == wanted, "{case}: {found}");
 }
 
-/// Fails where a number is another.
-fn number_is(rt: &impl Abort, case: &str, found: u64, wanted: u64) {
-    holds(rt, case, found == wanted);
-}
-
 /// The value, for as long as the test runs: a proof grows with each place at which something has to be dropped.
 fn kept<'a, T: Drop + 'a>(rt: &impl Abort, alloc: Global, value: T) -> &'a T {
     let kept = Box::new(alloc, value).expect(rt, "memory");
@@ -78,10 +73,9 @@ fn push(rt: &impl Abort, text: &mut String, piece: &str) {
     text.push_str(piece).expect(rt, "memory");
 }
 
-/// Adds what `Debug` prints of a value, and what stands behind it.
-fn push_value(rt: &impl Abort, alloc: Global, text: &mut String, value: &impl Debug, behind: &str) {
-    push(rt, text, printed(rt, alloc, value));
-    push(rt, text, behind);
+/// Adds a name, which may be empty, and what `Debug` prints of the value.
+fn push_value(rt: &impl Abort, text: &mut String, name: &str, value: &impl Debug) {
+    write!(text, "{name}{value:?}; ").expect(rt, "memory");
 }
 
 /// What stands before the first mark of a row, and behind it.
@@ -89,9 +83,9 @@ fn parted<'a>(rt: &impl Abort, row: &'a str) -> (&'a str, &'a str) {
     row.split_once(" => ").expect(rt, "a mark")
 }
 
-/// The text with another one in the place of `CELL`.
-fn put(rt: &impl Abort, alloc: Global, text: &str, cell: &str) -> &'static str {
-    let text = text.replace(alloc, "CELL", cell).expect(rt, "memory");
+/// The text with another one in the place of a mark.
+fn put(rt: &impl Abort, alloc: Global, text: &str, mark: &str, cell: &str) -> &'static str {
+    let text = text.replace(alloc, mark, cell).expect(rt, "memory");
     kept(rt, alloc, text).as_str()
 }
 
@@ -109,7 +103,7 @@ fn script_in(rt: &impl Abort, alloc: Global, plan: &Plan, text: &str) -> &'stati
 
 /// The plan with those actions.
 fn plan_of(rt: &impl Abort, alloc: Global, actions: &str) -> &'static Plan {
-    plan_in(rt, alloc, put(rt, alloc, PLAN, actions))
+    plan_in(rt, alloc, put(rt, alloc, PLAN, "CELL", actions))
 }
 
 /// The script with those steps, or the empty one.
@@ -117,58 +111,60 @@ fn script_of(rt: &impl Abort, alloc: Global, plan: &Plan, steps: &str) -> &'stat
     if steps == NO_SCRIPT {
         return kept(rt, alloc, Script::empty());
     }
-    script_in(rt, alloc, plan, put(rt, alloc, SCRIPT, steps))
+    script_in(rt, alloc, plan, put(rt, alloc, SCRIPT, "CELL", steps))
 }
 
 /// Adds the moment, the worker or the lane, the change with its step, and what happens.
-fn push_event(rt: &impl Abort, alloc: Global, text: &mut String, event: &Event) {
-    push_value(rt, alloc, text, &event.at, " ");
-    push_value(rt, alloc, text, &event.worker, " ");
-    push_value(rt, alloc, text, &event.change, ".");
-    push_value(rt, alloc, text, &event.step, " ");
-    push_value(rt, alloc, text, &event.what, "; ");
+fn push_event(rt: &impl Abort, text: &mut String, event: &Event) {
+    let told = (event.at, event.worker, event.change, event.step, event.what);
+    push_value(rt, text, "", &told);
 }
 
 /// Adds when the change has ended so far, where that is another moment than before, and which step begins next, if any does.
 /// That moment.
-fn push_stand(
-    rt: &impl Abort,
-    alloc: Global,
-    text: &mut String,
-    runner: &Runner<'_>,
-    before: u64,
-) -> u64 {
+fn push_stand(rt: &impl Abort, text: &mut String, runner: &Runner<'_>, before: u64) -> u64 {
     let ended = runner.ended_at();
     if ended != before {
-        push(rt, text, "ended ");
-        push_value(rt, alloc, text, &ended, "; ");
+        push_value(rt, text, "ended ", &ended);
     }
     if let Some(step) = runner.begins() {
-        push(rt, text, "begins ");
-        push_value(rt, alloc, text, &step, "; ");
+        push_value(rt, text, "begins ", &step);
     }
     ended
+}
+
+/// Fails where a number is not small.
+fn is_small(rt: &impl Abort, number: u64)
+    ensures { number < 9 }
+{
+    holds(rt, "a small number", number < 9);
 }
 
 /// Counts one more event. The counts of a test are small.
 fn count(rt: &impl Abort, counted: &mut Counts, plan: &Plan, script: &Script, event: &Event) {
     holds(rt, "an event that fits", fits(plan, script, event));
-    holds(rt, "few added", counted.added < 9);
-    holds(rt, "few changed", counted.changed < 9);
-    holds(rt, "few removed", counted.removed < 9);
-    holds(rt, "few failed", counted.failed < 9);
-    holds(rt, "few halted", counted.halted < 9);
+    is_small(rt, counted.added);
+    is_small(rt, counted.changed);
+    is_small(rt, counted.removed);
+    is_small(rt, counted.failed);
+    is_small(rt, counted.halted);
     counted.count(plan, event);
 }
 
-/// Adds how many objects were added, changed and removed so far, and how many steps failed and were halted.
-fn push_counts(rt: &impl Abort, alloc: Global, text: &mut String, counted: &Counts) {
-    push(rt, text, "counted ");
-    push_value(rt, alloc, text, &counted.added, " ");
-    push_value(rt, alloc, text, &counted.changed, " ");
-    push_value(rt, alloc, text, &counted.removed, " ");
-    push_value(rt, alloc, text, &counted.failed, " ");
-    push_value(rt, alloc, text, &counted.halted, "; ");
+/// Adds how many objects were added, changed and removed so far, and how many steps failed and were halted, where that is other
+/// than before.
+fn push_counts(rt: &impl Abort, text: &mut String, counted: &Counts, before: &Counts) {
+    if *counted != *before {
+        let Counts {
+            added,
+            changed,
+            removed,
+            failed,
+            halted,
+        } = *counted;
+        let told = (added, changed, removed, failed, halted);
+        push_value(rt, text, "counted ", &told);
+    }
 }
 
 /// All events of a change that begins at that moment, the counts where they are others than before, and how it stands between.
@@ -182,15 +178,13 @@ fn told(
 ) -> &'static str {
     let mut text = String::new(alloc);
     let mut counted = Counts::new();
-    let mut ended = push_stand(rt, alloc, &mut text, &runner, begin);
+    let mut ended = push_stand(rt, &mut text, &runner, begin);
     while let Some(event) = runner.next() {
         let before = counted;
-        push_event(rt, alloc, &mut text, &event);
+        push_event(rt, &mut text, &event);
         count(rt, &mut counted, plan, script, &event);
-        if counted != before {
-            push_counts(rt, alloc, &mut text, &counted);
-        }
-        ended = push_stand(rt, alloc, &mut text, &runner, ended);
+        push_counts(rt, &mut text, &counted, &before);
+        ended = push_stand(rt, &mut text, &runner, ended);
     }
     holds(rt, "nothing behind the last event", runner.next().is_none());
     kept(rt, alloc, text).as_str()

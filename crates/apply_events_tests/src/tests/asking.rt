@@ -2,22 +2,37 @@
 
 use super::*;
 
-/// Fails where the closure was asked another number of times so far, before looking at the runner or after.
-fn asked_are(rt: &impl Abort, calls: &AtomicU64, runner: &Runner<'_>, asked: u64) {
-    number_is(rt, "asked before", calls.load(Ordering::SeqCst), asked);
+/// Fails where the closure was asked another number of times so far.
+fn asked_is(rt: &impl Abort, alloc: Global, calls: &AtomicU64, asked: &str) {
+    let found = printed(rt, alloc, &calls.load(Ordering::SeqCst));
+    text_is(rt, asked, found, asked);
+}
+
+/// Fails where it was asked another number of times so far, before looking at the runner or after.
+fn asked_are(rt: &impl Abort, alloc: Global, calls: &AtomicU64, runner: &Runner<'_>, asked: &str) {
+    asked_is(rt, alloc, calls, asked);
     let _begins = runner.begins();
     let _ended_at = runner.ended_at();
-    number_is(rt, "asked after", calls.load(Ordering::SeqCst), asked);
+    asked_is(rt, alloc, calls, asked);
 }
 
 /// How often the closure is asked up to each event of a replacement with one progress and one warning: before any event,
 /// after the first start, the progress, the first completion, the second start, the second completion and the warning, and
 /// twice after that.
-const ASKED: [u64; 9] = [0, 1, 1, 2, 3, 3, 4, 4, 4];
+const ASKED: &str = "0
+1
+1
+2
+3
+3
+4
+4
+4";
 
 /// Fails where it was asked another number of times up to some event.
 fn asked_along(
     rt: &impl Abort,
+    alloc: Global,
     plan: &Plan,
     script: &Script,
     registry: &Registry,
@@ -25,14 +40,22 @@ fn asked_along(
 ) {
     holds(rt, "one change", plan.len() == 1);
     let mut runner = Runner::start(plan, script, registry, 0, 0, 0);
-    for asked in ASKED {
-        asked_are(rt, calls, &runner, asked);
+    for asked in ASKED.lines() {
+        asked_are(rt, alloc, calls, &runner, asked);
         let _event = runner.next();
     }
 }
 
 /// The same in a lane: four times and once for the first event, before any is given, and then one event ahead.
-const ASKED_IN_A_LANE: [u64; 9] = [5, 5, 6, 7, 7, 8, 8, 8, 8];
+const ASKED_IN_A_LANE: &str = "5
+5
+6
+7
+7
+8
+8
+8
+8";
 
 /// Fails where it was asked another number of times up to some event that a lane gives.
 fn asked_in_a_lane(
@@ -45,30 +68,30 @@ fn asked_in_a_lane(
 ) {
     let lanes = Lanes::start(alloc, plan, script, registry, 1);
     let mut lanes = lanes.ok().expect(rt, "memory");
-    for asked in ASKED_IN_A_LANE {
-        number_is(rt, "asked in a lane", calls.load(Ordering::SeqCst), asked);
+    for asked in ASKED_IN_A_LANE.lines() {
+        asked_is(rt, alloc, calls, asked);
         let _event = lanes.next();
     }
 }
 
-/// A change with each phase of each step, by a runner and in a lane, and one of which the first step is skipped.
-fn asked_of_changes(rt: &impl Abort, alloc: Global, registry: &Registry, calls: &AtomicU64) {
+/// A change with each phase of each step, by a runner and in a lane.
+fn asked_of_a_replacement(rt: &impl Abort, alloc: Global, registry: &Registry, calls: &AtomicU64) {
     let plan = plan_of(rt, alloc, REPLACEMENT);
     let script = script_of(rt, alloc, plan, ELEVEN_AND_TWO);
-    asked_along(rt, plan, script, registry, calls);
+    asked_along(rt, alloc, plan, script, registry, calls);
     calls.store(0, Ordering::SeqCst);
     asked_in_a_lane(rt, alloc, plan, script, registry, calls);
     calls.store(0, Ordering::SeqCst);
-    let skipped = script_of(rt, alloc, plan, r#"[{"skipped":true},{"seconds":5}]"#);
-    is_told(rt, alloc, plan, skipped, registry, 0, "");
-    let given = lanes::reported(rt, alloc, plan, skipped, registry, 2);
+}
+
+/// One of which the first step is skipped.
+fn asked_of_a_skipped_step(rt: &impl Abort, alloc: Global, registry: &Registry, calls: &AtomicU64) {
+    let plan = plan_of(rt, alloc, REPLACEMENT);
+    let script = script_of(rt, alloc, plan, r#"[{"skipped":true},{"seconds":5}]"#);
+    is_told(rt, alloc, plan, script, registry, 0, "");
+    let given = lanes::reported(rt, alloc, plan, script, registry, 2);
     text_is(rt, "in lanes", given, "");
-    number_is(
-        rt,
-        "asked of a skipped step",
-        calls.load(Ordering::SeqCst),
-        0,
-    );
+    asked_is(rt, alloc, calls, "0");
 }
 
 /// A stored closure is asked once for each phase of each step: before the step by the call that gives its first event,
@@ -77,14 +100,15 @@ fn asked_of_changes(rt: &impl Abort, alloc: Global, registry: &Registry, calls: 
 #[test]
 fn hooks_are_asked_once_for_each_phase(rt: HostRuntime) {
     let alloc = rt.alloc();
-    let mut registry = Registry::new(alloc);
     let calls = Arc::new(alloc, AtomicU64::new(0)).expect(&rt, "memory");
     let counted = Arc::try_clone(&calls).expect(&rt, "memory");
+    let mut registry = Registry::new(alloc);
     let answer: HookClosure = Box::new(alloc, move |_call: &HookCall<'_>| {
         counted.fetch_add(1, Ordering::SeqCst);
         Verdict::Continue
     })
     .expect(&rt, "memory");
     add_hook(&rt, &mut registry, Rules::new(alloc), answer);
-    asked_of_changes(&rt, alloc, &registry, &calls);
+    asked_of_a_replacement(&rt, alloc, &registry, &calls);
+    asked_of_a_skipped_step(&rt, alloc, &registry, &calls);
 }

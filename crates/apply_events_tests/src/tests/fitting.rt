@@ -6,14 +6,14 @@ use super::*;
 /// step, and what happens. Nothing can happen to a skipped step, nor to one behind it; neither a completion nor an error to a read
 /// that only warns.
 const FITTING: &str =
-    r#"["delete","create"] => [{"seconds":10}] => 0 Start; 0 Complete(10); 0 Halted { phase: Pre, hook: 31 }; 0 Halted { phase: PostDone, hook: 0 }; 1 Start; 1 Complete(0); 1 Halted { phase: Pre, hook: 31 }; 1 Halted { phase: PostDone, hook: 0 };
-["delete","create"] => [{"seconds":11,"warning":{"summary":"slow"}}] => 0 Start; 0 Progress(10); 0 Complete(11); 0 WarnNote; 0 Halted { phase: Pre, hook: 31 }; 0 Halted { phase: PostDone, hook: 0 }; 1 Start; 1 Complete(0); 1 Halted { phase: Pre, hook: 31 }; 1 Halted { phase: PostDone, hook: 0 };
-["delete","create"] => [{"seconds":25,"failed":{"summary":"boom"}}] => 0 Start; 0 Progress(10); 0 Progress(20); 0 Errored(25); 0 ErrorNote; 0 Halted { phase: Pre, hook: 31 }; 0 Halted { phase: PostFailed, hook: 0 }; 1 Start; 1 Complete(0); 1 Halted { phase: Pre, hook: 31 }; 1 Halted { phase: PostDone, hook: 0 };
-["delete","create"] => [{"seconds":0},{"seconds":1,"warning":{"summary":"slow"},"provisioners":[{"provisioner":"a","seconds":8,"output":["x","y"]},{"provisioner":"b","seconds":2}]}] => 0 Start; 0 Complete(0); 0 Halted { phase: Pre, hook: 31 }; 0 Halted { phase: PostDone, hook: 0 }; 1 Start; 1 Progress(10); 1 Complete(11); 1 WarnNote; 1 Halted { phase: Pre, hook: 31 }; 1 Halted { phase: PostDone, hook: 0 }; 1 ProvisionStart(0); 1 ProvisionOutput { prov: 0, line: 0 }; 1 ProvisionOutput { prov: 0, line: 1 }; 1 ProvisionComplete(0); 1 ProvisionStart(1); 1 ProvisionComplete(1);
-["delete","create"] => [{"seconds":0},{"seconds":1,"warning":{"summary":"slow"},"provisioners":[{"provisioner":"a","seconds":9,"output":["x"],"failed":{"summary":"boom"}},{"provisioner":"b","seconds":15,"output":["y"]}]}] => 0 Start; 0 Complete(0); 0 Halted { phase: Pre, hook: 31 }; 0 Halted { phase: PostDone, hook: 0 }; 1 Start; 1 Errored(10); 1 ErrorNote; 1 Halted { phase: Pre, hook: 31 }; 1 Halted { phase: PostFailed, hook: 0 }; 1 ProvisionStart(0); 1 ProvisionOutput { prov: 0, line: 0 }; 1 ProvisionErrored(0);
-["delete","create"] => [{"seconds":10},{"skipped":true}] => 0 Start; 0 Complete(10); 0 Halted { phase: Pre, hook: 31 }; 0 Halted { phase: PostDone, hook: 0 };
+    r#"["delete","create"] => [{"seconds":10}] => (0, Start); (0, Complete(10)); (0, Halted { phase: Pre, hook: 31 }); (0, Halted { phase: PostDone, hook: 0 }); (1, Start); (1, Complete(0)); (1, Halted { phase: Pre, hook: 31 }); (1, Halted { phase: PostDone, hook: 0 });
+["delete","create"] => [{"seconds":11,"warning":{"summary":"slow"}}] => (0, Start); (0, Progress(10)); (0, Complete(11)); (0, WarnNote); (0, Halted { phase: Pre, hook: 31 }); (0, Halted { phase: PostDone, hook: 0 }); (1, Start); (1, Complete(0)); (1, Halted { phase: Pre, hook: 31 }); (1, Halted { phase: PostDone, hook: 0 });
+["delete","create"] => [{"seconds":25,"failed":{"summary":"boom"}}] => (0, Start); (0, Progress(10)); (0, Progress(20)); (0, Errored(25)); (0, ErrorNote); (0, Halted { phase: Pre, hook: 31 }); (0, Halted { phase: PostFailed, hook: 0 }); (1, Start); (1, Complete(0)); (1, Halted { phase: Pre, hook: 31 }); (1, Halted { phase: PostDone, hook: 0 });
+["delete","create"] => [{"seconds":0},{"seconds":1,"warning":{"summary":"slow"},"provisioners":[{"provisioner":"a","seconds":8,"output":["x","y"]},{"provisioner":"b","seconds":2}]}] => (0, Start); (0, Complete(0)); (0, Halted { phase: Pre, hook: 31 }); (0, Halted { phase: PostDone, hook: 0 }); (1, Start); (1, Progress(10)); (1, Complete(11)); (1, WarnNote); (1, Halted { phase: Pre, hook: 31 }); (1, Halted { phase: PostDone, hook: 0 }); (1, ProvisionStart(0)); (1, ProvisionOutput { prov: 0, line: 0 }); (1, ProvisionOutput { prov: 0, line: 1 }); (1, ProvisionComplete(0)); (1, ProvisionStart(1)); (1, ProvisionComplete(1));
+["delete","create"] => [{"seconds":0},{"seconds":1,"warning":{"summary":"slow"},"provisioners":[{"provisioner":"a","seconds":9,"output":["x"],"failed":{"summary":"boom"}},{"provisioner":"b","seconds":15,"output":["y"]}]}] => (0, Start); (0, Complete(0)); (0, Halted { phase: Pre, hook: 31 }); (0, Halted { phase: PostDone, hook: 0 }); (1, Start); (1, Errored(10)); (1, ErrorNote); (1, Halted { phase: Pre, hook: 31 }); (1, Halted { phase: PostFailed, hook: 0 }); (1, ProvisionStart(0)); (1, ProvisionOutput { prov: 0, line: 0 }); (1, ProvisionErrored(0));
+["delete","create"] => [{"seconds":10},{"skipped":true}] => (0, Start); (0, Complete(10)); (0, Halted { phase: Pre, hook: 31 }); (0, Halted { phase: PostDone, hook: 0 });
 ["delete","create"] => [{"skipped":true},{"seconds":5}] => 
-["read"] => [{"seconds":10,"failed":{"severity":"warning","summary":"no"}}] => 0 Start; 0 WarnNote; 0 Halted { phase: Pre, hook: 31 }; 0 Halted { phase: PostDone, hook: 0 };"#;
+["read"] => [{"seconds":10,"failed":{"severity":"warning","summary":"no"}}] => (0, Start); (0, WarnNote); (0, Halted { phase: Pre, hook: 31 }); (0, Halted { phase: PostDone, hook: 0 });"#;
 
 /// How much is tried of a step, and of which on notes are, up to the provisioners.
 const TRIED: u8 = 37;
@@ -40,10 +40,22 @@ fn what_of(number: u8) -> What {
         12 => What::Errored(25),
         13 => What::ErrorNote,
         14 => What::WarnNote,
-        15 => halted(Phase::Pre, 31),
-        16 => halted(Phase::Pre, 32),
-        17 => halted(Phase::PostDone, 0),
-        18 => halted(Phase::PostFailed, 0),
+        15 => What::Halted {
+            phase: Phase::Pre,
+            hook: 31,
+        },
+        16 => What::Halted {
+            phase: Phase::Pre,
+            hook: 32,
+        },
+        17 => What::Halted {
+            phase: Phase::PostDone,
+            hook: 0,
+        },
+        18 => What::Halted {
+            phase: Phase::PostFailed,
+            hook: 0,
+        },
         _ => of_provisioner(number.wrapping_sub(PROVISIONERS)),
     }
 }
@@ -61,10 +73,6 @@ fn of_provisioner(number: u8) -> What {
     }
 }
 
-fn halted(phase: Phase, hook: u8) -> What {
-    What::Halted { phase, hook }
-}
-
 fn event(change: u32, step: u8, what: What, at: u64) -> Event {
     Event {
         worker: 200,
@@ -75,70 +83,62 @@ fn event(change: u32, step: u8, what: What, at: u64) -> Event {
     }
 }
 
-/// Adds what can happen to a step, of what is tried.
-fn push_step(
-    rt: &impl Abort,
-    alloc: Global,
-    text: &mut String,
-    plan: &Plan,
-    script: &Script,
-    step: u8,
-) {
-    for number in 0..TRIED {
-        let what = what_of(number);
-        if fits(plan, script, &event(0, step, what, 0)) {
-            push_value(rt, alloc, text, &step, " ");
-            push_value(rt, alloc, text, &what, "; ");
-        }
-    }
-}
-
-/// What can happen to three steps.
+/// What can happen to three steps, of what is tried.
 fn fitting(rt: &impl Abort, alloc: Global, plan: &Plan, script: &Script) -> &'static str {
     let mut text = String::new(alloc);
-    for step in 0..3 {
-        push_step(rt, alloc, &mut text, plan, script, step);
+    for number in 0..3 * TRIED {
+        let (step, what) = (number / TRIED, what_of(number % TRIED));
+        if fits(plan, script, &event(0, step, what, 0)) {
+            push_value(rt, &mut text, "", &(step, what));
+        }
     }
     kept(rt, alloc, text).as_str()
 }
 
-/// Fails where a row of a table is another: the actions, the steps, and what can happen.
-fn rows_fit(rt: &impl Abort, alloc: Global, table: &str) {
-    for row in table.lines() {
-        let (actions, rest) = parted(rt, row);
-        let (steps, wanted) = parted(rt, rest);
-        let plan = plan_of(rt, alloc, actions);
-        let found = fitting(rt, alloc, plan, script_of(rt, alloc, plan, steps));
-        text_is(rt, row, found.trim_end(), wanted);
-    }
+/// Fails where a row is another: the actions, the steps, and what can happen.
+fn row_fits(rt: &impl Abort, alloc: Global, row: &str) {
+    let (actions, rest) = parted(rt, row);
+    let (steps, wanted) = parted(rt, rest);
+    let plan = plan_of(rt, alloc, actions);
+    let found = fitting(rt, alloc, plan, script_of(rt, alloc, plan, steps));
+    text_is(rt, row, found.trim_end(), wanted);
 }
 
 #[test]
 fn events_that_can_happen(rt: HostRuntime) {
-    rows_fit(&rt, rt.alloc(), FITTING);
+    for row in FITTING.lines() {
+        row_fits(&rt, rt.alloc(), row);
+    }
 }
 
 /// Fails where an event of a step at that moment is of the plan and should not be, or the other way round. It takes another time
 /// than the script says, and is of the plan for all that; a start can happen where it is.
-fn is_told_of(rt: &impl Abort, plan: &Plan, change: u32, step: u8, at: u64, wanted: bool) {
-    let found = is_of_plan(plan, &event(change, step, What::Complete(99), at));
+fn is_told_of(
+    rt: &impl Abort,
+    plan: &Plan,
+    script: &Script,
+    change: u32,
+    step: u8,
+    at: u64,
+    wanted: bool,
+) {
+    let completed = event(change, step, What::Complete(99), at);
+    let found = is_of_plan(plan, &completed);
     holds(rt, "an event of the plan", found == wanted);
-    let found = fits(
-        plan,
-        &Script::empty(),
-        &event(change, step, What::Start, at),
-    );
+    let started = event(change, step, What::Start, at);
+    let found = fits(plan, script, &started);
     holds(rt, "a start", found == wanted);
 }
 
 #[test]
 fn events_of_the_plan_have_its_steps_and_come_in_time(rt: HostRuntime) {
     let plan = plan_of(&rt, rt.alloc(), REPLACEMENT);
-    is_told_of(&rt, plan, 0, 0, 0, true);
-    is_told_of(&rt, plan, 0, 1, LATEST, true);
-    is_told_of(&rt, plan, 0, 1, 1_728_000_001, false);
-    is_told_of(&rt, plan, 0, 2, 0, false);
-    is_told_of(&rt, plan, 1, 0, 0, false);
+    let script = script_of(&rt, rt.alloc(), plan, NO_SCRIPT);
+    is_told_of(&rt, plan, script, 0, 0, 0, true);
+    is_told_of(&rt, plan, script, 0, 1, LATEST, true);
+    is_told_of(&rt, plan, script, 0, 1, 1_728_000_001, false);
+    is_told_of(&rt, plan, script, 0, 2, 0, false);
+    is_told_of(&rt, plan, script, 1, 0, 0, false);
 }
 
 #[test]

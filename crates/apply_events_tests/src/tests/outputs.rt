@@ -1,6 +1,6 @@
 //! Outputs of provisioners as no script tells them that is read.
 
-ghost use Rattle.std.specs.Prelude.{◌≤◌, length};
+ghost use Rattle.std.specs.Prelude.{◌≡◌, ◌≤◌, ◌+◌, ◌∷◌, [], length, vec_len};
 
 use super::*;
 use apply_model::{
@@ -13,12 +13,15 @@ fn hi(rt: &impl Abort, alloc: Global) -> Text {
     Text::new(alloc, "hi").ok().expect(rt, "memory")
 }
 
-/// A text that comes after so many seconds.
-fn timed(rt: &impl Abort, alloc: Global, after: u32) -> TimedText {
-    TimedText {
-        after,
-        text: hi(rt, alloc),
-    }
+/// Adds a text that comes after so many seconds.
+fn add(rt: &impl Abort, alloc: Global, texts: &mut Vec<TimedText>, after: u32)
+    ensures { vec_len texts.new ≤ vec_len texts.old + 1 }
+{
+    let text = hi(rt, alloc);
+    texts
+        .push(TimedText { after, text })
+        .ok()
+        .expect(rt, "memory");
 }
 
 /// Four texts that come after so many seconds each.
@@ -26,30 +29,27 @@ fn texts(rt: &impl Abort, alloc: Global, times: [u32; 4]) -> TimedTexts
     ensures { length result ≤ 4 }
 {
     let mut texts = Vec::new(alloc);
-    texts
-        .push(timed(rt, alloc, times[0]))
-        .ok()
-        .expect(rt, "memory");
-    texts
-        .push(timed(rt, alloc, times[1]))
-        .ok()
-        .expect(rt, "memory");
-    texts
-        .push(timed(rt, alloc, times[2]))
-        .ok()
-        .expect(rt, "memory");
-    texts
-        .push(timed(rt, alloc, times[3]))
-        .ok()
-        .expect(rt, "memory");
+    add(rt, alloc, &mut texts, times[0]);
+    add(rt, alloc, &mut texts, times[1]);
+    add(rt, alloc, &mut texts, times[2]);
+    add(rt, alloc, &mut texts, times[3]);
     TimedTexts::new(texts)
+}
+
+/// A list of one item.
+fn list_of<T: Drop>(rt: &impl Abort, alloc: Global, item: T) -> Vec<T>
+    ensures items { result.items ≡ item ∷ [] }
+    ensures few { vec_len result ≤ 1 }
+{
+    let mut list = Vec::new(alloc);
+    list.push(item).ok().expect(rt, "memory");
+    list
 }
 
 /// The script whose first change has one step: its provider takes 3 seconds, and a provisioner with these outputs 12.
 fn provisioned(rt: &impl Abort, alloc: Global, output: TimedTexts) -> &'static Script
     requires { length output ≤ 4 }
 {
-    let mut provisioners = Vec::new(alloc);
     let provisioner = Provisioner {
         name: hi(rt, alloc),
         seconds: 12,
@@ -57,42 +57,31 @@ fn provisioned(rt: &impl Abort, alloc: Global, output: TimedTexts) -> &'static S
         failed: None,
         may_fail: false,
     };
-    provisioners.push(provisioner).ok().expect(rt, "memory");
-    let mut steps = Vec::new(alloc);
     let step = ScriptStep::Answered(Outcome {
         seconds: 3,
-        provisioners: Provisioners::new(provisioners),
+        provisioners: Provisioners::new(list_of(rt, alloc, provisioner)),
         result: Ending::Done {
             id: None,
             warning: None,
         },
         after: Waits::new(Vec::new(alloc)),
     });
-    steps.push(step).ok().expect(rt, "memory");
-    let mut changes = Vec::new(alloc);
-    let steps = Some(StepOutcomes::new(steps));
-    changes.push(steps).ok().expect(rt, "memory");
-    kept(rt, alloc, Script::new(changes))
+    let steps = Some(StepOutcomes::new(list_of(rt, alloc, step)));
+    kept(rt, alloc, Script::new(list_of(rt, alloc, steps)))
 }
 
 /// Those that come too soon come with the one before them, and those that come too late with the end.
 const OUT_OF_TIME: &str =
-    "begins 0; 0 7 0.0 Start; 3 7 0.0 ProvisionStart(0); 10 7 0.0 Progress(10); 10 7 0.0 ProvisionOutput { prov: 0, line: 0 }; 10 7 0.0 ProvisionOutput { prov: 0, line: 1 }; 15 7 0.0 ProvisionOutput { prov: 0, line: 2 }; 15 7 0.0 ProvisionOutput { prov: 0, line: 3 }; 15 7 0.0 ProvisionComplete(0); 15 7 0.0 Complete(15); counted 1 0 0 0 0; ended 15;";
+    "begins 0; (0, 7, 0, 0, Start); (3, 7, 0, 0, ProvisionStart(0)); (10, 7, 0, 0, Progress(10)); (10, 7, 0, 0, ProvisionOutput { prov: 0, line: 0 }); (10, 7, 0, 0, ProvisionOutput { prov: 0, line: 1 }); (15, 7, 0, 0, ProvisionOutput { prov: 0, line: 2 }); (15, 7, 0, 0, ProvisionOutput { prov: 0, line: 3 }); (15, 7, 0, 0, ProvisionComplete(0)); (15, 7, 0, 0, Complete(15)); counted (1, 0, 0, 0, 0); ended 15;";
 
 #[test]
 fn outputs_out_of_time(rt: HostRuntime) {
     let alloc = rt.alloc();
-    let script = provisioned(&rt, alloc, texts(&rt, alloc, [7, 5, u32::MAX, 3]));
+    let texts = texts(&rt, alloc, [7, 5, u32::MAX, 3]);
+    let script = provisioned(&rt, alloc, texts);
     let plan = plan_of(&rt, alloc, CREATE);
-    is_told(
-        &rt,
-        alloc,
-        plan,
-        script,
-        &Registry::new(alloc),
-        0,
-        OUT_OF_TIME,
-    );
+    let none = kept(&rt, alloc, Registry::new(alloc));
+    is_told(&rt, alloc, plan, script, none, 0, OUT_OF_TIME);
 }
 
 /// Fails where texts after these seconds are in time, or are not, of a provisioner that takes so many.

@@ -1,6 +1,6 @@
 use Rattle.std.proofs.Common.{length}
 use Rattle.apply_events.specs.Lanes.ToCome.{to_come}
-use Rattle.apply_events_tests.proofs.tests.lanes.lane_events.Given as goal
+use Rattle.apply_events_tests.proofs.tests.lanes.reported.Given as goal
 
 abbrev pub decreases-loop-event : goal.decreases-loop-event
 decreases-loop-event g l = length (to_come l.lanes)
