@@ -4,7 +4,6 @@ ghost use Rattle.std.specs.Prelude.{◌≡◌, true};
 
 mod accepted;
 mod limits;
-mod never_beginning;
 mod outcomes;
 mod own_texts;
 mod plain;
@@ -13,9 +12,8 @@ mod provisioning;
 mod skipped;
 mod table;
 mod tells;
-mod waits;
 
-use self::table::{compare, plans_are_answered};
+use self::table::compare;
 use apply_plan::{Plan, Script, Text, read_plan, read_script};
 use std::alloc::Global;
 use std::fmt::{Debug, Display};
@@ -54,21 +52,13 @@ fn shown(rt: &impl Abort, alloc: Global, value: &impl Display) -> &'static str {
     kept_text(rt, alloc, value.to_string(alloc).expect(rt, "memory"))
 }
 
-/// What `Debug` prints of it.
-fn printed(rt: &impl Abort, alloc: Global, value: &impl Debug) -> &'static str {
+/// What `Debug` prints of it. The lifetime is left open: the borrow checker takes no `'static` here where the value has several.
+fn printed<'a>(rt: &impl Abort, alloc: Global, value: &impl Debug) -> &'a str {
     kept_text(
         rt,
         alloc,
         format!(in alloc; "{value:?}").expect(rt, "memory"),
     )
-}
-
-/// What is answered to bytes as a plan: `accepted`, or the text of the refusal.
-fn answer_to_plan(rt: &impl Abort, alloc: Global, bytes: &[u8]) -> &'static str {
-    match kept(rt, alloc, read_plan(alloc, bytes)) {
-        Ok(_) => "accepted",
-        Err(error) => shown(rt, alloc, error),
-    }
 }
 
 /// Fails where it is not so. A proof grows by each assertion, and by less where it is a call.
@@ -78,13 +68,8 @@ fn holds(rt: &impl Abort, case: &str, is_so: bool)
     assert!(rt; is_so, "{case}");
 }
 
-/// Fails where another text was found.
-fn text_is(rt: &impl Abort, found: &str, wanted: &str) {
-    compare(rt, wanted, found, wanted);
-}
-
 #[test]
 fn a_text_keeps_its_bytes(rt: HostRuntime) {
     let text = Text::new(rt.alloc(), "a").expect(&rt, "memory");
-    text_is(&rt, text.as_str(), "a");
+    compare(&rt, "a text", text.as_str(), "a");
 }

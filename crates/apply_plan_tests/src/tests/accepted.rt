@@ -1,94 +1,78 @@
 //! What an accepted plan tells of its parts.
 
 use super::plain::reads_as_plainly;
-use super::table::{cells, compare, push, put, rows};
+use super::table::{cells, compare, first_line, push, put, rows};
 use super::*;
 use apply_plan::Change;
 
-/// That part of a change, where it is a text.
-fn text_of_change<'a>(change: &'a Change, part: &str) -> Option<&'a str> {
-    match part {
-        "address" => Some(change.address()),
-        "module" => Some(change.module()),
-        "resource" => Some(change.resource()),
-        "kind_name" => Some(change.kind_name()),
-        "provider" => Some(change.provider()),
-        "name" => Some(change.name()),
-        _ => None,
+/// What a change tells in texts: its address, the module, the resource, its type, the provider, and its name.
+fn texts_of(rt: &impl Abort, alloc: Global, change: &Change) -> &'static str {
+    let texts = (
+        change.address(),
+        change.module(),
+        change.resource(),
+        change.kind_name(),
+        change.provider(),
+        change.name(),
+    );
+    printed(rt, alloc, &texts)
+}
+
+/// What it tells in other values: its mode, its key, the deposed key, the prior id, and its steps.
+fn values_of(rt: &impl Abort, alloc: Global, change: &Change) -> &'static str {
+    let values = (
+        change.mode(),
+        change.key(),
+        change.deposed(),
+        change.prior_id(),
+        change.steps(),
+    );
+    printed(rt, alloc, &values)
+}
+
+/// Adds all that a change tells.
+fn push_parts(rt: &impl Abort, alloc: Global, line: &mut String, change: &Change) {
+    push(rt, line, texts_of(rt, alloc, change));
+    push(rt, line, values_of(rt, alloc, change));
+}
+
+/// The number of changes and the version of a plan, and all that its changes tell, in one line.
+fn parts_of(rt: &impl Abort, alloc: Global, plan: &Plan) -> &'static str {
+    let mut line = String::new(alloc);
+    let top = (plan.len(), plan.version());
+    push(rt, &mut line, printed(rt, alloc, &top));
+    for number in 0..plan.len() {
+        push_parts(rt, alloc, &mut line, plan.change(number));
     }
+    kept_text(rt, alloc, line)
 }
 
-/// Any other part of a change, as `Debug` prints it.
-fn value_of_change(rt: &impl Abort, alloc: Global, change: &Change, part: &str) -> &'static str {
-    match part {
-        "mode" => printed(rt, alloc, &change.mode()),
-        "key" => printed(rt, alloc, &change.key()),
-        "deposed" => printed(rt, alloc, &change.deposed()),
-        "prior_id" => printed(rt, alloc, &change.prior_id()),
-        "steps" => printed(rt, alloc, &change.steps()),
-        _ => "no such part",
-    }
+/// Reads the plan that has the row's cell in the place of `CELL`, which the plain reader has to read alike, and compares
+/// what it tells.
+fn plan_tells(rt: &impl Abort, alloc: Global, told: &str, plan: &str, row: &str) {
+    let (cell, wanted) = cells(rt, row);
+    let text = put(rt, alloc, plan, "CELL", cell);
+    reads_as_plainly(rt, alloc, text);
+    let found = parts_of(rt, alloc, plan_of(rt, alloc, text));
+    compare(rt, cell, found, put(rt, alloc, told, "CELL", wanted));
 }
 
-/// That part of a change, as `Debug` prints it.
-fn part_of_change(rt: &impl Abort, alloc: Global, change: &Change, part: &str) -> &'static str {
-    match text_of_change(change, part) {
-        Some(text) => printed(rt, alloc, &text),
-        None => value_of_change(rt, alloc, change, part),
-    }
-}
-
-/// That part of the only change of a plan, as `Debug` prints it.
-fn part_of_only(rt: &impl Abort, alloc: Global, plan: &Plan, part: &str) -> &'static str {
-    holds(rt, "one change", plan.len() == 1);
-    part_of_change(rt, alloc, plan.change(0), part)
-}
-
-/// That part of a plan or of its only change, as `Debug` prints it.
-fn part_of(rt: &impl Abort, alloc: Global, plan: &Plan, part: &str) -> &'static str {
-    match part {
-        "len" => printed(rt, alloc, &plan.len()),
-        "version" => printed(rt, alloc, &plan.version()),
-        _ => part_of_only(rt, alloc, plan, part),
-    }
-}
-
-/// These parts of a plan, with blanks between them.
-fn parts_of(rt: &impl Abort, alloc: Global, plan: &Plan, parts: &str) -> &'static str {
-    let mut told = String::new(alloc);
-    for part in parts.split_whitespace() {
-        if !told.is_empty() {
-            push(rt, &mut told, " ");
-        }
-        push(rt, &mut told, part_of(rt, alloc, plan, part));
-    }
-    kept_text(rt, alloc, told)
-}
-
-/// Reads the plan, which the plain reader has to read alike, and compares these parts of it.
-fn plan_tells(rt: &impl Abort, alloc: Global, case: &str, plan: &str, parts: &str, wanted: &str) {
-    reads_as_plainly(rt, alloc, plan);
-    let found = parts_of(rt, alloc, plan_of(rt, alloc, plan), parts);
-    compare(rt, case, found, wanted);
-}
-
-/// The same for each row: a plan that has the first cell in the place of `CELL`.
-fn plans_tell(rt: &impl Abort, alloc: Global, plan: &str, parts: &str, table: &str) {
+/// The same for each row of a block: what its plans tell, and a plan, both with `CELL` in them, and what stands there.
+fn plans_tell(rt: &impl Abort, alloc: Global, block: &str) {
+    let (told, rest) = first_line(rt, block);
+    let (plan, table) = first_line(rt, rest);
     for row in rows(rt, table) {
-        let (cell, wanted) = cells(rt, row);
-        let text = put(rt, alloc, plan, "CELL", cell);
-        plan_tells(rt, alloc, cell, text, parts, wanted);
+        plan_tells(rt, alloc, told, plan, row);
     }
 }
 
-/// Parts of a plan or of its only change, a plan with `CELL` in it, and rows of what stands there and what these parts are; an
-/// empty line stands between two.
-const PARTS: &str =
-    r#"version address module resource kind_name provider name mode key deposed prior_id steps
+/// What plans tell, a plan, and rows of what stands in the place of `CELL` in the plan and in what it tells; an empty line
+/// stands between two.
+const PARTS: &str = r#"CELL
 {CELL,"terraform_version":"1.9.0","resource_changes":[{"address":"module.a[\"x.y\"].aws_instance.web[\"k\\\"1\"]","module_address":"module.a[\"x.y\"]","mode":"managed","type":"aws_instance","name":"web","index":"k\"1","change":{"actions":["create"]}}]}
-"format_version":"1.2" => "1.9.0" "module.a[\"x.y\"].aws_instance.web[\"k\\\"1\"]" "module.a[\"x.y\"]" "aws_instance.web[\"k\\\"1\"]" "aws_instance" "aws" "web" Managed Name(Text { inner: "k\"1" }) None None [Create]
+"format_version":"1.2" => (1, "1.9.0")("module.a[\"x.y\"].aws_instance.web[\"k\\\"1\"]", "module.a[\"x.y\"]", "aws_instance.web[\"k\\\"1\"]", "aws_instance", "aws", "web")(Managed, Name(Text { inner: "k\"1" }), None, None, [Create])
 
-steps
+(1, "0.0.0")("null_resource.a", "", "null_resource.a", "null_resource", "null", "a")(Managed, None, None, None, CELL)
 {"format_version":"1.2","resource_changes":[{"address":"null_resource.a","mode":"managed","type":"null_resource","name":"a","change":{"actions":CELL}}]}
 ["no-op"] => []
 ["create"] => [Create]
@@ -99,7 +83,7 @@ steps
 ["create","delete"] => [Create, Delete]
 ["forget"] => []
 
-prior_id
+(1, "0.0.0")("a.b", "", "a.b", "a", "a", "b")(Managed, None, None, CELL, [Update])
 {"format_version":"1.2","resource_changes":[{"address":"a.b","mode":"managed","type":"a","name":"b","change":{CELL,"actions":["update"]}}]}
 "before":{"id":"i-1"} => Some("i-1")
 "before":{"id":"i-1"},"before_sensitive":{"id":false} => Some("i-1")
@@ -123,56 +107,46 @@ prior_id
 "before":{"id":"i-1"},"before_sensitive":true,"before_sensitive":null => Some("i-1")
 "before":{"id":"i-1"},"before_sensitive":{"id":true,"id":false} => Some("i-1")
 
-provider mode key
+(1, "0.0.0")("a.b", "", "a.b", CELL, "b")(DataSource, Number(-1), None, None, [Read])
 {"format_version":"1.2","resource_changes":[{"address":"a.b","mode":"data","type":"CELL","name":"b","index":-1,"change":{"actions":["read"]}}]}
-random_pet => "random" DataSource Number(-1)
-terraform => "terraform" DataSource Number(-1)
-terraform_data => "terraform" DataSource Number(-1)
-a_b_c => "a" DataSource Number(-1)
-_x => "" DataSource Number(-1)
+random_pet => "random_pet", "random"
+terraform => "terraform", "terraform"
+terraform_data => "terraform_data", "terraform"
+a_b_c => "a_b_c", "a"
+_x => "_x", ""
 
-key module resource
+(1, "0.0.0")("a.b", "", "a.b", "a", "a", "b")(Managed, CELL, None, None, [Create])
 {"format_version":"1.2","resource_changes":[{"address":"a.b","module_address":"","mode":"managed","type":"a","name":"b","index":CELL,"change":{"actions":["create"]}}]}
-null => None "" "a.b"
-0 => Number(0) "" "a.b"
-9223372036854775807 => Number(9223372036854775807) "" "a.b"
--9223372036854775808 => Number(-9223372036854775808) "" "a.b"
-"" => Name(Text { inner: "" }) "" "a.b"
-"k" => Name(Text { inner: "k" }) "" "a.b"
+null => None
+0 => Number(0)
+9223372036854775807 => Number(9223372036854775807)
+-9223372036854775808 => Number(-9223372036854775808)
+"" => Name(Text { inner: "" })
+"k" => Name(Text { inner: "k" })
 
-len version
+(CELL)
 CELL
-{"format_version":"1.0"} => 0 "0.0.0"
-{"format_version":"1."} => 0 "0.0.0"
-{"format_version":"1.2","terraform_version":null,"resource_changes":null} => 0 "0.0.0"
-{"format_version":"1.2","terraform_version":"","resource_changes":[]} => 0 ""
-{"format_version":"1.2","terraform_version":"1.9.0","errored":true} => 0 "1.9.0"
-{"format_version":"2.0","format_version":"1.0","other":{"a":[null,1.5]}} => 0 "0.0.0""#;
+{"format_version":"1.0"} => 0, "0.0.0"
+{"format_version":"1."} => 0, "0.0.0"
+{"format_version":"1.2","terraform_version":null,"resource_changes":null} => 0, "0.0.0"
+{"format_version":"1.2","terraform_version":"","resource_changes":[]} => 0, ""
+{"format_version":"1.2","terraform_version":"1.9.0","errored":true} => 0, "1.9.0"
+{"format_version":"2.0","format_version":"1.0","other":{"a":[null,1.5]}} => 0, "0.0.0""#;
 
 #[test]
 fn plans_tell_their_parts(rt: HostRuntime) {
     for block in PARTS.split("\n\n") {
-        let (parts, rest) = block.split_once("\n").expect(&rt, block);
-        let (plan, table) = rest.split_once("\n").expect(&rt, rest);
-        plans_tell(&rt, rt.alloc(), plan, parts, table);
+        plans_tell(&rt, rt.alloc(), block);
     }
 }
 
 /// Two objects of one address, of which the second is deposed.
 const DEPOSED: &str =
-    r#"{"format_version":"1.2","resource_changes":[{"address":"a.b","mode":"managed","type":"a","name":"b","change":{"actions":["delete"]}},{"address":"a.b","deposed":"00000001","mode":"managed","type":"a","name":"b","change":{"actions":["delete"]}}]}"#;
-
-/// Fails where the change is of an object with another deposed key.
-fn is_deposed_as(rt: &impl Abort, alloc: Global, change: &Change, wanted: &str) {
-    text_is(rt, printed(rt, alloc, &change.deposed()), wanted);
-}
+    r#"(2, "0.0.0")("a.b", "", "a.b", "a", "a", "b")(Managed, None, None, None, [Delete])("a.b", "", "a.b", "a", "a", "b")(Managed, None, Some("CELL"), None, [Delete])
+{"format_version":"1.2","resource_changes":[{"address":"a.b","mode":"managed","type":"a","name":"b","change":{"actions":["delete"]}},{"address":"a.b","deposed":"CELL","mode":"managed","type":"a","name":"b","change":{"actions":["delete"]}}]}
+00000001 => 00000001"#;
 
 #[test]
 fn deposed_keys_are_kept(rt: HostRuntime) {
-    let alloc = rt.alloc();
-    reads_as_plainly(&rt, alloc, DEPOSED);
-    let plan = plan_of(&rt, alloc, DEPOSED);
-    holds(&rt, "two changes", plan.len() == 2);
-    is_deposed_as(&rt, alloc, plan.change(0), "None");
-    is_deposed_as(&rt, alloc, plan.change(1), r#"Some("00000001")"#);
+    plans_tell(&rt, rt.alloc(), DEPOSED);
 }

@@ -1,64 +1,27 @@
 //! What a script says of steps.
 
-use super::table::{cells, compare, push, rows};
+use super::table::{cells, compare, first_line, rows};
 use super::*;
-use apply_plan::{Diag, Ending, Outcome};
 
-/// Five changes: an update, a replacement, a deposed object at the address of the update, a change of nothing, and a
-/// create.
-const FIVE_CHANGES: &str =
-    r#"{"format_version":"1.2","resource_changes":[{"address":"a.a","mode":"managed","type":"a","name":"a","change":{"actions":["update"]}},{"address":"a.b","mode":"managed","type":"a","name":"b","change":{"actions":["delete","create"]}},{"address":"a.a","deposed":"00000001","mode":"managed","type":"a","name":"a","change":{"actions":["delete"]}},{"address":"a.c","mode":"managed","type":"a","name":"c","change":{"actions":["no-op"]}},{"address":"a.d","mode":"managed","type":"a","name":"d","change":{"actions":["create"]}}]}"#;
-
-/// Adds a blank, and what `Debug` prints of a text.
-pub fn push_printed(rt: &impl Abort, alloc: Global, shown: &mut String, text: &str) {
-    push(rt, shown, " ");
-    push(rt, shown, printed(rt, alloc, &text));
-}
-
-/// Adds what it is called, and both texts of a diagnostic.
-pub fn push_diag(rt: &impl Abort, alloc: Global, shown: &mut String, name: &str, diag: &Diag) {
-    push(rt, shown, name);
-    push_printed(rt, alloc, shown, diag.summary.as_str());
-    push_printed(rt, alloc, shown, diag.detail.as_str());
-}
-
-/// Adds what a step that is done tells.
-fn push_done(
+/// What the script says of the step, as `Debug` prints it: its seconds, how it ends, its provisioners, and what it waits for;
+/// and `default` where the script says nothing.
+pub fn said(
     rt: &impl Abort,
     alloc: Global,
-    shown: &mut String,
-    id: Option<&Text>,
-    warning: Option<&Diag>,
-) {
-    push(rt, shown, " done");
-    if let Some(id) = id {
-        push(rt, shown, ", id");
-        push_printed(rt, alloc, shown, id.as_str());
-    }
-    if let Some(warning) = warning {
-        push_diag(rt, alloc, shown, ", warning", warning);
-    }
-}
-
-/// The outcome in one line: `SECONDS done, id "ID", warning "SUMMARY" "DETAIL"`, `SECONDS failed "SUMMARY" "DETAIL"`, or the
-/// same with `warned`, without its provisioners.
-pub fn line_of(rt: &impl Abort, alloc: Global, outcome: &Outcome) -> &'static str {
-    let mut line = String::new(alloc);
-    push(rt, &mut line, shown(rt, alloc, &outcome.seconds));
-    match &outcome.result {
-        Ending::Done { id, warning } => {
-            push_done(rt, alloc, &mut line, id.as_ref(), warning.as_ref());
-        }
-        Ending::Failed { diag } => push_diag(rt, alloc, &mut line, " failed", diag),
-        Ending::Warned { diag } => push_diag(rt, alloc, &mut line, " warned", diag),
-    }
-    kept_text(rt, alloc, line)
-}
-
-/// What the script says of the step in one line, and `default` where it says nothing.
-fn said(rt: &impl Abort, alloc: Global, script: &Script, change: u32, step: u8) -> &'static str {
+    script: &Script,
+    change: u32,
+    step: u8,
+) -> &'static str {
     match script.outcome(change, step) {
-        Some(outcome) => line_of(rt, alloc, outcome),
+        Some(outcome) => {
+            let said = (
+                outcome.seconds,
+                &outcome.result,
+                &outcome.provisioners,
+                &outcome.after,
+            );
+            printed(rt, alloc, &said)
+        }
         None => "default",
     }
 }
@@ -85,21 +48,29 @@ fn steps_are_said(rt: &impl Abort, alloc: Global, script: &Script, table: &str) 
     }
 }
 
-/// A script in another order than the plan's, with nothing of the third change.
-const SAYS: &str =
-    r#"{"changes":[{"address":"a.d","steps":[{"seconds":5,"failed":{"summary":"boom","detail":"why"}}]},{"address":"a.c","steps":[]},{"address":"a.b","deposed":"","steps":[{"seconds":1},{"seconds":86400,"id":"42","warning":{"summary":"slow","detail":"very"}}]},{"address":"a.a","steps":[{"seconds":3,"id":"i-1"}]}]}"#;
+/// The same of a block: a plan, a script, and rows.
+fn script_says(rt: &impl Abort, alloc: Global, block: &str) {
+    let (plan, rest) = first_line(rt, block);
+    let (script, table) = first_line(rt, rest);
+    steps_are_said(rt, alloc, script_of(rt, alloc, plan, script), table);
+}
 
-/// By the numbers of the changes, and of the steps in them.
-const SAID: &str = r#"
-0 => 0 => 3 done, id "i-1"
+/// Plans, scripts, and what is said by the numbers of the changes, and of the steps in them; an empty line stands between two.
+/// The first plan has five changes: an update, a replacement, a deposed object at the address of the update, a change of
+/// nothing, and a create. Its script is in another order, with nothing of the third change. In the second the deposed object
+/// is named, in the third nothing. In the last an update waits for a replacement that creates first: a text names its last step.
+const SAID: &str =
+    r#"{"format_version":"1.2","resource_changes":[{"address":"a.a","mode":"managed","type":"a","name":"a","change":{"actions":["update"]}},{"address":"a.b","mode":"managed","type":"a","name":"b","change":{"actions":["delete","create"]}},{"address":"a.a","deposed":"00000001","mode":"managed","type":"a","name":"a","change":{"actions":["delete"]}},{"address":"a.c","mode":"managed","type":"a","name":"c","change":{"actions":["no-op"]}},{"address":"a.d","mode":"managed","type":"a","name":"d","change":{"actions":["create"]}}]}
+{"changes":[{"address":"a.d","steps":[{"seconds":5,"failed":{"summary":"boom","detail":"why"}}]},{"address":"a.c","steps":[]},{"address":"a.b","deposed":"","steps":[{"seconds":1},{"seconds":86400,"id":"42","warning":{"summary":"slow","detail":"very"}}]},{"address":"a.a","steps":[{"seconds":3,"id":"i-1"}]}]}
+0 => 0 => (3, Done { id: Some(Text { inner: "i-1" }), warning: None }, Provisioners { provisioners: [] }, Waits { waits: [] })
 0 => 1 => default
-1 => 0 => 1 done
-1 => 1 => 86400 done, id "42", warning "slow" "very"
+1 => 0 => (1, Done { id: None, warning: None }, Provisioners { provisioners: [] }, Waits { waits: [] })
+1 => 1 => (86400, Done { id: Some(Text { inner: "42" }), warning: Some(Diag { summary: Text { inner: "slow" }, detail: Text { inner: "very" }, range: None, snippet: None }) }, Provisioners { provisioners: [] }, Waits { waits: [] })
 1 => 2 => default
 2 => 0 => default
 2 => 1 => default
 3 => 0 => default
-4 => 0 => 5 failed "boom" "why"
+4 => 0 => (5, Failed { diag: Diag { summary: Text { inner: "boom" }, detail: Text { inner: "why" }, range: None, snippet: None } }, Provisioners { provisioners: [] }, Waits { waits: [] })
 4 => 1 => default
 0 => 255 => default
 4 => 255 => default
@@ -107,28 +78,37 @@ const SAID: &str = r#"
 10000 => 0 => default
 4294967295 => 0 => default
 4294967295 => 255 => default
-"#;
 
-const SAYS_OF_DEPOSED: &str =
-    r#"{"changes":[{"address":"a.a","deposed":"00000001","steps":[{"seconds":7}]},{"address":"a.b","steps":[{"seconds":8}]}]}"#;
-
-const SAID_OF_DEPOSED: &str = r#"
+{"format_version":"1.2","resource_changes":[{"address":"a.a","mode":"managed","type":"a","name":"a","change":{"actions":["update"]}},{"address":"a.b","mode":"managed","type":"a","name":"b","change":{"actions":["delete","create"]}},{"address":"a.a","deposed":"00000001","mode":"managed","type":"a","name":"a","change":{"actions":["delete"]}},{"address":"a.c","mode":"managed","type":"a","name":"c","change":{"actions":["no-op"]}},{"address":"a.d","mode":"managed","type":"a","name":"d","change":{"actions":["create"]}}]}
+{"changes":[{"address":"a.a","deposed":"00000001","steps":[{"seconds":7}]},{"address":"a.b","steps":[{"seconds":8}]}]}
 0 => 0 => default
-1 => 0 => 8 done
+1 => 0 => (8, Done { id: None, warning: None }, Provisioners { provisioners: [] }, Waits { waits: [] })
 1 => 1 => default
-2 => 0 => 7 done
+2 => 0 => (7, Done { id: None, warning: None }, Provisioners { provisioners: [] }, Waits { waits: [] })
 4 => 0 => default
-"#;
+
+{"format_version":"1.2","resource_changes":[{"address":"a.a","mode":"managed","type":"a","name":"a","change":{"actions":["update"]}},{"address":"a.b","mode":"managed","type":"a","name":"b","change":{"actions":["delete","create"]}},{"address":"a.a","deposed":"00000001","mode":"managed","type":"a","name":"a","change":{"actions":["delete"]}},{"address":"a.c","mode":"managed","type":"a","name":"c","change":{"actions":["no-op"]}},{"address":"a.d","mode":"managed","type":"a","name":"d","change":{"actions":["create"]}}]}
+{"changes":[]}
+0 => 0 => default
+1 => 1 => default
+4 => 0 => default
+5 => 0 => default
+4294967295 => 255 => default
+
+{"format_version":"1.2","resource_changes":[{"address":"null_resource.a","mode":"managed","type":"null_resource","name":"a","change":{"actions":["create","delete"]}},{"address":"null_resource.b","mode":"managed","type":"null_resource","name":"b","change":{"actions":["update"]}}]}
+{"changes":[{"address":"null_resource.b","steps":[{"seconds":3,"after":[{"address":"null_resource.a","step":0},"null_resource.a"]}]},{"address":"null_resource.a","steps":[{"seconds":1},{"seconds":2,"failed":{"summary":"boom"},"after":null}]}]}
+1 => 0 => (3, Done { id: None, warning: None }, Provisioners { provisioners: [] }, Waits { waits: [Wait { change: 0, step: 0 }, Wait { change: 0, step: 1 }] })
+0 => 0 => (1, Done { id: None, warning: None }, Provisioners { provisioners: [] }, Waits { waits: [] })
+0 => 1 => (2, Failed { diag: Diag { summary: Text { inner: "boom" }, detail: Text { inner: "" }, range: None, snippet: None } }, Provisioners { provisioners: [] }, Waits { waits: [] })"#;
 
 #[test]
 fn a_script_says_what_is_written(rt: HostRuntime) {
-    let alloc = rt.alloc();
-    let script = script_of(&rt, alloc, FIVE_CHANGES, SAYS);
-    steps_are_said(&rt, alloc, script, SAID);
-    let deposed = script_of(&rt, alloc, FIVE_CHANGES, SAYS_OF_DEPOSED);
-    steps_are_said(&rt, alloc, deposed, SAID_OF_DEPOSED);
+    for block in SAID.split("\n\n") {
+        script_says(&rt, rt.alloc(), block);
+    }
 }
 
+/// What a script says that was not read.
 const NOTHING: &str = r#"
 0 => 0 => default
 1 => 1 => default
@@ -140,7 +120,7 @@ const NOTHING: &str = r#"
 #[test]
 fn an_empty_script_says_nothing(rt: HostRuntime) {
     let alloc = rt.alloc();
-    steps_are_said(&rt, alloc, &Script::empty(), NOTHING);
-    let read = script_of(&rt, alloc, FIVE_CHANGES, r#"{"changes":[]}"#);
-    steps_are_said(&rt, alloc, read, NOTHING);
+    let empty = kept(&rt, alloc, Script::empty());
+    steps_are_said(&rt, alloc, empty, NOTHING);
+    holds(&rt, "no waits", !empty.has_waits());
 }

@@ -1,25 +1,50 @@
 //! Reading a plan as the definition says it: from the whole tree, each element by itself, in a plan of its own, and
 //! compared with every one before it. Slow and plain; tests compare the reader with it.
+//!
+//! What was read is handed on as a text, in lines: that is proved sooner than where values are handed on, and dropped.
 
-use super::table::put;
+use super::table::{compare, push, put};
 use super::*;
 use apply_json::members::{array_or_empty, member, text_member, text_member_or};
 use apply_json::{JsonFault, parse};
 use apply_plan::{Change, MAX_BYTES, MAX_CHANGES, PlanError};
 use serde_json::Value;
 
-/// A plan that was read plainly.
-#[derive(Drop)]
-pub struct PlainPlan {
-    version: String,
-    /// A plan of one change for each change, in their order.
-    changes: Vec<Plan>,
+/// What the reader answers to a text.
+fn answer_to(rt: &impl Abort, alloc: Global, text: &str) -> &'static Result<Plan, PlanError> {
+    kept(rt, alloc, read_plan(alloc, text.as_bytes()))
 }
 
-/// The only change of a plan.
-fn only<'a>(rt: &impl Abort, plan: &'a Plan) -> &'a Change {
-    holds(rt, "one change", plan.len() == 1);
-    plan.change(0)
+/// The object of a change in a line of its own, which stands in no lines of other changes.
+fn object_of(rt: &impl Abort, alloc: Global, change: &Change) -> &'static str {
+    let address = change.address();
+    let deposed = change.deposed();
+    let line = format!(in alloc; "\n{address:?} {deposed:?}\n");
+    kept_text(rt, alloc, line.expect(rt, "memory"))
+}
+
+/// Adds a change: the line of its object, and one of all that it is.
+fn push_change(rt: &impl Abort, alloc: Global, lines: &mut String, change: &Change) {
+    push(rt, lines, object_of(rt, alloc, change));
+    push(rt, lines, printed(rt, alloc, change));
+}
+
+/// The plan in lines: its version, and two for each change.
+fn lines_of(rt: &impl Abort, alloc: Global, plan: &Plan) -> &'static str {
+    let mut lines = String::new(alloc);
+    push(rt, &mut lines, printed(rt, alloc, &plan.version()));
+    for number in 0..plan.len() {
+        push_change(rt, alloc, &mut lines, plan.change(number));
+    }
+    kept_text(rt, alloc, lines)
+}
+
+/// The plan in lines, or the text of the refusal.
+fn told(rt: &impl Abort, alloc: Global, answer: &Result<Plan, PlanError>) -> &'static str {
+    match answer {
+        Ok(plan) => lines_of(rt, alloc, plan),
+        Err(error) => shown(rt, alloc, error),
+    }
 }
 
 /// The fault of an element that stood alone, with the number that it has among the others.
@@ -32,37 +57,72 @@ fn numbered(error: PlanError, number: u32) -> PlanError {
     }
 }
 
-/// The element in a plan of its own, or the fault that it has by itself.
-fn alone(rt: &impl Abort, alloc: Global, number: u32, element: &Value) -> Result<Plan, PlanError> {
+/// What the reader answers to the element in a plan of its own.
+fn alone(rt: &impl Abort, alloc: Global, element: &Value) -> &'static Result<Plan, PlanError> {
     let plan = r#"{"format_version":"1.0","resource_changes":[CELL]}"#;
     let plan = put(rt, alloc, plan, "CELL", shown(rt, alloc, element));
-    read_plan(alloc, plan.as_bytes()).map_err(|error| numbered(error, number))
+    answer_to(rt, alloc, plan)
 }
 
-/// Whether one of the changes before it is of the same object.
-fn is_repeated(rt: &impl Abort, changes: &[Plan], change: &Change) -> bool {
-    for earlier in changes {
-        let earlier = only(rt, earlier);
-        if earlier.address() == change.address() && earlier.deposed() == change.deposed() {
-            return true;
-        }
+/// Adds the only change of a plan to the lines. It is at fault where a change before it is of the same object.
+fn fault_of_change(
+    rt: &impl Abort,
+    alloc: Global,
+    lines: &mut String,
+    number: u32,
+    plan: &Plan,
+) -> Option<PlanError> {
+    holds(rt, "one change", plan.len() == 1);
+    let change = plan.change(0);
+    let is_repeated = lines.contains(object_of(rt, alloc, change));
+    push_change(rt, alloc, lines, change);
+    if is_repeated {
+        Some(PlanError::Duplicate(number))
+    } else {
+        None
     }
-    false
 }
 
-/// The changes of the elements, each in a plan of its own.
-fn changes_of(rt: &impl Abort, alloc: Global, elements: &[Value]) -> Result<Vec<Plan>, PlanError> {
-    let mut changes = Vec::new(alloc);
-    let mut number = 0;
+/// The fault of the element; where it has none, its change is added to the lines.
+fn fault_of(
+    rt: &impl Abort,
+    alloc: Global,
+    lines: &mut String,
+    number: u32,
+    element: &Value,
+) -> Option<PlanError> {
+    match alone(rt, alloc, element) {
+        Ok(plan) => fault_of_change(rt, alloc, lines, number, plan),
+        Err(error) => Some(numbered(*error, number)),
+    }
+}
+
+/// The fault of so many elements, whatever they are.
+fn fault_of_count(count: usize) -> Option<PlanError> {
+    if count > MAX_CHANGES {
+        Some(PlanError::TooMany)
+    } else {
+        None
+    }
+}
+
+/// What a plan of that version and these elements is, in lines, or the text of the first fault.
+fn told_of(rt: &impl Abort, alloc: Global, version: &str, elements: &[Value]) -> &'static str {
+    let mut lines = String::new(alloc);
+    push(rt, &mut lines, printed(rt, alloc, &version));
+    let mut fault = fault_of_count(elements.len());
+    let mut number: u32 = 0;
     for element in elements {
-        let plan = alone(rt, alloc, number, element)?;
-        if is_repeated(rt, &changes, only(rt, &plan)) {
-            return Err(PlanError::Duplicate(number));
+        if fault.is_none() {
+            fault = fault_of(rt, alloc, &mut lines, number, element);
         }
-        changes.push(plan).expect(rt, "memory");
         number = number.saturating_add(1);
     }
-    Ok(changes)
+    let lines = kept_text(rt, alloc, lines);
+    match fault {
+        Some(fault) => shown(rt, alloc, &fault),
+        None => lines,
+    }
 }
 
 /// The version and the elements of a plan of format 1.x.
@@ -77,71 +137,36 @@ fn header_of(tree: &Value) -> Option<(&str, &[Value])> {
     }
 }
 
-/// The plan that the tree is.
-fn plan_of_tree(rt: &impl Abort, alloc: Global, tree: &Value) -> Result<PlainPlan, PlanError> {
-    let Some((version, elements)) = header_of(tree) else {
-        return Err(PlanError::NotAPlan);
-    };
-    if elements.len() > MAX_CHANGES {
-        return Err(PlanError::TooMany);
+/// What the tree is as a plan.
+fn told_of_tree(rt: &impl Abort, alloc: Global, tree: &Value) -> &'static str {
+    match header_of(tree) {
+        Some((version, elements)) => told_of(rt, alloc, version, elements),
+        None => shown(rt, alloc, &PlanError::NotAPlan),
     }
-    let changes = changes_of(rt, alloc, elements)?;
-    let version = version.to_string(alloc).expect(rt, "memory");
-    Ok(PlainPlan { version, changes })
 }
 
-/// The plan that the text is, from a tree that holds all of it.
-pub fn read_plan_plainly(
-    rt: &impl Abort,
-    alloc: Global,
-    text: &str,
-) -> Result<PlainPlan, PlanError> {
+/// Why what is no tree is no plan.
+fn refusal_for(fault: JsonFault) -> PlanError {
+    match fault {
+        JsonFault::TooLarge => PlanError::TooLarge,
+        JsonFault::NotJson => PlanError::NotJson,
+        JsonFault::Memory => PlanError::Memory,
+    }
+}
+
+/// What the text is as a plan, from a tree that holds all of it.
+fn told_plainly(rt: &impl Abort, alloc: Global, text: &str) -> &'static str {
     match kept(rt, alloc, parse(alloc, text.as_bytes(), MAX_BYTES)) {
-        Ok(tree) => plan_of_tree(rt, alloc, tree),
-        Err(JsonFault::TooLarge) => Err(PlanError::TooLarge),
-        Err(JsonFault::NotJson) => Err(PlanError::NotJson),
-        Err(JsonFault::Memory) => Err(PlanError::Memory),
+        Ok(tree) => told_of_tree(rt, alloc, tree),
+        Err(fault) => shown(rt, alloc, &refusal_for(*fault)),
     }
 }
 
-/// Fails where the change of that number is another than the one that was read by itself.
-fn change_is(rt: &impl Abort, alloc: Global, plan: &Plan, number: u32, plain: &Plan) {
-    holds(rt, "a change of that number", number < plan.len());
-    let found = printed(rt, alloc, plan.change(number));
-    let wanted = printed(rt, alloc, only(rt, plain));
-    text_is(rt, found, wanted);
-}
-
-/// Fails where the plan is another than the one that was read plainly.
-pub fn plan_is(rt: &impl Abort, alloc: Global, plan: &Plan, plain: &PlainPlan) {
-    text_is(rt, plan.version(), plain.version.as_str());
-    holds(
-        rt,
-        "as many changes",
-        plan.len() as usize == plain.changes.len(),
-    );
-    for (number, change) in plain.changes.iter().enumerate() {
-        change_is(rt, alloc, plan, number as u32, change);
-    }
-}
-
-/// Fails where the plain reader reads another plan in the text, or none.
-fn is_read_plainly(rt: &impl Abort, alloc: Global, text: &str, plan: &Plan) {
-    let plain = read_plan_plainly(rt, alloc, text);
-    let plain = kept(rt, alloc, plain.ok().expect(rt, text));
-    plan_is(rt, alloc, plan, plain);
-}
-
-/// Fails where the plain reader refuses the text otherwise, or reads it.
-fn is_refused_plainly(rt: &impl Abort, alloc: Global, text: &str, found: &PlanError) {
-    let wanted = read_plan_plainly(rt, alloc, text).err();
-    holds(rt, text, *found == wanted.expect(rt, text));
-}
-
-/// Fails where the reader and the plain reader answer the text as a plan otherwise.
-pub fn reads_as_plainly(rt: &impl Abort, alloc: Global, text: &str) {
-    match kept(rt, alloc, read_plan(alloc, text.as_bytes())) {
-        Ok(plan) => is_read_plainly(rt, alloc, text, plan),
-        Err(error) => is_refused_plainly(rt, alloc, text, error),
-    }
+/// Fails where the reader and the plain reader answer the text as a plan otherwise. What they answer: `accepted`, or the
+/// text of the refusal.
+pub fn reads_as_plainly(rt: &impl Abort, alloc: Global, text: &str) -> &'static str {
+    let answer = answer_to(rt, alloc, text);
+    let told = told(rt, alloc, answer);
+    compare(rt, text, told, told_plainly(rt, alloc, text));
+    if answer.is_ok() { "accepted" } else { told }
 }

@@ -1,11 +1,11 @@
 //! Which plans are accepted, and what the others are refused with: each member absent, `null`, of each wrong type, empty, and of
 //! values that are refused or not; of two faults the first; and what nobody looks at, which is JSON all the same.
 
-use super::table::{put, repeated};
+use super::table::{listed, plans_are_answered, put};
 use super::*;
 
 /// Plans with `CELL` in them, a line of a colon, and rows of what stands there and what is answered; an empty line stands
-/// between two.
+/// between two. In the place of `NUMBERS` stand 10,000 numbers: what stands behind one more element is left out.
 const PLANS: &str = r#"CELL
 :
 [] => the plan is not a plan of format 1.x
@@ -291,34 +291,32 @@ tru => the plan is not JSON
 [[[[[[[[[[[[[[[[[[[[[[[[[[[[[[[[[[[[[[[[[[[[[[[[[[[[[[[[[[[[[[[[[[[[[[[[[[[[[[[[[[[[[[[[[[[[[[[[[[[[]]]]]]]]]]]]]]]]]]]]]]]]]]]]]]]]]]]]]]]]]]]]]]]]]]]]]]]]]]]]]]]]]]]]]]]]]]]]]]]]]]]]]]]]]]]]]]]]]]]] => accepted
 [[[[[[[[[[[[[[[[[[[[[[[[[[[[[[[[[[[[[[[[[[[[[[[[[[[[[[[[[[[[[[[[[[[[[[[[[[[[[[[[[[[[[[[[[[[[[[[[[[[[[[[[[[[[[[[[[[[[[[[[[[[[[[]]]]]]]]]]]]]]]]]]]]]]]]]]]]]]]]]]]]]]]]]]]]]]]]]]]]]]]]]]]]]]]]]]]]]]]]]]]]]]]]]]]]]]]]]]]]]]]]]]]]]]]]]]]]]]]]]]]]]]]]]]]]]] => accepted
 [[[[[[[[[[[[[[[[[[[[[[[[[[[[[[[[[[[[[[[[[[[[[[[[[[[[[[[[[[[[[[[[[[[[[[[[[[[[[[[[[[[[[[[[[[[[[[[[[[[[[[[[[[[[[[[[[[[[[[[[[[[[[[[]]]]]]]]]]]]]]]]]]]]]]]]]]]]]]]]]]]]]]]]]]]]]]]]]]]]]]]]]]]]]]]]]]]]]]]]]]]]]]]]]]]]]]]]]]]]]]]]]]]]]]]]]]]]]]]]]]]]]]]]]]]]]]] => the plan is not JSON
-[[[[[[[[[[[[[[[[[[[[[[[[[[[[[[[[[[[[[[[[[[[[[[[[[[[[[[[[[[[[[[[[[[[[[[[[[[[[[[[[[[[[[[[[[[[[[[[[[[[[[[[[[[[[[[[[[[[[[[[[[[[[[[[[[[[[[[[[[[[[[[[[[[[[[[[[[[[[[[[[[[[[[[[[[[[[[[[[[[[[[[[[[[[[[[[[[[[[[[[[]]]]]]]]]]]]]]]]]]]]]]]]]]]]]]]]]]]]]]]]]]]]]]]]]]]]]]]]]]]]]]]]]]]]]]]]]]]]]]]]]]]]]]]]]]]]]]]]]]]]]]]]]]]]]]]]]]]]]]]]]]]]]]]]]]]]]]]]]]]]]]]]]]]]]]]]]]]]]]]]]]]]]]]]]]]]]]]]]]]]]]]]]]]]]]]]]]]]]]]] => the plan is not JSON"#;
+[[[[[[[[[[[[[[[[[[[[[[[[[[[[[[[[[[[[[[[[[[[[[[[[[[[[[[[[[[[[[[[[[[[[[[[[[[[[[[[[[[[[[[[[[[[[[[[[[[[[[[[[[[[[[[[[[[[[[[[[[[[[[[[[[[[[[[[[[[[[[[[[[[[[[[[[[[[[[[[[[[[[[[[[[[[[[[[[[[[[[[[[[[[[[[[[[[[[[[[[]]]]]]]]]]]]]]]]]]]]]]]]]]]]]]]]]]]]]]]]]]]]]]]]]]]]]]]]]]]]]]]]]]]]]]]]]]]]]]]]]]]]]]]]]]]]]]]]]]]]]]]]]]]]]]]]]]]]]]]]]]]]]]]]]]]]]]]]]]]]]]]]]]]]]]]]]]]]]]]]]]]]]]]]]]]]]]]]]]]]]]]]]]]]]]]]]]]]]]]] => the plan is not JSON
 
-#[test]
-fn plans_are_accepted_or_refused(rt: HostRuntime) {
-    for block in PLANS.split("\n\n") {
-        let (plans, table) = block.split_once("\n:\n").expect(&rt, block);
-        for plan in plans.lines() {
-            plans_are_answered(&rt, rt.alloc(), plan, table);
-        }
-    }
-}
-
-/// What stands behind 10,000 numbers in `resource_changes`.
-const BEHIND: &str = r#"
+{"format_version":"1.0","resource_changes":[NUMBERS,CELL]}
+:
 5 => the plan has more than 10000 changes
 [],{},5 => the plan has more than 10000 changes
 [],{},1e400 => the plan is not JSON
 [],{},[5,] => the plan is not JSON
 5],"resource_changes":[ => accepted
 5],"resource_changes":[5 => change 0 is malformed
-5],"format_version":["2.0" => the plan is not a plan of format 1.x
-"#;
+5],"format_version":["2.0" => the plan is not a plan of format 1.x"#;
+
+/// Compares the answers to the plans of a block, with these numbers in the place of `NUMBERS`.
+fn block_is_answered(rt: &impl Abort, alloc: Global, numbers: &str, block: &str) {
+    let (plans, table) = block.split_once("\n:\n").expect(rt, block);
+    for plan in plans.lines() {
+        let plan = put(rt, alloc, plan, "NUMBERS", numbers);
+        plans_are_answered(rt, alloc, plan, table);
+    }
+}
 
 #[test]
-fn elements_behind_10001_are_left_out(rt: HostRuntime) {
+fn plans_are_accepted_or_refused(rt: HostRuntime) {
     let alloc = rt.alloc();
-    let numbers = repeated(&rt, alloc, "5,", 10_000);
-    let plan = r#"{"format_version":"1.0","resource_changes":[NUMBERSCELL]}"#;
-    let plan = put(&rt, alloc, plan, "NUMBERS", numbers);
-    plans_are_answered(&rt, alloc, plan, BEHIND);
+    let numbers = listed(&rt, alloc, 10_000, false, "5");
+    for block in PLANS.split("\n\n") {
+        block_is_answered(&rt, alloc, numbers, block);
+    }
 }

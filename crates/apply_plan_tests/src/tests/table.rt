@@ -20,6 +20,11 @@ pub fn cells<'a>(rt: &impl Abort, row: &'a str) -> (&'a str, &'a str) {
     row.split_once(" => ").expect(rt, row)
 }
 
+/// The first line of a block, and the lines behind it.
+pub fn first_line<'a>(rt: &impl Abort, block: &'a str) -> (&'a str, &'a str) {
+    block.split_once("\n").expect(rt, block)
+}
+
 /// Adds more to a text.
 pub fn push(rt: &impl Abort, text: &mut String, more: &str) {
     text.push_str(more).expect(rt, "memory");
@@ -34,21 +39,30 @@ pub fn put(rt: &impl Abort, alloc: Global, text: &str, mark: &str, other: &str) 
     )
 }
 
-/// The text so often.
-pub fn repeated(rt: &impl Abort, alloc: Global, text: &str, count: usize) -> &'static str {
-    kept_text(rt, alloc, text.repeat(alloc, count).expect(rt, "memory"))
+/// Adds the text to a list, with the number in the place of `NUMBER`.
+fn push_numbered(rt: &impl Abort, alloc: Global, list: &mut String, text: &str, number: u32) {
+    if !list.is_empty() {
+        push(rt, list, ",");
+    }
+    let digits = shown(rt, alloc, &number);
+    push(rt, list, put(rt, alloc, text, "NUMBER", digits));
 }
 
-/// So many texts with commas between them.
-pub fn times(rt: &impl Abort, alloc: Global, count: usize, text: &str) -> &'static str {
-    let mut all = String::new(alloc);
+/// So many texts with commas between them, each with its number, from 0 on, in the place of `NUMBER`; or the last one first.
+pub fn listed(
+    rt: &impl Abort,
+    alloc: Global,
+    count: u32,
+    is_reversed: bool,
+    text: &str,
+) -> &'static str {
+    let mut list = String::new(alloc);
     for number in 0..count {
-        if number > 0 {
-            push(rt, &mut all, ",");
-        }
-        push(rt, &mut all, text);
+        let left = count.saturating_sub(number).saturating_sub(1);
+        let number = if is_reversed { left } else { number };
+        push_numbered(rt, alloc, &mut list, text, number);
     }
-    kept_text(rt, alloc, all)
+    kept_text(rt, alloc, list)
 }
 
 /// Fails where another text was found in the row of that cell.
@@ -62,7 +76,6 @@ pub fn plans_are_answered(rt: &impl Abort, alloc: Global, plan: &str, table: &st
     for row in rows(rt, table) {
         let (cell, wanted) = cells(rt, row);
         let text = put(rt, alloc, plan, "CELL", cell);
-        reads_as_plainly(rt, alloc, text);
-        compare(rt, cell, answer_to_plan(rt, alloc, text.as_bytes()), wanted);
+        compare(rt, cell, reads_as_plainly(rt, alloc, text), wanted);
     }
 }
