@@ -90,15 +90,32 @@ fn fails_with_each_write<R: Threads + Wait + Sync + Abort>(
     }
 }
 
-/// By however many bytes the sink takes. The stream of the failed replacement is the same by all numbers of workers; that
-/// with a diagnostic behind all other lines is one worker's.
+/// The same, by however many it takes.
+fn fails_at_each_byte_of<R: Threads + Wait + Sync + Abort>(
+    rt: &R,
+    alloc: Global,
+    run: &str,
+    workers: u8,
+) {
+    for per_write in WRITES {
+        fails_with_each_write(rt, alloc, run, workers, per_write);
+    }
+}
+
+#[test]
+fn fails_at_each_byte_around_a_diagnostic(rt: HostRuntime) {
+    fails_at_each_byte_of(&rt, rt.alloc(), FIRST_FAILS, 1);
+}
+
+/// The stream of the failed replacement is the same by all numbers of workers.
 #[test]
 fn fails_at_each_byte(rt: HostRuntime) {
-    for per_write in WRITES {
-        fails_with_each_write(&rt, rt.alloc(), FIRST_FAILS, 1, per_write);
-        fails_with_each_write(&rt, rt.alloc(), FAILED_DESTROY, 1, per_write);
-        fails_with_each_write(&rt, rt.alloc(), FAILED_DESTROY, 2, per_write);
-    }
+    fails_at_each_byte_of(&rt, rt.alloc(), FAILED_DESTROY, 1);
+}
+
+#[test]
+fn fails_at_each_byte_under_two_workers(rt: HostRuntime) {
+    fails_at_each_byte_of(&rt, rt.alloc(), FAILED_DESTROY, 2);
 }
 
 /// Eight threads for each byte take their time, so these are apart.
