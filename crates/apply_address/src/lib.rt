@@ -13,6 +13,3 @@ mod quoted;
 
 pub use address_parts::{AddressParts, parts_of};
 pub use laws::an_address_has_one_reading;
-
-#[cfg(test)]
-mod tests;

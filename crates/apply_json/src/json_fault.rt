@@ -1,7 +1,7 @@
 //! Why bytes gave no tree.
 
 /// Why there is no tree.
-#[derive(Clone, Copy, Debug, PartialEq, Eq)]
+#[derive(Clone, Copy)]
 pub enum JsonFault {
     /// There are more bytes than the caller allows.
     TooLarge,

@@ -86,6 +86,11 @@ fn script_of(rt: &impl Abort, alloc: Global, text: &str, plan: &Plan) -> &'stati
     kept(rt, alloc, script.ok().expect(rt, "a script"))
 }
 
+/// A script that says nothing.
+fn empty_script(rt: &impl Abort, alloc: Global) -> &'static Script {
+    kept(rt, alloc, Script::empty())
+}
+
 /// A start that has to be accepted.
 fn start_of(rt: &impl Abort, text: &str) -> Start {
     Start::read(text).ok().expect(rt, "a start")

@@ -1,7 +1,7 @@
 //! How a verdict is said.
 
 /// How a verdict is said.
-#[derive(Clone, Copy, Debug, PartialEq, Eq)]
+#[derive(Clone, Copy)]
 pub enum Form {
     /// A line of text.
     Text,

@@ -4,7 +4,7 @@ use crate::command::form::Form;
 use crate::rules::mode::Mode;
 
 /// What the words behind `check` say.
-#[derive(Debug, Drop)]
+#[derive(Drop)]
 pub struct Settings {
     /// What the stream is judged as.
     pub mode: Mode,

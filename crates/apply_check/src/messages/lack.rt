@@ -3,7 +3,7 @@
 use std::fmt;
 
 /// Why a member is not what it has to be.
-#[derive(Clone, Copy, Debug, PartialEq, Eq)]
+#[derive(Clone, Copy, PartialEq, Eq)]
 pub enum Lack {
     /// It, or what it stands in, is not there.
     Missing,

@@ -6,7 +6,7 @@ ghost use Rattle.apply_check.specs.Malformed.{path_text};
 use std::fmt;
 
 /// The members of messages that are read, and what they stand in (Machine-Readable UI, "Message Types").
-#[derive(Clone, Copy, Debug, PartialEq, Eq)]
+#[derive(Clone, Copy, PartialEq, Eq)]
 pub enum Path {
     Hook,
     Resource,

@@ -1,7 +1,7 @@
 //! What a stream is judged as.
 
 /// What a stream is judged as.
-#[derive(Clone, Copy, Debug, PartialEq, Eq)]
+#[derive(Clone, Copy)]
 pub struct Mode {
     /// The lines are those of a log, in which messages are to be found; lines without one are passed over.
     pub find: bool,

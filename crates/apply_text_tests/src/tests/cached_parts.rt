@@ -13,6 +13,11 @@ fn progress_of(change: u32, step: u8, seconds: u32) -> Event {
     }
 }
 
+/// A buffer, for as long as the test runs.
+fn new_buffer(rt: &impl Abort, alloc: Global) -> &'static mut LineBuffer {
+    Box::leak(Box::new(alloc, LineBuffer::new(alloc)).expect(rt, "memory"))
+}
+
 /// Adds the line of an event that the plan has to have.
 fn add(
     rt: &impl Abort,
@@ -25,7 +30,7 @@ fn add(
 ) {
     check_step(rt, plan, event);
     holds(rt, "in time", latest <= LATEST);
-    let script = kept(rt, alloc, Script::empty());
+    let script = empty_script(rt, alloc);
     let pushed = buffer.push_event(plan, script, start, latest, event);
     holds(rt, "memory", pushed.is_ok());
 }
@@ -41,7 +46,7 @@ fn is_told(
     event: &Event,
     wanted: &str,
 ) {
-    let script = kept(rt, alloc, Script::empty());
+    let script = empty_script(rt, alloc);
     let alone = line_of(rt, alloc, plan, script, start, latest, event);
     compare_line(rt, "a line by itself", alone, wanted);
     buffer.clear();
@@ -90,9 +95,9 @@ fn is_shown_beside_each(rt: &impl Abort, alloc: Global, buffer: &mut LineBuffer,
 /// Each behind each, and behind itself.
 #[test]
 fn changes_of_one_number_are_told_apart(rt: HostRuntime) {
-    let mut buffer = LineBuffer::new(rt.alloc());
+    let buffer = new_buffer(&rt, rt.alloc());
     for row in CHANGES.lines() {
-        is_shown_beside_each(&rt, rt.alloc(), &mut buffer, row);
+        is_shown_beside_each(&rt, rt.alloc(), buffer, row);
     }
 }
 
@@ -104,22 +109,24 @@ const UPDATE: &str =
 const UPDATE_LINE: &str =
     r#"{"@level":"info","@message":"a.b%: Still modifying... [#s elapsed]","@module":"terraform.ui","@timestamp":"1970-01-01T00:00:00Z","hook":{"action":"update","elapsed_seconds":#,"resource":{"addr":"a.b%","implied_provider":"a","module":"","resource":"a.b%","resource_key":null,"resource_name":"b%","resource_type":"a"}},"type":"apply_progress"}"#;
 
-/// So many updates.
-fn updates(rt: &impl Abort, alloc: Global, count: u32) -> &'static Plan {
+/// Adds the update of that number, and what stands behind it.
+fn push_update(rt: &impl Abort, alloc: Global, text: &mut String, number: u32, behind: &str) {
+    let number = shown(rt, alloc, &number);
+    push(rt, text, put(rt, alloc, UPDATE, "%", number));
+    push(rt, text, behind);
+}
+
+/// The text before the updates.
+const BEFORE_UPDATES: &str = r#"{"format_version":"1.2","resource_changes":["#;
+
+/// 129 updates.
+fn updates(rt: &impl Abort, alloc: Global) -> &'static Plan {
     let mut text = String::new(alloc);
-    push(
-        rt,
-        &mut text,
-        r#"{"format_version":"1.2","resource_changes":["#,
-    );
-    for number in 0..count {
-        let number = shown(rt, alloc, &number);
-        if number != "0" {
-            push(rt, &mut text, ",");
-        }
-        push(rt, &mut text, put(rt, alloc, UPDATE, "%", number));
+    push(rt, &mut text, BEFORE_UPDATES);
+    for number in 0..128 {
+        push_update(rt, alloc, &mut text, number, ",");
     }
-    push(rt, &mut text, "]}");
+    push_update(rt, alloc, &mut text, 128, "]}");
     plan_of(rt, alloc, kept(rt, alloc, text).as_str())
 }
 
@@ -139,18 +146,28 @@ const PLACES: &str = "0 20
 65 30
 0 50";
 
+/// Fails where the update of a row is told otherwise.
+fn is_told_in_turn(
+    rt: &impl Abort,
+    alloc: Global,
+    buffer: &mut LineBuffer,
+    plan: &Plan,
+    row: &str,
+) {
+    let (number, seconds) = parted(rt, row, " ");
+    let line = put(rt, alloc, UPDATE_LINE, "%", number);
+    let line = put(rt, alloc, line, "#", seconds);
+    let event = progress_of(number_of(rt, number), 0, number_of(rt, seconds));
+    is_told(rt, alloc, buffer, plan, Start::zero(), 0, &event, line);
+}
+
 #[test]
 fn changes_that_share_a_row_are_told_in_turn(rt: HostRuntime) {
     let alloc = rt.alloc();
-    let plan = updates(&rt, alloc, 129);
-    let mut buffer = LineBuffer::new(alloc);
+    let plan = updates(&rt, alloc);
+    let buffer = new_buffer(&rt, alloc);
     for row in PLACES.lines() {
-        let (number, seconds) = parted(&rt, row, " ");
-        let line = put(&rt, alloc, UPDATE_LINE, "%", number);
-        let line = put(&rt, alloc, line, "#", seconds);
-        let event = progress_of(number_of(&rt, number), 0, number_of(&rt, seconds));
-        let zero = Start::zero();
-        is_told(&rt, alloc, &mut buffer, plan, zero, 0, &event, line);
+        is_told_in_turn(&rt, alloc, buffer, plan, row);
     }
 }
 
@@ -200,9 +217,9 @@ fn is_told_again(rt: &impl Abort, alloc: Global, buffer: &mut LineBuffer, plan: 
 fn steps_of_one_change_are_told_apart(rt: HostRuntime) {
     let alloc = rt.alloc();
     let plan = plan_of(&rt, alloc, REPLACEMENT);
-    let mut buffer = LineBuffer::new(alloc);
-    is_told_again(&rt, alloc, &mut buffer, plan);
-    is_told_again(&rt, alloc, &mut buffer, plan);
+    let buffer = new_buffer(&rt, alloc);
+    is_told_again(&rt, alloc, buffer, plan);
+    is_told_again(&rt, alloc, buffer, plan);
 }
 
 /// A start and the seconds after it, and the moment that is: within a day, at its ends, and of a day before.
@@ -238,8 +255,8 @@ fn has_its_day(rt: &impl Abort, alloc: Global, buffer: &mut LineBuffer, plan: &P
 fn each_line_has_its_own_day(rt: HostRuntime) {
     let alloc = rt.alloc();
     let plan = plan_of(&rt, alloc, REPLACEMENT);
-    let mut buffer = LineBuffer::new(alloc);
+    let buffer = new_buffer(&rt, alloc);
     for row in DAYS.lines() {
-        has_its_day(&rt, alloc, &mut buffer, plan, row);
+        has_its_day(&rt, alloc, buffer, plan, row);
     }
 }
