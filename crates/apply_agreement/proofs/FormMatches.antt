@@ -6,27 +6,25 @@ use Rattle.std.proofs.lemmas.Bool.{cases_Bool}
 use Rattle.std.proofs.lemmas.List.Sums.{sum_by-cons}
 use Rattle.apply_check.specs.declared.messages.action.Action.{Action}
 use Rattle.apply_check.specs.declared.messages.action.Action.TheVariants.{Create, Delete, Read}
-use Rattle.apply_check.specs.declared.messages.stage.Stage.{Stage}
-use Rattle.apply_check.specs.declared.messages.stage.Stage.TheVariants as stage
 use Rattle.apply_check.specs.declared.messages.timed_stage.TimedStage.{TimedStage}
 use Rattle.apply_check.specs.declared.messages.timed_stage.TimedStage.TheVariants.{Start, Progress, Complete, Errored}
 use Rattle.apply_check.specs.declared.rules.fault.Fault.{Fault}
-use Rattle.apply_check.specs.declared.rules.fault.Fault.TheVariants.{AfterSummary, LeavesProvisioner, NoStep, NoVersion, NotLater, NotPlanned, TooMany}
+use Rattle.apply_check.specs.declared.rules.fault.Fault.TheVariants.{AfterSummary, LeavesProvisioner, NoVersion, NotLater, NotPlanned, TooMany}
 use Rattle.apply_check.specs.declared.rules.pending.Pending.{Pending}
 use Rattle.apply_check.specs.declared.rules.pending.Pending.TheVariants.{One, Several}
 use Rattle.apply_check.specs.declared.rules.standing.Standing.{Standing}
 use Rattle.apply_check.specs.Course.{after, begun, ended, max_overlap, progressed}
 use Rattle.apply_check.specs.Lines.{behind, is_beyond_plan, next, within_plan}
-use Rattle.apply_check.specs.Message.{Message, diagnostic, provision, step}
+use Rattle.apply_check.specs.Message.{Message, diagnostic, step}
 use Rattle.apply_check.specs.Results.{◌>>=◌}
-use Rattle.apply_check.specs.Standing.{explained, may_provision, pending_at, provision_on, provisioned, standing_of, step_on, unless_left, failed_by, with_pending}
+use Rattle.apply_check.specs.Standing.{explained, may_provision, pending_at, standing_of, step_on, unless_left, failed_by, with_pending}
 use Rattle.apply_check.specs.Tally.{begins, is_begin, is_plan_summary, is_summary, is_version, line_of}
 use Rattle.apply_check.specs.Words.{same_action}
 use Rattle.apply_check.proofs.Actions.{same_is}
 use Rattle.apply_check.proofs.WholeStream.{bind_ok}
 use Rattle.apply_agreement.proofs.FormPendings.{BothOk, Covers, HasRoom, IsCovered, IsSame, Matches, held, left_covered, matches_after}
 use Rattle.apply_agreement.proofs.Moves.{by_address}
-use Rattle.apply_agreement.proofs.Standings.{diagnostic_elsewhere, diagnostic_there, explained_keeps, next_behind, pending_other, pending_same, pending_still, provision_elsewhere, provision_is, provision_there, provisioner_in, provisioner_kept, provisioner_same, step_elsewhere, step_in, step_is, step_there}
+use Rattle.apply_agreement.proofs.Standings.{diagnostic_elsewhere, diagnostic_there, explained_keeps, next_behind, pending_other, pending_same, provisioner_kept, provisioner_same, step_elsewhere, step_in, step_is, step_there}
 
 -- what stands open at an address in both forms
 pub record AreMatched (s t : Standing) : Type 0 where
@@ -57,11 +55,11 @@ stepped_by k stage line s t e = of_after (after k stage line (pending_at k s)) r
     of_after (Err fault) is f = absurd cc
 
 -- the answer to a message that has to stand behind the version, and before a summary
-behind_version : {A E : Type 0} (o : Option ℕ) (f : ℕ → Result A E) (fault : E) (x : A) → option_map_or f o (Err fault) ≡ Ok x → (first : ℕ) × (f first ≡ Ok x)
+pub behind_version : {A E : Type 0} (o : Option ℕ) (f : ℕ → Result A E) (fault : E) (x : A) → option_map_or f o (Err fault) ≡ Ok x → (first : ℕ) × (f first ≡ Ok x)
 behind_version None f fault x e = absurd cc
 behind_version (Some first) f fault x e = (first, e)
 
-before_end : (o : Option ℕ) (answer : Result (List Message) Fault) (later : List Message) → option_map_or (λ line. Err (AfterSummary line)) o answer ≡ Ok later → answer ≡ Ok later
+pub before_end : (o : Option ℕ) (answer : Result (List Message) Fault) (later : List Message) → option_map_or (λ line. Err (AfterSummary line)) o answer ≡ Ok later → answer ≡ Ok later
 before_end None answer later e = e
 before_end (Some line) answer later e = absurd cc
 
@@ -104,7 +102,7 @@ some_same k holds p q h =
     at (Some p) None h = absurd h
     at (Some p) (Some q) h = refl
 
-may_same : (s t : Standing) → ((k : Action) → Matches k (pending_at k s) (pending_at k t)) → may_provision s ≡ may_provision t
+pub may_same : (s t : Standing) → ((k : Action) → Matches k (pending_at k s) (pending_at k t)) → may_provision s ≡ may_provision t
 may_same s t h = ap₂ (λ (a b : Bool). a || b) (some_same Create (inl refl) s.create t.create (h Create)) (some_same Delete (inr refl) s.delete t.delete (h Delete))
 
 and_true : (b : Bool) → (b && true) ≡ b
@@ -326,86 +324,3 @@ both_diagnostic a e noted ms ns alike = (
       provisioner = kept_provisioner (standing_of b ms) (standing_of b (diagnostic e (Some a) ∷ ms)) one ∙ (alike.standing b).provisioner
           ∙ sym (kept_provisioner (standing_of b ns) (standing_of b (diagnostic e noted ∷ ns)) other);
     }
-
--- ---- a provisioner
-
--- what runs then
-pub record WasProvisioned (stage : Stage) (line : ℕ) (s : Standing) : Type 0 where
-  running : Option ℕ
-  may : may_provision s ≡ true
-  is : provisioned stage line s.provisioner ≡ Ok running
-
-provisioned_by : (stage : Stage) (line : ℕ) (s t : Standing) → provision_on stage line s ≡ Ok t → WasProvisioned stage line s
-provisioned_by stage line s t e = of_test (may_provision s) refl e
-  where
-    of_test : (b : Bool) → may_provision s ≡ b → cond b (provisioned stage line s.provisioner >>= λ running. Ok (provisioner_in running s)) (Err NoStep) ≡ Ok t → WasProvisioned stage line s
-    of_test true is f = let first = bind_ok (provisioned stage line s.provisioner) (λ running. Ok (provisioner_in running s)) t f in record { running = first.0; may = is; is = first.1 }
-    of_test false is f = absurd cc
-
-pub was_provisioned : (a : List ℕ) (stage : Stage) (ms later : List Message) → next ms (provision a stage) ≡ Ok later → WasProvisioned stage (length ms + 1) (standing_of a ms)
-was_provisioned a stage ms later e =
-    let s = standing_of a ms in
-    let there = behind_version (line_of is_version ms) (λ first. behind ms first (provision a stage)) NoVersion later e in
-    let answer = before_end (line_of is_summary ms) (provision_on stage (length ms + 1) s >>= λ standing. fine (provision a stage ∷ ms)) later there.1 in
-    let stood = bind_ok (provision_on stage (length ms + 1) s) (λ standing. fine (provision a stage ∷ ms)) later answer in
-    provisioned_by stage (length ms + 1) s stood.0 stood.1
-  where
-    fine : List Message → Result (List Message) Fault
-    fine l = Ok l
-
--- a provisioner that runs or does not in both forms goes on alike
-goes_alike : (given : Stage) (line other : ℕ) (o p r : Option ℕ) → is_some o ≡ is_some p → provisioned given line o ≡ Ok r → (q : Option ℕ) × (provisioned given other p ≡ Ok q) × (is_some r ≡ is_some q)
-goes_alike stage.Start line other None None r h e = (Some other, refl, let same : Some line ≡ r = cc in sym (ap is_some same))
-goes_alike stage.Start line other (Some b) p r h e = absurd cc
-goes_alike stage.Start line other None (Some c) r h e = absurd cc
-goes_alike stage.Progress line other None p r h e = absurd cc
-goes_alike stage.Progress line other (Some b) None r h e = absurd cc
-goes_alike stage.Progress line other (Some b) (Some c) r h e = (Some c, refl, let same : Some b ≡ r = cc in sym (ap is_some same))
-goes_alike stage.Complete line other None p r h e = absurd cc
-goes_alike stage.Complete line other (Some b) None r h e = absurd cc
-goes_alike stage.Complete line other (Some b) (Some c) r h e = (None, refl, let same : None ≡ r = cc in sym (ap is_some same))
-goes_alike stage.Errored line other None p r h e = absurd cc
-goes_alike stage.Errored line other (Some b) None r h e = absurd cc
-goes_alike stage.Errored line other (Some b) (Some c) r h e = (None, refl, let same : None ≡ r = cc in sym (ap is_some same))
-
-pub both_provision : (a : List ℕ) (given : Stage) (ms ns : List Message) → AreAlike ms ns → WasProvisioned given (length ms + 1) (standing_of a ms)
-    → (next ns (provision a given) ≡ Ok (provision a given ∷ ns)) × AreAlike (provision a given ∷ ms) (provision a given ∷ ns)
-both_provision a given ms ns alike was =
-    let s = standing_of a ms in
-    let t = standing_of a ns in
-    let too = goes_alike given (length ms + 1) (length ns + 1) s.provisioner t.provisioner was.running (alike.standing a).provisioner was.is in
-    let may : may_provision t ≡ true = sym (may_same s t (alike.standing a).pending) ∙ was.may in
-    let on : provision_on given (length ns + 1) t ≡ Ok (provisioner_in too.0 t) = provision_is given (length ns + 1) t t.provisioner too.0 may refl too.1 in
-    let was_on : provision_on given (length ms + 1) s ≡ Ok (provisioner_in was.running s) = provision_is given (length ms + 1) s s.provisioner was.running was.may refl was.is in
-    let one = provision_there a given (provisioner_in was.running s) ms was_on in
-    let other = provision_there a given (provisioner_in too.0 t) ns on in (
-      next_behind ns (provision a given) alike.begun (λ first.
-          ap (λ (o : Option ℕ). option_map_or (λ line. Err (AfterSummary line)) o (provision_on given (length ns + 1) t >>= λ standing. fine (provision a given ∷ ns))) alike.unsummed
-          ∙ ap (λ (r : Result Standing Fault). r >>= λ standing. fine (provision a given ∷ ns)) on),
-      record {
-        begun = alike.begun;
-        unsummed = alike.unsummed;
-        unforeseen = alike.unforeseen;
-        standing = by_address (λ b. AreMatched (standing_of b (provision a given ∷ ms)) (standing_of b (provision a given ∷ ns))) a
-            (subst (λ (x : Standing). AreMatched x (standing_of a (provision a given ∷ ns))) (sym one)
-            (subst (λ (x : Standing). AreMatched (provisioner_in was.running s) x) (sym other)
-            (record {
-              pending = λ k.
-                  subst (λ (o : Option Pending). Matches k o (pending_at k (provisioner_in too.0 t))) (sym (pending_still k was.running s))
-                  (subst (λ (o : Option Pending). Matches k (pending_at k s) o) (sym (pending_still k too.0 t)) ((alike.standing a).pending k));
-              provisioner = too.2;
-            })))
-            (λ b no.
-            subst (λ (x : Standing). AreMatched x (standing_of b (provision a given ∷ ns))) (sym (provision_elsewhere a given ms b no))
-            (subst (λ (x : Standing). AreMatched (standing_of b ms) x) (sym (provision_elsewhere a given ns b no)) (alike.standing b)));
-        reads = by_address (λ b. held (standing_of b (provision a given ∷ ns)).read ≤ count_by (begins Read) (provision a given ∷ ns)) a
-            (let there : held (standing_of a (provision a given ∷ ns)).read ≡ held t.read = ap (λ (x : Standing). held x.read) other in
-            let before = alike.reads a in let all = sum_by-cons (λ m. cond (begins Read m) 1 0) (provision a given) ns in omega arith)
-            (λ b no.
-            let there : held (standing_of b (provision a given ∷ ns)).read ≡ held (standing_of b ns).read = ap (λ (x : Standing). held x.read) (provision_elsewhere a given ns b no) in
-            let before = alike.reads b in let all = sum_by-cons (λ m. cond (begins Read m) 1 0) (provision a given) ns in omega arith);
-      },
-    )
-  where
-    fine : List Message → Result (List Message) Fault
-    fine l = Ok l

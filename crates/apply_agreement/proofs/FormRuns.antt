@@ -31,8 +31,9 @@ use Rattle.apply_form.specs.Message.{is_silent, noted_address}
 use Rattle.apply_agreement.specs.Passing.{with_all}
 use Rattle.apply_agreement.specs.Told.{action_of, all_told, told}
 use Rattle.apply_agreement.specs.ToldInForm.{heard_in_form, told_of_event}
-use Rattle.apply_agreement.proofs.FormMatches.{AreAlike, both_diagnostic, both_provision, both_step, silent_step, was_provisioned, was_stepped}
+use Rattle.apply_agreement.proofs.FormMatches.{AreAlike, both_diagnostic, both_step, silent_step, was_stepped}
 use Rattle.apply_agreement.proofs.FormPendings.{HasRoom, held}
+use Rattle.apply_agreement.proofs.FormProvisioners.{both_provision, was_provisioned}
 use Rattle.apply_agreement.proofs.Turning.{behind, behind_both, joined}
 use Rattle.apply_agreement.proofs.Whole.{counts_behind}
 

@@ -30,6 +30,7 @@ mod FormOutputs
 pub mod FormPendings
 pub mod FormPlanned
 mod FormPlans
+pub mod FormProvisioners
 mod FormRead
 mod FormRuns
 mod FormStream
