@@ -20,7 +20,7 @@ needs = $(sort $(1) $(foreach crate,$(call below,$(1)),$(call needs,$(crate))))
 files = $(shell find crates/$(1)/src crates/$(1)/specs crates/$(1)/proofs -type f ! -path '*/src/tests*' 2>/dev/null)
 CRATES := $(call needs,applystream) applystream_alone
 # What the longest chain of crates does not wait for is proved beside it, and what only tools are made of steps back.
-BESIDE := apply_json apply_beginning apply_objects apply_outputs apply_bus apply_settings apply_writer apply_collector
+BESIDE := apply_json apply_trees apply_beginning apply_objects apply_outputs apply_bus apply_settings apply_writer apply_collector
 ASIDE := apply_shown apply_fitting apply_lines apply_words apply_check apply_play apply_view apply_picture apply_validate apply_validate_command
 above = $(foreach it,$(CRATES),$(if $(filter $(1),$(call needs,$(it))),$(it)))
 left = $$(for crate in $(if $(filter %_alone,$(MAKECMDGOALS)),$(filter-out $(ASIDE) applystream,$(CRATES)),$(filter-out %_alone,$(CRATES))); do [ -e $(LIBS)/$$crate.stamp ] || echo $$crate; done)

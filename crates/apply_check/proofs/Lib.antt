@@ -8,6 +8,7 @@ pub mod Doubling
 pub mod Floats
 pub mod FromReader
 pub mod Held
+pub mod Joined
 pub mod Kept
 pub mod Listed
 pub mod Marks
@@ -19,7 +20,7 @@ pub mod Pendings
 pub mod Progress
 pub mod Putting
 pub mod Saying
+pub mod Slots
 pub mod Summaries
 pub mod Summing
-pub mod Trimmed
 pub mod WholeStream

@@ -24,7 +24,6 @@ pub mod Putting
 pub mod Reading
 pub mod Results
 pub mod Sayings
-pub mod Selection
 pub mod Small
 pub mod Standing
 pub mod Tallied

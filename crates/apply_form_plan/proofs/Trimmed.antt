@@ -6,12 +6,12 @@ use Rattle.serde_json.specs.Find.{as_array}
 use Rattle.apply_form_plan.specs.declared.details_shape.DetailsShape.{DetailsShape}
 use Rattle.apply_form_plan.specs.declared.details_shape.DetailsShape.TheVariants as shape
 use Rattle.apply_json.specs.Tree.{◌>>=◌, list_of, member_of, non_empty_text_of}
-use Rattle.apply_json.specs.Trimmed.{trimmed, trimmed_items}
+use Rattle.apply_trees.specs.Trimmed.{trimmed, trimmed_items}
 use Rattle.apply_form_plan.specs.Changes.{changes_of}
 use Rattle.apply_form_plan.specs.Details.{config_in, element_details, forgets_in, hides_id, imported_in, importing_of, is_flag, is_forgetting, planned_id_in, unless_other}
 use Rattle.apply_form_plan.specs.Plan.{note_of}
 use Rattle.apply_form_plan.specs.Selection.{details_selection}
-use Rattle.apply_json.proofs.Trimmed.Lookups.{as_array_trimmed, as_bool_trimmed, bind_mapped, is_word_trimmed, member_trimmed, non_empty_text_trimmed}
+use Rattle.apply_trees.proofs.Trimmed.Lookups.{as_array_trimmed, as_bool_trimmed, bind_mapped, is_word_trimmed, member_trimmed, non_empty_text_trimmed}
 
 -- ---- actions
 

@@ -14,6 +14,25 @@ use Rattle.apply_model.specs.declared.details.previous_resource.PreviousResource
 use Rattle.apply_model.specs.declared.details.reason.Reason.{Reason}
 use Rattle.apply_model.specs.declared.details.reason.Reason.TheVariants.{CannotUpdate, Tainted, Requested, ReplaceTriggeredBy, DeleteBecauseNoResourceConfig, DeleteBecauseWrongRepetition, DeleteBecauseCountIndex, DeleteBecauseEachKey, DeleteBecauseNoModule, DeleteBecauseNoMoveTarget, ReadBecauseConfigUnknown, ReadBecauseDependencyPending, ReadBecauseCheckNested, Unknown}
 
+-- the reason to read that a plan gives in that word
+abbrev pub read_reason : List ℕ → Reason
+read_reason word =
+    if bytes_eq word (codes "read_because_config_unknown") then ReadBecauseConfigUnknown
+    else if bytes_eq word (codes "read_because_dependency_pending") then ReadBecauseDependencyPending
+    else if bytes_eq word (codes "read_because_check_nested") then ReadBecauseCheckNested
+    else Unknown
+
+-- the reason to delete or to read
+abbrev pub delete_reason : List ℕ → Reason
+delete_reason word =
+    if bytes_eq word (codes "delete_because_no_resource_config") then DeleteBecauseNoResourceConfig
+    else if bytes_eq word (codes "delete_because_wrong_repetition") then DeleteBecauseWrongRepetition
+    else if bytes_eq word (codes "delete_because_count_index") then DeleteBecauseCountIndex
+    else if bytes_eq word (codes "delete_because_each_key") then DeleteBecauseEachKey
+    else if bytes_eq word (codes "delete_because_no_module") then DeleteBecauseNoModule
+    else if bytes_eq word (codes "delete_because_no_move_target") then DeleteBecauseNoMoveTarget
+    else read_reason word
+
 -- the reason that a plan gives in that word
 abbrev pub reason_named : List ℕ → Reason
 reason_named word =
@@ -21,16 +40,7 @@ reason_named word =
     else if bytes_eq word (codes "replace_because_tainted") then Tainted
     else if bytes_eq word (codes "replace_by_request") then Requested
     else if bytes_eq word (codes "replace_by_triggers") then ReplaceTriggeredBy
-    else if bytes_eq word (codes "delete_because_no_resource_config") then DeleteBecauseNoResourceConfig
-    else if bytes_eq word (codes "delete_because_wrong_repetition") then DeleteBecauseWrongRepetition
-    else if bytes_eq word (codes "delete_because_count_index") then DeleteBecauseCountIndex
-    else if bytes_eq word (codes "delete_because_each_key") then DeleteBecauseEachKey
-    else if bytes_eq word (codes "delete_because_no_module") then DeleteBecauseNoModule
-    else if bytes_eq word (codes "delete_because_no_move_target") then DeleteBecauseNoMoveTarget
-    else if bytes_eq word (codes "read_because_config_unknown") then ReadBecauseConfigUnknown
-    else if bytes_eq word (codes "read_because_dependency_pending") then ReadBecauseDependencyPending
-    else if bytes_eq word (codes "read_because_check_nested") then ReadBecauseCheckNested
-    else Unknown
+    else delete_reason word
 
 -- the value is that flag and nothing else
 abbrev pub is_flag : Bool → Option Data → Bool

@@ -1,7 +1,7 @@
 -- What of a plan is looked at for Terraform's form alone, for private clauses.
 use Rattle.std.specs.Prelude.{ℕ, List, ◌||◌, codes, if◌then◌else◌, Option, Some, None}
 use Rattle.std.specs.Str.{bytes_eq}
-use Rattle.apply_json.specs.Trimmed.{Selection}
+use Rattle.apply_trees.specs.Trimmed.{Selection}
 use Rattle.apply_form_plan.specs.declared.details_shape.DetailsShape.{DetailsShape}
 use Rattle.apply_form_plan.specs.declared.details_shape.DetailsShape.TheVariants.{Scalar, Plan, Changes, Element, Change, Actions, Importing, After}
 

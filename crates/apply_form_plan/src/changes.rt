@@ -14,10 +14,11 @@ use crate::details_shape::DetailsShape;
 use crate::elements::change_details;
 use crate::notes::plan_note;
 use crate::plan_details::PlanDetails;
-use apply_json::members::member;
-use apply_json::{JsonFault, Scratch, parse_trimmed};
+use apply_json::{JsonFault, Scratch};
 use apply_model::ChangeDetails;
 use apply_plan::MAX_BYTES;
+use apply_trees::members::member;
+use apply_trees::parse_trimmed;
 use serde_json::Value;
 use std::alloc::{AllocError, Global};
 

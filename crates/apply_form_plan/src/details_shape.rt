@@ -3,7 +3,8 @@
 ghost use Rattle.std.specs.Prelude.{◌≡◌};
 ghost use Rattle.apply_form_plan.specs.Selection.{details_selection, member_shape};
 
-use apply_json::Shape;
+use apply_json::is_text;
+use apply_trees::Shape;
 
 /// What of a value in a plan is looked at. A shape is named after the value that it belongs to.
 #[derive(Clone, Copy)]
@@ -34,7 +35,7 @@ impl Shape for DetailsShape {
             DetailsShape::Plan => member_of_plan(name),
             DetailsShape::Element => member_of_element(name),
             DetailsShape::Change => member_of_change(name),
-            DetailsShape::Importing | DetailsShape::After => if name == "id" {
+            DetailsShape::Importing | DetailsShape::After => if is_text(name, "id") {
                 Some(DetailsShape::Scalar)
             } else {
                 None
@@ -62,9 +63,9 @@ impl Shape for DetailsShape {
 fn member_of_plan(name: &str) -> Option<DetailsShape>
     ensures { result ≡ member_shape DetailsShape.Plan name.now }
 {
-    if name == "resource_changes" {
+    if is_text(name, "resource_changes") {
         Some(DetailsShape::Changes)
-    } else if name == "errored" || name == "complete" {
+    } else if is_text(name, "errored") || is_text(name, "complete") {
         Some(DetailsShape::Scalar)
     } else {
         None
@@ -74,9 +75,9 @@ fn member_of_plan(name: &str) -> Option<DetailsShape>
 fn member_of_element(name: &str) -> Option<DetailsShape>
     ensures { result ≡ member_shape DetailsShape.Element name.now }
 {
-    if name == "change" {
+    if is_text(name, "change") {
         Some(DetailsShape::Change)
-    } else if name == "action_reason" || name == "previous_address" {
+    } else if is_text(name, "action_reason") || is_text(name, "previous_address") {
         Some(DetailsShape::Scalar)
     } else {
         None
@@ -86,13 +87,13 @@ fn member_of_element(name: &str) -> Option<DetailsShape>
 fn member_of_change(name: &str) -> Option<DetailsShape>
     ensures { result ≡ member_shape DetailsShape.Change name.now }
 {
-    if name == "actions" {
+    if is_text(name, "actions") {
         Some(DetailsShape::Actions)
-    } else if name == "importing" {
+    } else if is_text(name, "importing") {
         Some(DetailsShape::Importing)
-    } else if name == "generated_config" {
+    } else if is_text(name, "generated_config") {
         Some(DetailsShape::Scalar)
-    } else if name == "after" || name == "after_sensitive" {
+    } else if is_text(name, "after") || is_text(name, "after_sensitive") {
         Some(DetailsShape::After)
     } else {
         None

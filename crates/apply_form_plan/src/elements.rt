@@ -10,8 +10,8 @@ ghost use Rattle.apply_form_plan.specs.Details.{element_details};
 use crate::flags::says;
 use crate::reasons::reason_named;
 use apply_address::{AddressParts, parts_of};
-use apply_json::members::{is_text, member, non_empty_text_member};
 use apply_model::{ChangeDetails, Importing, PreviousResource, Reason, Text};
+use apply_trees::members::{is_text, member, non_empty_text_member};
 use serde_json::Value;
 use std::alloc::{AllocError, Global};
 

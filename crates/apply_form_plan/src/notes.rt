@@ -6,7 +6,7 @@ ghost use Rattle.apply_form_plan.specs.Plan as plans;
 
 use crate::flags::says;
 use crate::told_of_plan::PlanNote;
-use apply_json::members::member;
+use apply_trees::members::member;
 use serde_json::Value;
 
 /// Whether the making of the plan ended with an error: its member `errored` is `true`.

@@ -7,8 +7,7 @@ ghost use Rattle.apply_plan.specs.Results.{Gives};
 ghost use Rattle.apply_form_plan.specs.Notes as specs;
 
 use crate::texts::items::read_items;
-use apply_json::ReadFault;
-use apply_json::members::non_empty;
+use apply_json::{ReadFault, non_empty};
 use apply_model::{Diag, Note, Severity, Text};
 use apply_outputs::{is_that, text_of};
 use apply_plan::ScriptError;

@@ -1,8 +1,8 @@
 //! What no clause says: that the definitions are the ones that were meant, and that calls succeed with ample memory.
 
 use apply_form_plan::{PlanNote, change_details, is_errored, is_partial, plan_note, told_notes};
-use apply_json::parse;
 use apply_model::{ChangeDetails, Importing, Key, Note, PreviousResource, Severity, Text};
+use apply_trees::parse;
 use serde_json::Value;
 use std::alloc::Global;
 use std::process::Abort;

@@ -10,7 +10,7 @@ use Rattle.json.specs.Json.{parse_map, value}
 use Rattle.json.specs.Lex.{tokens}
 use Rattle.serde_json.specs.Data.{Data, null, boolean, number, string, array, object, Items, no_items, item, Members, no_members, put}
 use Rattle.serde_json.specs.Read.{converted, max_depth, number_of, of_items, of_json, of_members}
-use Rattle.apply_json.specs.Keeping.{IsNoKeptTree, as_own_text, keeping, keeping_items, keeping_member, keeping_members, keeping_tree_of, own_text}
+use Rattle.apply_json.specs.Keeping.{IsKeptMember, IsKeptRead, IsNoKeptTree, as_own_text, keeping, keeping_items, keeping_member, keeping_members, keeping_tree_of, none_kept, own_text}
 use Rattle.apply_json.specs.declared.json_fault.JsonFault.{JsonFault}
 use Rattle.apply_json.specs.declared.json_fault.JsonFault.TheVariants.{TooLarge, NotJson, Memory}
 use Rattle.apply_json.specs.declared.listed.Listed.TheVariants as kind
@@ -18,6 +18,7 @@ use Rattle.apply_json.specs.declared.scalar.Scalar.{Scalar}
 use Rattle.apply_json.specs.declared.scalar.Scalar.TheVariants as scalar
 use Rattle.apply_json.specs.Seen.{IsScalar, absent, items_in, listed, members_in, scalar_view, seen}
 use Rattle.apply_json.specs.Parsed.{IsNoTree}
+use Rattle.apply_json.specs.Tokens.{IsRead}
 use Rattle.apply_json.specs.Tree.{list_of, tree_of}
 use Rattle.apply_json.proofs.Turns.{converted_some, refused}
 
@@ -231,6 +232,55 @@ module _ (kept : List ℕ → Bool) where
   no_kept_tree most NotJson bytes is = (is.0, no_kept_tree_of bytes is.1)
   no_kept_tree most Memory bytes is = is
 
+-- ---- where none are kept
+
+then_same : {A B : Type 0} (o : Option A) (f g : A → Option B) → ((a : A) → f a ≡ g a) → option_and_then f o ≡ option_and_then g o
+then_same None f g same = refl
+then_same (Some a) f g same = same a
+
+mutual
+  whole : (j : json.Json) → keeping none_kept j ≡ of_json j
+  whole json.null = refl
+  whole (json.boolean b) = refl
+  whole (json.number s) = refl
+  whole (json.string s) = refl
+  whole (json.array js) = ap (option_map array) (whole_items js)
+  whole (json.object ms) = ap (option_map object) (whole_members ms no_members)
+
+  whole_items : (js : json.Items) → keeping_items none_kept js ≡ of_items js
+  whole_items json.no_items = refl
+  whole_items (json.item j js) =
+      ap (λ (o : Option Data). option_and_then (λ d. option_map (item d) (keeping_items none_kept js)) o) (whole j)
+      ∙ ap (λ (o : Option Items). option_and_then (λ d. option_map (item d) o) (of_json j)) (whole_items js)
+
+  whole_members : (ms : json.Members) (found : Members) → keeping_members none_kept ms found ≡ of_members ms found
+  whole_members json.no_members found = refl
+  whole_members (json.member k j ms) found =
+      ap (λ (o : Option Data). option_and_then (λ d. keeping_members none_kept ms (put k d found)) o) (whole j)
+      ∙ then_same (of_json j) (λ d. keeping_members none_kept ms (put k d found)) (λ d. of_members ms (put k d found)) (λ d. whole_members ms (put k d found))
+
+whole_read : (o : Option (json.Json × List Token)) → converted (keeping none_kept) o ≡ converted of_json o
+whole_read None = refl
+whole_read (Some p) = ap (option_map (λ d. (d, p.1))) (whole p.0)
+
+module _ (depth : ℕ) (before : List Token) (d : Data) (rest : List Token) where
+  pub as_whole : IsKeptRead none_kept depth before d rest → IsRead depth before d rest
+  as_whole read = sym (whole_read (value depth before)) ∙ read
+
+  pub as_item : IsRead depth before d rest → IsKeptRead none_kept depth before d rest
+  as_item read = whole_read (value depth before) ∙ read
+
+  pub as_member : (name : List ℕ) → IsRead depth before d rest → IsKeptMember none_kept name depth before d rest
+  as_member name read = as_item read
+
+pub whole_tree_of : (bytes : List ℕ) → keeping_tree_of none_kept bytes ≡ tree_of bytes
+whole_tree_of bytes = ap (λ (o : Option Data). if is_utf8 bytes then o else None) (then_same (option_and_then (λ p. json.if_last p.0 p.1) (value max_depth (tokens bytes))) (keeping none_kept) of_json whole)
+
+pub is_no_tree : (most : ℕ) (fault : JsonFault) (bytes : List ℕ) → IsNoKeptTree none_kept most fault bytes → IsNoTree most fault bytes
+is_no_tree most TooLarge bytes is = is
+is_no_tree most NotJson bytes is = (is.0, sym (whole_tree_of bytes) ∙ is.1)
+is_no_tree most Memory bytes is = is
+
 -- ---- a scalar has neither members nor items
 
 pub no_members_in : (d : Data) → IsScalar d → no_members ≡ members_in d
@@ -263,7 +313,8 @@ other_is null scalar.Absent is not e = absurd (not refl)
 other_is null (scalar.Bool b) is not e = absurd cc
 other_is null (scalar.Number n) is not e = absurd cc
 other_is null (scalar.Text t) is not e = absurd cc
-other_is null scalar.Other is not e = absurd cc
+other_is null scalar.Array is not e = absurd cc
+other_is null scalar.Object is not e = absurd cc
 other_is (boolean b) s is not e = refl
 other_is (number n) s is not e = refl
 other_is (string t) s is not e = refl

@@ -4,9 +4,7 @@ pub mod Gathered
 pub mod Held
 pub mod Keeping
 pub mod KeepingTurns
-pub mod Made
-pub mod Scalars
+pub mod OneMember
 pub mod Trees
-pub mod Trimmed
 pub mod Turns
 pub mod Whole

@@ -1,6 +1,6 @@
 -- Values in which the members of some names are kept as their own texts: as they stand in a JSON text, token by token,
 -- without blanks, members in their order, numbers as they were written, strings in the shortest escapes (RFC 8259).
-use Rattle.std.specs.Prelude.{◌≡◌, ℕ, ◌-◌, ◌<◌, ◌≤◌, List, ◌∷◌, length, Bool, if◌then◌else◌, Option, Some, None, option_map, option_and_then}
+use Rattle.std.specs.Prelude.{◌≡◌, ℕ, ◌-◌, ◌<◌, ◌≤◌, List, ◌∷◌, length, Bool, false, if◌then◌else◌, Option, Some, None, option_map, option_and_then}
 use Rattle.std.specs.Str.{is_utf8}
 use Rattle.json.specs.Json as json
 use Rattle.json.specs.Json.{items, members, parse_map, value}
@@ -43,6 +43,10 @@ abbrev mutual
   keeping_members kept json.no_members found = Some found
   keeping_members kept (json.member k j ms) found =
       option_and_then (λ d. keeping_members kept ms (put k d found)) (if kept k then as_own_text j else keeping kept j)
+
+-- no member is kept as its own text, so that the tree is that of the value
+abbrev pub none_kept : (name : List ℕ) → Bool
+none_kept name = false
 
 -- the value of a member of that name
 abbrev pub keeping_member : (kept : List ℕ → Bool) → (name : List ℕ) → json.Json → Option Data

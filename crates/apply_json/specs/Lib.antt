@@ -3,4 +3,3 @@ pub mod Parsed
 pub mod Seen
 pub mod Tokens
 pub mod Tree
-pub mod Trimmed

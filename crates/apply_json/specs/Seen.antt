@@ -14,24 +14,26 @@ pub data Seen : Type 0 where
   truth : Bool → Seen
   number : Num → Seen
   text : List ℕ → Seen
-  other : Seen
+  an_array : Seen
+  an_object : Seen
 
--- `null` counts as absent; an array and an object are no scalar
+-- `null` counts as absent; an array and an object are no scalar, and of them no more is seen
 abbrev pub seen : Option Data → Seen
 seen None = absent
 seen (Some tree.null) = absent
 seen (Some (tree.boolean b)) = truth b
 seen (Some (tree.number n)) = number n
 seen (Some (tree.string s)) = text s
-seen (Some (tree.array ds)) = other
-seen (Some (tree.object ms)) = other
+seen (Some (tree.array ds)) = an_array
+seen (Some (tree.object ms)) = an_object
 
 abbrev pub scalar_view : Scalar → Seen
 scalar_view scalar.Absent = absent
 scalar_view (scalar.Bool b) = truth b
 scalar_view (scalar.Number n) = number (number_view n)
 scalar_view (scalar.Text s) = text s.now
-scalar_view scalar.Other = other
+scalar_view scalar.Array = an_array
+scalar_view scalar.Object = an_object
 
 -- the text, where there is one
 abbrev pub text_seen : Seen → Option (List ℕ)
@@ -39,7 +41,8 @@ text_seen absent = None
 text_seen (truth b) = None
 text_seen (number n) = None
 text_seen (text s) = Some s
-text_seen other = None
+text_seen an_array = None
+text_seen an_object = None
 
 -- the text, or what stands for it where it is absent; none where it is no text
 abbrev pub text_seen_or : List ℕ → Seen → Option (List ℕ)
@@ -47,7 +50,8 @@ text_seen_or missing absent = Some missing
 text_seen_or missing (truth b) = None
 text_seen_or missing (number n) = None
 text_seen_or missing (text s) = Some s
-text_seen_or missing other = None
+text_seen_or missing an_array = None
+text_seen_or missing an_object = None
 
 -- the whole number of 64 bits, where there is one
 abbrev pub whole_seen : Seen → Option ℕ
@@ -55,7 +59,8 @@ whole_seen absent = None
 whole_seen (truth b) = None
 whole_seen (number n) = as_u64 n
 whole_seen (text s) = None
-whole_seen other = None
+whole_seen an_array = None
+whole_seen an_object = None
 
 -- the members of an object; any other value has none
 abbrev pub members_in : Data → Members

@@ -1,5 +1,10 @@
 //! Why bytes gave no tree.
 
+ghost use Rattle.std.specs.Prelude.{◌≡◌};
+ghost use Rattle.apply_json.specs.Parsed.{json_fault_of};
+
+use crate::read_fault::ReadFault;
+
 /// Why there is no tree.
 #[derive(Clone, Copy)]
 pub enum JsonFault {
@@ -9,4 +14,16 @@ pub enum JsonFault {
     NotJson,
     /// Memory was refused.
     Memory,
+}
+
+impl JsonFault {
+    /// Why bytes gave no tree whose text gave none.
+    pub fn of(fault: ReadFault) -> JsonFault
+        ensures { result ≡ json_fault_of fault }
+    {
+        match fault {
+            ReadFault::NotJson => JsonFault::NotJson,
+            ReadFault::Memory => JsonFault::Memory,
+        }
+    }
 }

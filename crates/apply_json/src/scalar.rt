@@ -20,8 +20,8 @@ pub enum Scalar<'a> {
     Bool(bool),
     Number(Number),
     Text(&'a str),
-    /// An array or an object.
-    Other,
+    Array,
+    Object,
 }
 
 impl<'a> Scalar<'a> {
@@ -67,14 +67,14 @@ pub fn read_scalar<'a>(reader: &mut Reader<'a>, depth: usize) -> Result<Scalar<'
 {
     match begin(reader, depth)? {
         Begun::Scalar(scalar) => Ok(scalar),
-        Begun::Array => {
-            pass_items(reader, depth - 1)?;
-            Ok(Scalar::Other)
-        }
-        Begun::Object => {
-            pass_members(reader, depth - 1)?;
-            Ok(Scalar::Other)
-        }
+        Begun::Array => match pass_items(reader, depth - 1) {
+            Ok(()) => Ok(Scalar::Array),
+            Err(fault) => Err(fault),
+        },
+        Begun::Object => match pass_members(reader, depth - 1) {
+            Ok(()) => Ok(Scalar::Object),
+            Err(fault) => Err(fault),
+        },
     }
 }
 
@@ -89,6 +89,11 @@ pub fn read_scalar_into<'a>(
     ensures shorter { OnOk result (length reader.new < length reader.old) }
     ensures err { result ≡ Err ReadFault.NotJson → IsNoValue depth reader.old }
 {
-    *slot = read_scalar(reader, depth)?;
-    Ok(())
+    match read_scalar(reader, depth) {
+        Ok(found) => {
+            *slot = found;
+            Ok(())
+        }
+        Err(_) => Err(ReadFault::NotJson),
+    }
 }

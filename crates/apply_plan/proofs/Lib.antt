@@ -1,5 +1,4 @@
 pub mod ListReading
-pub mod OneMember
 pub mod Plans
 pub mod Results
 pub mod Scripts

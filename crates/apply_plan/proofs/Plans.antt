@@ -1,6 +1,7 @@
 -- Lemmas on plans.
 pub mod Elements
 pub mod Held
+pub mod Joined
 pub mod SeenSet
 pub mod Taken
 pub mod Top

@@ -9,7 +9,6 @@ mod found;
 mod members;
 mod plan;
 mod script;
-mod text_test;
 
 pub use apply_model::{
     Change, Diag, Ending, Key, MAX_CHANGES, MAX_OUTPUTS, MAX_PROVISIONERS, MAX_SECONDS, MAX_WAITS,

@@ -6,7 +6,7 @@ macro_rules! take_member {
         apply_json::pass_member($reader, $depth)
     };
     ($name:ident, $reader:ident, $depth:ident, $member:literal => $read:expr, $($others:tt)*) => {
-        if crate::text_test::is_text($name, $member) {
+        if apply_json::is_text($name, $member) {
             $read
         } else {
             take_member!($name, $reader, $depth, $($others)*)

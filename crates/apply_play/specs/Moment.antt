@@ -4,7 +4,7 @@ use Rattle.std.specs.Str.{bytes_eq}
 use Rattle.jiff.specs.Words.{Error, parse_timestamp}
 use Rattle.serde_json.specs.Data.{Data}
 use Rattle.apply_json.specs.Tree.{◌>>=◌, text_of, tree_of}
-use Rattle.apply_json.specs.Trimmed.{Selection}
+use Rattle.apply_trees.specs.Trimmed.{Selection}
 use Rattle.apply_play.specs.declared.shape.LineShape.{LineShape}
 use Rattle.apply_play.specs.declared.shape.LineShape.TheVariants.{Scalar, Line}
 

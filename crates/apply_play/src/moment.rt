@@ -5,8 +5,9 @@ ghost use Rattle.serde_json.specs.View.{view};
 ghost use Rattle.apply_play.specs.Moment.{instant_of, moment_of, tree_moment};
 
 use crate::shape::LineShape;
-use apply_json::members::text_member;
-use apply_json::{JsonFault, Scratch, parse_trimmed};
+use apply_json::{JsonFault, Scratch};
+use apply_trees::members::text_member;
+use apply_trees::parse_trimmed;
 use jiff::Timestamp;
 use serde_json::Value;
 use std::alloc::{AllocError, Global};

@@ -3,7 +3,7 @@
 ghost use Rattle.std.specs.Prelude.{◌≡◌};
 ghost use Rattle.apply_play.specs.Moment.{line_selection};
 
-use apply_json::Shape;
+use apply_trees::Shape;
 
 /// What of a line is looked at: what says that it is a message, and when that came.
 #[derive(Clone, Copy)]

@@ -23,10 +23,11 @@ use crate::findings::what::What;
 use crate::form::Form;
 use crate::plan::top_level::walk_plan;
 use crate::script::top_level::walk_script;
-use apply_json::{JsonFault, parse};
+use apply_json::JsonFault;
 use apply_plan::{
     MAX_BYTES, Plan, PlanError, Script, ScriptError, never_beginning, read_plan, read_script,
 };
+use apply_trees::parse;
 use serde_json::Value;
 use std::alloc::{AllocError, Global};
 

@@ -6,8 +6,8 @@ use Rattle.serde_json.specs.Data.{Data, null, boolean, number, string, array, ob
 use Rattle.serde_json.specs.Find.{get}
 use Rattle.apply_json.specs.Seen.{members_in}
 use Rattle.apply_json.specs.Tree.{list_of}
-use Rattle.apply_json.specs.Trimmed.{trimmed, trimmed_items, trimmed_members}
-use Rattle.apply_json.proofs.Trimmed.Lookups.{get_trimmed}
+use Rattle.apply_trees.specs.Trimmed.{trimmed, trimmed_items, trimmed_members}
+use Rattle.apply_trees.proofs.Trimmed.Lookups.{get_trimmed}
 use Rattle.apply_validate.specs.declared.findings.name.Name.{Name}
 use Rattle.apply_validate.specs.declared.findings.name.Name.TheVariants as name
 use Rattle.apply_validate.specs.declared.findings.part.Part.{Part}

@@ -7,8 +7,8 @@ use Rattle.std.proofs.lemmas.List.Sums.{sum_by-cons}
 use Rattle.serde_json.specs.Data.{Data, Items, no_items, item}
 use Rattle.serde_json.specs.Find.{as_array, as_number, as_u64}
 use Rattle.apply_json.specs.Tree.{◌>>=◌, list_of, member_of, text_of, text_or, unless_empty}
-use Rattle.apply_json.specs.Trimmed.{trimmed, trimmed_items}
-use Rattle.apply_json.proofs.Trimmed.Lookups.{as_array_trimmed, as_bool_trimmed, as_number_trimmed, as_str_trimmed, behind_trimmed, bind_mapped, member_trimmed, non_empty_text_trimmed, text_or_trimmed, text_trimmed}
+use Rattle.apply_trees.specs.Trimmed.{trimmed, trimmed_items}
+use Rattle.apply_trees.proofs.Trimmed.Lookups.{as_array_trimmed, as_bool_trimmed, as_number_trimmed, as_str_trimmed, behind_trimmed, bind_mapped, member_trimmed, non_empty_text_trimmed, text_or_trimmed, text_trimmed}
 use Rattle.apply_model.specs.declared.script.diag.Diag.{Diag}
 use Rattle.apply_model.specs.Plan.ResourceChange.{ResourceChange}
 use Rattle.apply_model.specs.Plan.SavedPlan.{SavedPlan}

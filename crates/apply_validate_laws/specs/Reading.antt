@@ -2,7 +2,7 @@
 use Rattle.std.specs.Prelude.{◌≢◌, ℕ, List, codes, if◌then◌else◌, Option, Some, None}
 use Rattle.std.specs.Str.{bytes_eq}
 use Rattle.serde_json.specs.Data.{Data, object, Members, put}
-use Rattle.apply_json.specs.Trimmed.{Selection, trimmed}
+use Rattle.apply_trees.specs.Trimmed.{Selection, trimmed}
 use Rattle.apply_validate.specs.declared.findings.name.Name.{Name}
 use Rattle.apply_validate.specs.Names.{name_text}
 use Rattle.apply_validate.specs.ScriptFindings.{diagnostic_names, entry_names, failure_names, output_names, provisioner_names, script_names, step_names, wait_names}

@@ -1,7 +1,7 @@
 -- What of a line is looked at, for private clauses.
 use Rattle.std.specs.Prelude.{ℕ, List, Bool, ◌||◌, codes, if◌then◌else◌, Option, Some, None}
 use Rattle.std.specs.Str.{bytes_eq}
-use Rattle.apply_json.specs.Trimmed.{Selection}
+use Rattle.apply_trees.specs.Trimmed.{Selection}
 use Rattle.apply_view.specs.declared.told.line_shape.LineShape.{LineShape}
 use Rattle.apply_view.specs.declared.told.line_shape.LineShape.TheVariants.{Scalar, Line, Hook, Resource, Changes, Diagnostic, Range, Start}
 

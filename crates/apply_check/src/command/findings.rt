@@ -1,9 +1,7 @@
 //! Streams that are not whole, as people and programs are told of them.
 
 ghost use Rattle.std.specs.Prelude.{◌≡◌, ◌≤◌, ◌⊎◌, ◌&&◌, not, ℕ, List, IfOk, IfSome, None, Option, Err, if◌then◌else◌, option_map};
-ghost use Rattle.std.specs.Option.{option_map_or};
-ghost use Rattle.serde_json.specs.View.{view};
-ghost use Rattle.apply_check.specs.About.{about_line, about_tree, object_view};
+ghost use Rattle.apply_check.specs.About.{about_line, object_view};
 ghost use Rattle.apply_check.specs.Checking.{HasRead};
 ghost use Rattle.apply_check.specs.Faults.{is_no_json, tells_object};
 ghost use Rattle.apply_check.specs.Judged.{StopsAt};
@@ -15,7 +13,7 @@ ghost use Rattle.apply_check.specs.declared.rules.mode.Mode.{Mode as mode_type};
 ghost use Rattle.apply_check.specs.declared.verdict.read_fault.ReadFault.{ReadFault as fault_type};
 
 use crate::command::form::Form;
-use crate::command::object::{Object, message_tree};
+use crate::command::object::{Object, object_in};
 use crate::command::status::NOT_WHOLE;
 use crate::command::telling::told_line;
 use crate::command::texts::finding_line;
@@ -26,9 +24,9 @@ use crate::rules::fault::Fault;
 use crate::rules::mode::Mode;
 use crate::rules::open_entry::OpenEntry;
 use crate::verdict::finding::Finding;
+use apply_json::Scratch;
 use apply_lines::Line;
 use apply_words::{FAILED, refuse_memory};
-use serde_json::Value;
 use std::alloc::{AllocError, Global};
 use std::io::Write;
 
@@ -47,7 +45,8 @@ pub fn tell_finding<W: Write, E: Write>(
         → IsTold mode seen form (Err (fault_type.Found finding.now)) result (W.contents out.old) (W.contents out.new) }
     ensures bad { (2 ≤ result) × (result ≤ 4) }
 {
-    let Ok(tree) = object_tree(alloc, mode, line, finding.fault) else {
+    let mut scratch = Scratch::new(alloc);
+    let Ok(object) = object_of(alloc, &mut scratch, mode, line, finding.fault) else {
         return refuse_memory(faults);
     };
     let Ok(open) = open_entries(alloc, checker, finding.fault) else {
@@ -57,7 +56,7 @@ pub fn tell_finding<W: Write, E: Write>(
         finding: *finding,
         text: &line.text,
         is_cut_off: is_cut_off(line, finding.fault),
-        object: object_of(&tree),
+        object,
         open: &open,
     };
     match form {
@@ -108,30 +107,21 @@ fn tell_object<W: Write, E: Write>(
     }
 }
 
-/// The tree of the faulty line, where its fault tells what it is about.
-fn object_tree(
+/// What the faulty line is about, where its fault tells that.
+fn object_of<'a>(
     alloc: Global,
+    scratch: &'a mut Scratch,
     mode: Mode,
-    line: &Line,
+    line: &'a Line,
     fault: Fault,
-) -> Result<Option<Value>, AllocError>
-    ensures { IfOk result (λ tree. option_map_or (λ t. about_tree (view t)) tree None
+) -> Result<Option<Object<'a>>, AllocError>
+    ensures { IfOk result (λ object. option_map object_view object
         ≡ (if tells_object fault then about_line mode.find line.now.text.items else None)) }
 {
     if fault.is_about_its_line() {
-        message_tree(alloc, mode, &line.text)
+        object_in(alloc, scratch, mode, &line.text)
     } else {
         Ok(None)
-    }
-}
-
-/// What the message of the tree is about, where there is one.
-fn object_of(tree: &Option<Value>) -> Option<Object<'_>>
-    ensures { option_map object_view result ≡ option_map_or (λ t. about_tree (view t)) tree.now None }
-{
-    match tree {
-        Some(tree) => Object::of(tree),
-        None => None,
     }
 }
 

@@ -1,18 +1,18 @@
 //! What a faulty line is about.
 
-ghost use Rattle.std.specs.Prelude.{◌≡◌, IfOk, None, option_map};
-ghost use Rattle.std.specs.Option.{option_copied, option_map_or};
-ghost use Rattle.serde_json.specs.View.{view};
-ghost use Rattle.apply_check.specs.About.{about_line, about_tree, message_in, provisioner_of};
+ghost use Rattle.std.specs.Prelude.{◌≡◌, IfOk, option_map};
+ghost use Rattle.std.specs.Option.{option_copied};
+ghost use Rattle.apply_check.specs.About.{about_line, message_in, object_view};
+ghost use Rattle.apply_check.specs.Kept.{about_held};
 
 use crate::lines::found::{from_mark, through_brace};
 use crate::messages::action::Action;
-use crate::messages::line_shape::LineShape;
+use crate::messages::kind::Kind;
+use crate::messages::line_slots::{LineSlots, read_line};
+use crate::messages::members::text_in;
 use crate::messages::message::Message;
 use crate::rules::mode::Mode;
-use apply_json::members::{member, text_member};
-use apply_json::{JsonFault, Scratch, parse_trimmed};
-use serde_json::Value;
+use apply_json::{JsonFault, Scratch};
 use std::alloc::{AllocError, Global};
 
 /// What a message is about that tells of a step or of a provisioner.
@@ -30,15 +30,12 @@ pub enum Object<'a> {
 }
 
 impl<'a> Object<'a> {
-    ghost use Rattle.apply_check.specs.About.{object_view};
-
-    /// What the message of that tree is about, where it is about one.
-    #[tactic(auto, unfolding(crate::specs::About::about_tree))]
-    pub fn of(tree: &'a Value) -> Option<Object<'a>>
-        ensures { option_map object_view result ≡ about_tree (view tree.now) }
+    /// What the message of a line is about, where it is about one.
+    fn of(line: &LineSlots<'a>) -> Option<Object<'a>>
+        ensures { option_map object_view result ≡ about_held line.now }
     {
-        let name = text_member(tree, "type")?;
-        match Message::of(name, tree) {
+        let name = line.type_name.text()?;
+        match line.of_kind(Kind::named(name)) {
             Ok(
                 Message::Step {
                     address,
@@ -47,7 +44,7 @@ impl<'a> Object<'a> {
                 },
             ) => Some(Object::Step { action, address }),
             Ok(Message::Provision { address, .. }) => Some(Object::Provisioner {
-                name: provisioner(tree),
+                name: text_in(line.hook.provisioner),
                 address,
             }),
             _ => None,
@@ -70,16 +67,20 @@ impl<'a> Object<'a> {
     }
 }
 
-/// The tree of a line's message, of a line of a log that of the message that is found in it.
-pub fn message_tree(alloc: Global, mode: Mode, text: &[u8]) -> Result<Option<Value>, AllocError>
-    ensures { IfOk result (λ tree. option_map_or (λ t. about_tree (view t)) tree None ≡ about_line mode.find text.now) }
+/// What a line's message is about, of a line of a log that which is found in it.
+pub fn object_in<'a>(
+    alloc: Global,
+    scratch: &'a mut Scratch,
+    mode: Mode,
+    text: &'a [u8],
+) -> Result<Option<Object<'a>>, AllocError>
+    ensures { IfOk result (λ object. option_map object_view object ≡ about_line mode.find text.now) }
 {
     let Some(piece) = message_in(mode, text) else {
         return Ok(None);
     };
-    let mut scratch = Scratch::new(alloc);
-    match parse_trimmed(alloc, &mut scratch, piece, piece.len(), LineShape::Line) {
-        Ok(tree) => Ok(Some(tree)),
+    match read_line(alloc, scratch, piece) {
+        Ok(line) => Ok(Object::of(&line)),
         Err(JsonFault::Memory) => Err(AllocError),
         Err(_) => Ok(None),
     }
@@ -94,11 +95,4 @@ fn message_in(mode: Mode, text: &[u8]) -> Option<&[u8]>
     } else {
         Some(text)
     }
-}
-
-/// The name of the provisioner that a message tells of, where it is a text.
-fn provisioner(tree: &Value) -> Option<&str>
-    ensures { option_copied result ≡ provisioner_of (view tree.now) }
-{
-    text_member(member(tree, "hook")?, "provisioner")
 }

@@ -3,7 +3,7 @@
 ghost use Rattle.std.specs.Prelude.{◌≡◌};
 ghost use Rattle.apply_check.specs.Words.{action_named, action_word};
 
-use crate::messages::text_test::is_text;
+use apply_json::is_text;
 
 /// What a step does to its object (`hook.action`). A refresh has no such word: its messages have types of their own.
 #[derive(Clone, Copy)]

@@ -1,41 +1,52 @@
 //! What is kept of the members of `hook`.
 
-ghost use Rattle.std.specs.Prelude.{◌≡◌, ◌<◌, Err, OnOk, Some, length, option_map};
+ghost use Rattle.std.specs.Prelude.{◌≡◌, ◌<◌, Err, OnOk, Some, length};
 ghost use Rattle.serde_json.specs.Data.{Data};
+ghost use Rattle.apply_json.specs.Keeping.{none_kept};
 ghost use Rattle.apply_json.specs.Tokens.{IsNoValue, IsRead};
-ghost use Rattle.apply_check.specs.Kept.{HoldsHook, inside, provision_held, refresh_held, start_held, subject_held, timed_held};
+ghost use Rattle.apply_check.specs.Kept.{HoldsHook, address_held, inside, presence_of, provision_held, refresh_held, start_held, subject_held, timed_held};
 ghost use Rattle.apply_check.specs.Message.{timed_stage_of};
 ghost use Rattle.apply_check.specs.MessageView.{message_view};
+ghost use Rattle.apply_check.specs.Results.{mapped};
 
 use crate::messages::action::Action;
+use crate::messages::inner_slot::InnerSlot;
+use crate::messages::members::{count_at, read_found, text_at};
 use crate::messages::message::{Message, Subject};
-use crate::messages::named_slot::read_member;
+use crate::messages::path::Path;
+use crate::messages::presence::Presence;
 use crate::messages::stage::Stage;
-use crate::messages::text_test::is_text;
 use crate::messages::timed_stage::TimedStage;
-use apply_json::{ReadFault, Reader, Scalar, Slots, pass_member, read_object, read_scalar_into};
+use crate::rules::fault::Fault;
+use apply_json::{ReadFault, Reader, Scalar, Slots, is_text, pass_member, read_object};
 use std::alloc::Global;
 
 /// The members of `hook` that tell of a step or of a provisioner.
 #[derive(Clone, Copy, Drop)]
 pub struct HookSlots<'a> {
-    /// The address in `resource`.
-    pub address: Scalar<'a>,
-    pub action: Scalar<'a>,
-    pub seconds: Scalar<'a>,
+    pub is: Presence,
+    /// `resource`, with its `addr`.
+    pub resource: InnerSlot<'a>,
+    pub action: Option<Scalar<'a>>,
+    pub seconds: Option<Scalar<'a>>,
+    pub provisioner: Option<Scalar<'a>>,
 }
 
 impl<'a> HookSlots<'a> {
     ghost use Rattle.serde_json.specs.Data.{no_members};
+    ghost use Rattle.std.specs.Prelude.{None};
 
-    /// No member.
+    /// There is no `hook`.
     pub fn new() -> HookSlots<'a>
-        ensures { HoldsHook result no_members }
+        ensures is { result.is ≡ presence_of None }
+        ensures holds { HoldsHook result no_members }
     {
         HookSlots {
-            address: Scalar::Absent,
-            action: Scalar::Absent,
-            seconds: Scalar::Absent,
+            is: Presence::Missing,
+            resource: InnerSlot::new(),
+            action: None,
+            seconds: None,
+            provisioner: None,
         }
     }
 
@@ -46,64 +57,99 @@ impl<'a> HookSlots<'a> {
         depth: usize,
         hook: &mut HookSlots<'a>,
     ) -> Result<(), ReadFault>
-        ensures ok { OnOk result ((d : Data) × IsRead depth reader.old d reader.new × HoldsHook hook.new (inside (Some d))) }
+        ensures ok { OnOk result ((d : Data) × IsRead depth reader.old d reader.new
+            × (hook.new.is ≡ presence_of (Some d)) × HoldsHook hook.new (inside (Some d))) }
         ensures shorter { OnOk result (length reader.new < length reader.old) }
         ensures err { result ≡ Err ReadFault.NotJson → IsNoValue depth reader.old }
     {
-        let mut slots: HookSlots<'a> = HookSlots::new();
-        read_object(alloc, reader, depth, &mut slots)?;
-        *hook = slots;
-        Ok(())
+        *hook = HookSlots::new();
+        match read_object(alloc, reader, depth, hook) {
+            Ok(value) => {
+                hook.is = Presence::of(value);
+                Ok(())
+            }
+            Err(fault) => Err(fault),
+        }
     }
 
     /// The address and the action word of a step.
-    fn subject(&self) -> Option<Subject<'a>>
-        ensures { option_map (λ s. (s.address.now, s.word.now)) result ≡ subject_held self.now }
+    #[inline(always)]
+    fn subject(&self) -> Result<Subject<'a>, Fault>
+        ensures { mapped (λ s. (s.address.now, s.word.now)) result ≡ subject_held self.now }
     {
-        let address = self.address.text()?;
-        let word = self.action.text()?;
-        Some(Subject { address, word })
+        let address = self.resource.text(Path::Address, Path::Resource)?;
+        let word = text_at(Path::Action, self.action)?;
+        Ok(Subject { address, word })
+    }
+
+    /// The address alone.
+    fn address(&self) -> Result<&'a str, Fault>
+        ensures { mapped (λ address. address.now) result ≡ address_held self.now }
+    {
+        self.is
+            .object(Path::Address, Path::Hook)
+            .and(self.resource.text(Path::Address, Path::Resource))
     }
 
     /// A start.
-    pub fn start(&self) -> Option<Message<'a>>
-        ensures { option_map message_view result ≡ start_held self.now }
+    pub fn start(&self) -> Result<Message<'a>, Fault>
+        ensures { mapped message_view result ≡ start_held self.now }
     {
-        let subject = self.subject()?;
-        Some(Message::of_step(subject, TimedStage::Start))
+        match self
+            .is
+            .object(Path::Address, Path::Hook)
+            .and(self.subject())
+        {
+            Ok(subject) => Ok(Message::of_step(subject, TimedStage::Start)),
+            Err(fault) => Err(fault),
+        }
     }
 
     /// Progress or an end of a step, with its seconds.
-    pub fn timed(&self, stage: Stage) -> Option<Message<'a>>
-        ensures { option_map message_view result ≡ timed_held (timed_stage_of stage) self.now }
+    pub fn timed(&self, stage: Stage) -> Result<Message<'a>, Fault>
+        ensures { mapped message_view result ≡ timed_held (timed_stage_of stage) self.now }
     {
-        let subject = self.subject()?;
-        let seconds = self.seconds.whole()?;
-        Some(Message::of_step(subject, TimedStage::of(stage, seconds)))
+        match self
+            .is
+            .object(Path::Address, Path::Hook)
+            .and(self.subject())
+        {
+            Ok(subject) => match count_at(Path::Seconds, self.seconds) {
+                Ok(seconds) => Ok(Message::of_step(subject, TimedStage::of(stage, seconds))),
+                Err(fault) => Err(fault),
+            },
+            Err(fault) => Err(fault),
+        }
     }
 
     /// What becomes of a provisioner.
-    pub fn provision(&self, stage: Stage) -> Option<Message<'a>>
-        ensures { option_map message_view result ≡ provision_held stage self.now }
+    pub fn provision(&self, stage: Stage) -> Result<Message<'a>, Fault>
+        ensures { mapped message_view result ≡ provision_held stage self.now }
     {
-        let address = self.address.text()?;
-        Some(Message::Provision { address, stage })
+        match self.address() {
+            Ok(address) => Ok(Message::Provision { address, stage }),
+            Err(fault) => Err(fault),
+        }
     }
 
     /// What becomes of a refresh.
-    pub fn refresh(&self, stage: TimedStage) -> Option<Message<'a>>
-        ensures { option_map message_view result ≡ refresh_held stage self.now }
+    pub fn refresh(&self, stage: TimedStage) -> Result<Message<'a>, Fault>
+        ensures { mapped message_view result ≡ refresh_held stage self.now }
     {
-        let address = self.address.text()?;
-        Some(Message::Step {
-            address,
-            action: Action::Refresh,
-            stage,
-        })
+        match self.address() {
+            Ok(address) => Ok(Message::Step {
+                address,
+                action: Action::Refresh,
+                stage,
+            }),
+            Err(fault) => Err(fault),
+        }
     }
 }
 
 impl<'a> Slots<'a> for HookSlots<'a> {
+    ghost kept = { none_kept };
+
     ghost holds = { λ _ slots ms. HoldsHook slots ms };
 
     fn take(
@@ -114,11 +160,13 @@ impl<'a> Slots<'a> for HookSlots<'a> {
         depth: usize,
     ) -> Result<(), ReadFault> {
         if is_text(name, "resource") {
-            read_member(alloc, reader, depth, "addr", &mut self.address)
+            InnerSlot::read(alloc, reader, depth, "addr", &mut self.resource)
         } else if is_text(name, "action") {
-            read_scalar_into(reader, depth, &mut self.action)
+            read_found(reader, depth, &mut self.action)
         } else if is_text(name, "elapsed_seconds") {
-            read_scalar_into(reader, depth, &mut self.seconds)
+            read_found(reader, depth, &mut self.seconds)
+        } else if is_text(name, "provisioner") {
+            read_found(reader, depth, &mut self.provisioner)
         } else {
             pass_member(reader, depth)
         }

@@ -4,7 +4,7 @@ ghost use Rattle.std.specs.Prelude.{◌≡◌};
 ghost use Rattle.apply_check.specs.MessageKinds.{general_kind, kind_named, stepless_kind};
 
 use crate::messages::stage::Stage;
-use crate::messages::text_test::is_text;
+use apply_json::is_text;
 
 /// What a message of a type tells of (Machine-Readable UI, "Message Types").
 #[derive(Clone, Copy)]

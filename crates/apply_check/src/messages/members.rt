@@ -1,57 +1,68 @@
 //! The members that a message of a known type has to have.
 
-ghost use Rattle.std.specs.Prelude.{◌≡◌};
-ghost use Rattle.serde_json.specs.View.{view};
+ghost use Rattle.std.specs.Prelude.{◌≡◌, ◌<◌, Err, OnOk, Some, length, option_map};
+ghost use Rattle.serde_json.specs.Data.{Data};
+ghost use Rattle.std.specs.Option.{option_copied};
+ghost use Rattle.apply_json.specs.Seen.{scalar_view};
+ghost use Rattle.apply_json.specs.Tokens.{IsNoValue, IsRead};
+ghost use Rattle.apply_check.specs.Kept.{count_held, shown, text_held, text_there};
 ghost use Rattle.apply_check.specs.Results.{mapped};
-ghost use Rattle.apply_check.specs.Members.{count_at, object_at, text_at};
 
 use crate::messages::lack::Lack;
 use crate::messages::path::Path;
 use crate::rules::fault::Fault;
-use serde_json::Value;
+use apply_json::{ReadFault, Reader, Scalar, read_scalar};
 
-/// The object of that name, in which the member stands. An `Err` says that the member is missing, or that what it stands
-/// in is no object.
-pub fn object_at<'a>(
-    member: Path,
-    name: &str,
-    container: Path,
-    value: &'a Value,
-) -> Result<&'a Value, Fault>
-    ensures { mapped (λ found. view found.now) result ≡ object_at member name.now container (view value.now) }
+/// The text that a member is, which has to be there.
+pub fn text_at<'a>(member: Path, found: Option<Scalar<'a>>) -> Result<&'a str, Fault>
+    ensures { mapped (λ text. text.now) result ≡ text_held member (option_map scalar_view found.entry) }
 {
-    match value.get(name) {
+    match found {
         None => Err(Fault::Malformed(member, Lack::Missing)),
-        Some(found) => if found.is_object() {
-            Ok(found)
-        } else {
-            Err(Fault::Malformed(container, Lack::NoObject))
-        },
-    }
-}
-
-/// The text of that name.
-pub fn text_at<'a>(member: Path, name: &str, value: &'a Value) -> Result<&'a str, Fault>
-    ensures { mapped (λ found. found.now) result ≡ text_at member name.now (view value.now) }
-{
-    match value.get(name) {
-        None => Err(Fault::Malformed(member, Lack::Missing)),
-        Some(found) => match found.as_str() {
+        Some(found) => match found.text() {
             Some(text) => Ok(text),
             None => Err(Fault::Malformed(member, Lack::NoText)),
         },
     }
 }
 
-/// The whole number of that name, of 64 bits.
-pub fn count_at(member: Path, name: &str, value: &Value) -> Result<u64, Fault>
-    ensures { result ≡ count_at member name.now (view value.now) }
+/// The whole number of 64 bits that a member is, which has to be there.
+pub fn count_at(member: Path, found: Option<Scalar<'_>>) -> Result<u64, Fault>
+    ensures { result ≡ count_held member (option_map scalar_view found.entry) }
 {
-    match value.get(name) {
+    match found {
         None => Err(Fault::Malformed(member, Lack::Missing)),
-        Some(found) => match found.as_u64() {
+        Some(found) => match found.whole() {
             Some(count) => Ok(count),
             None => Err(Fault::Malformed(member, Lack::NoWholeNumber)),
         },
+    }
+}
+
+/// The text that a member is, where it is one.
+pub fn text_in(found: Option<Scalar<'_>>) -> Option<&str>
+    ensures { option_copied result ≡ text_there (option_map scalar_view found.entry) }
+{
+    found?.text()
+}
+
+/// Reads a member, in which arrays and objects nest at most `depth` deep, into its slot.
+#[inline(always)]
+pub fn read_found<'a>(
+    reader: &mut Reader<'a>,
+    depth: usize,
+    slot: &mut Option<Scalar<'a>>,
+) -> Result<(), ReadFault>
+    ensures ok { OnOk result ((d : Data) × IsRead depth reader.old d reader.new
+        × (option_map scalar_view slot.new ≡ shown (Some d))) }
+    ensures shorter { OnOk result (length reader.new < length reader.old) }
+    ensures err { result ≡ Err ReadFault.NotJson → IsNoValue depth reader.old }
+{
+    match read_scalar(reader, depth) {
+        Ok(found) => {
+            *slot = Some(found);
+            Ok(())
+        }
+        Err(_) => Err(ReadFault::NotJson),
     }
 }

@@ -1,22 +1,17 @@
 //! A checker of the lines of a stream.
 
-ghost use Rattle.std.specs.Prelude.{◌≡◌, ◌<◌, ◌≤◌, ◌^◌, ◌↔◌, List, [], false, length};
+ghost use Rattle.std.specs.Prelude.{◌≡◌, ◌<◌, ◌^◌, ◌↔◌, List, [], false};
 ghost use Rattle.std.specs.List.{list_any};
-ghost use Rattle.serde_json.specs.View.{view};
-ghost use Rattle.apply_lines.specs.Limits.{max_bytes};
 ghost use Rattle.apply_check.specs.Small.{IsSmall};
 
 use crate::lines::found::piece_of;
-use crate::messages::line_shape::LineShape;
 use crate::messages::line_slots::message_in;
-use crate::messages::message::Message;
 use crate::rules::fault::Fault;
 use crate::rules::limits::{MAX_BYTES, MAX_LINES};
 use crate::rules::mode::Mode;
 use crate::rules::open_steps::OpenSteps;
 use crate::rules::tally::Tally;
-use apply_json::{JsonFault, Scratch, parse_trimmed};
-use serde_json::Value;
+use apply_json::Scratch;
 use std::alloc::{AllocError, Global};
 
 /// What is needed of the lines so far: it grows only with the number of addresses at which something stands open, and
@@ -32,7 +27,7 @@ pub struct Checker {
 
 impl Checker {
     ghost use Rattle.apply_check.specs.Checking.{Continues, HasRead, lines_read};
-    ghost use Rattle.apply_check.specs.Lines.{next, passed_of, read_line, read_text, read_tree};
+    ghost use Rattle.apply_check.specs.Lines.{next, passed_of, read_line, read_text};
     ghost use Rattle.apply_check.specs.Message.{Message as said, foreign};
     ghost use Rattle.apply_check.specs.Tally.{is_error};
 
@@ -74,8 +69,7 @@ impl Checker {
 
     /// Takes the text of a message.
     fn text(&mut self, alloc: Global, find: bool, text: &[u8]) -> Result<(), Fault>
-        requires lines { lines_read self.old < 2 ^ 32 }
-        requires bytes { length text.now ≤ max_bytes }
+        requires { lines_read self.old < 2 ^ 32 }
         ensures { Continues self.old self.new (λ messages. read_text find messages text.now) result }
     {
         // The message borrows from the scratch while the checker changes.
@@ -93,42 +87,10 @@ impl Checker {
         find: bool,
         text: &[u8],
     ) -> Result<(), Fault>
-        requires lines { lines_read self.old < 2 ^ 32 }
-        requires bytes { length text.now ≤ max_bytes }
+        requires { lines_read self.old < 2 ^ 32 }
         ensures { Continues self.old self.new (λ messages. read_text find messages text.now) result }
     {
         match message_in(alloc, scratch, find, text) {
-            Some(message) => self.message(alloc, message),
-            None => self.text_as_tree(alloc, scratch, find, text),
-        }
-    }
-
-    /// Takes a text by its tree, which tells what slots do not.
-    fn text_as_tree(
-        &mut self,
-        alloc: Global,
-        scratch: &mut Scratch,
-        find: bool,
-        text: &[u8],
-    ) -> Result<(), Fault>
-        requires lines { lines_read self.old < 2 ^ 32 }
-        requires bytes { length text.now ≤ max_bytes }
-        ensures { Continues self.old self.new (λ messages. read_text find messages text.now) result }
-    {
-        match parse_trimmed(alloc, scratch, text, MAX_BYTES, LineShape::Line) {
-            Ok(tree) => self.tree(alloc, find, &tree),
-            Err(JsonFault::TooLarge) => Err(Fault::TooLong),
-            Err(JsonFault::NotJson) => Err(Fault::NotJson),
-            Err(JsonFault::Memory) => Err(Fault::Memory),
-        }
-    }
-
-    /// Takes a message that is a tree.
-    fn tree(&mut self, alloc: Global, find: bool, tree: &Value) -> Result<(), Fault>
-        requires { lines_read self.old < 2 ^ 32 }
-        ensures { Continues self.old self.new (λ messages. read_tree find messages (view tree.now)) result }
-    {
-        match Message::of_tree(find, tree) {
             Ok(message) => self.message(alloc, message),
             Err(fault) => Err(fault),
         }

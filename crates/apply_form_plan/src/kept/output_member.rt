@@ -5,6 +5,8 @@ ghost use Rattle.apply_form_plan.specs.Kept.{name_of};
 ghost use Rattle.apply_form_plan.specs.Texts.{part_named};
 ghost use Rattle.apply_form_plan.specs.declared.texts.part.Part.TheVariants.{Output, Text};
 
+use apply_json::is_text;
+
 /// A member of an output that is kept.
 #[derive(Clone, Copy, Debug, PartialEq, Eq)]
 pub enum OutputMember {
@@ -22,11 +24,11 @@ impl OutputMember {
         ensures part { option_map (λ _. Text) result ≡ part_named Output name.now }
         ensures name { IfSome result (λ member. name_of member ≡ name.now) }
     {
-        if name == "sensitive" {
+        if is_text(name, "sensitive") {
             Some(OutputMember::Sensitive)
-        } else if name == "type" {
+        } else if is_text(name, "type") {
             Some(OutputMember::Type)
-        } else if name == "value" {
+        } else if is_text(name, "value") {
             Some(OutputMember::Value)
         } else {
             None

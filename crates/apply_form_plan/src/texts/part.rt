@@ -5,6 +5,8 @@ ghost use Rattle.apply_form_plan.specs.Sought.{is_beside};
 ghost use Rattle.apply_form_plan.specs.Texts as texts;
 ghost use Rattle.apply_form_plan.specs.Texts.{is_text, part_named};
 
+use apply_json::is_text;
+
 /// What of a plan or a script a value is, on the way to what is kept as text. Values of no part are passed over.
 #[derive(Clone, Copy, Debug, PartialEq, Eq)]
 pub enum Part {
@@ -60,26 +62,26 @@ impl Part {
         ensures { result ≡ part_named self name.now }
     {
         match self {
-            Part::Plan => if name == "prior_state" {
+            Part::Plan => if is_text(name, "prior_state") {
                 Some(Part::State)
-            } else if name == "output_changes" {
+            } else if is_text(name, "output_changes") {
                 Some(Part::OutputChanges)
             } else {
                 None
             },
-            Part::State => if name == "values" {
+            Part::State => if is_text(name, "values") {
                 Some(Part::Values)
             } else {
                 None
             },
-            Part::Values => if name == "outputs" {
+            Part::Values => if is_text(name, "outputs") {
                 Some(Part::Outputs)
             } else {
                 None
             },
-            Part::Script => if name == "outputs" {
+            Part::Script => if is_text(name, "outputs") {
                 Some(Part::Outputs)
-            } else if name == "diagnostics" {
+            } else if is_text(name, "diagnostics") {
                 Some(Part::Diagnostics)
             } else {
                 None
@@ -90,13 +92,16 @@ impl Part {
                 None
             },
             Part::Outputs => Some(Part::Output),
-            Part::Output => if name == "sensitive" || name == "type" || name == "value" {
+            Part::Output => if is_text(name, "sensitive")
+                || is_text(name, "type")
+                || is_text(name, "value")
+            {
                 Some(Part::Text)
             } else {
                 None
             },
             Part::OutputChanges => Some(Part::OutputChange),
-            Part::OutputChange => if name == "actions" || name == "after_unknown" {
+            Part::OutputChange => if is_text(name, "actions") || is_text(name, "after_unknown") {
                 Some(Part::Text)
             } else {
                 None
@@ -110,10 +115,10 @@ impl Part {
 fn is_of_diagnostic(name: &str) -> bool
     ensures { result ≡ texts.is_of_diagnostic name.now }
 {
-    name == "severity"
-        || name == "summary"
-        || name == "detail"
-        || name == "address"
-        || name == "range"
-        || name == "snippet"
+    is_text(name, "severity")
+        || is_text(name, "summary")
+        || is_text(name, "detail")
+        || is_text(name, "address")
+        || is_text(name, "range")
+        || is_text(name, "snippet")
 }

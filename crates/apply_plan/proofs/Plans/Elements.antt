@@ -51,6 +51,15 @@ next_element elements ds d holds room not =
     ∙ made_more change_after [] ds d
     ∙ ap (λ (r : Result (List ResourceChange) PlanError). r >>= one_more change_after d) (sym (within ds (omega (arith, room, holds.counted))) ∙ holds.so_far not)
 
+-- where there are as many as a plan may have
+pub holds_full : (old new : Elements) (ds : List Data) (d : Data) → HoldsElements old ds → max_changes ≤ old.count → new ≡ record old { fault = Some TooMany } → HoldsElements new (ds ++ d ∷ [])
+holds_full old new ds d holds full is = rw is (record {
+  counted = omega (arith, full, holds.counted, longer ds d);
+  made = λ none. absurd cc;
+  seen = λ none. absurd cc;
+  so_far = λ not. beyond (ds ++ d ∷ []) (omega (arith, full, holds.counted, longer ds d));
+})
+
 -- behind a fault
 pub holds_past : (old new : Elements) (ds : List Data) (d : Data) → is_some old.fault ≡ true → HoldsElements old ds → old.count < max_changes → new ≡ record old { count = old.count + 1 } → HoldsElements new (ds ++ d ∷ [])
 holds_past old new ds d some holds room is = rw is (record {

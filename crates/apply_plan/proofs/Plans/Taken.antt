@@ -6,6 +6,7 @@ use Rattle.serde_json.specs.Data.{Data, Members, put}
 use Rattle.apply_json.specs.declared.scalar.Scalar.{Scalar}
 use Rattle.apply_json.specs.Seen.{scalar_view, seen}
 use Rattle.apply_json.proofs.Held.{left}
+use Rattle.apply_json.proofs.OneMember.{behind, found_behind}
 use Rattle.apply_model.specs.Plan.Action.{steps_of_action}
 use Rattle.apply_plan.specs.declared.plan.change_slots.ChangeSlots.{ChangeSlots}
 use Rattle.apply_plan.specs.declared.plan.element_member.ElementMember.{ElementMember}
@@ -13,7 +14,6 @@ use Rattle.apply_plan.specs.declared.plan.element_member.ElementMember.TheVarian
 use Rattle.apply_plan.specs.declared.plan.element_slots.ElementSlots.{ElementSlots}
 use Rattle.apply_plan.specs.Plan.ElementView.{planned_change_view}
 use Rattle.apply_plan.specs.Plan.Members.{HoldsChange, HoldsElement, actions_member, change_member, id_member, name_of, sensitive_member, with_scalar}
-use Rattle.apply_plan.proofs.OneMember.{behind, found_behind}
 
 module _ (k q : List ℕ) (d : Data) (ms : Members) (here : bytes_eq k q ≡ true) where
   element_behind : (slots : ElementSlots) → scalar_view slots.address ≡ seen (found_behind q d ms (codes "address"))

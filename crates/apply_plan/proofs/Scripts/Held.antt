@@ -207,11 +207,13 @@ not_text scalar.Absent never t is = absurd cc
 not_text (scalar.Bool b) never t is = absurd cc
 not_text (scalar.Number n) never t is = absurd cc
 not_text (scalar.Text x) never t is = never x refl
-not_text scalar.Other never t is = absurd cc
+not_text scalar.Array never t is = absurd cc
+not_text scalar.Object never t is = absurd cc
 
 pub not_absent : (found : Scalar) → (found ≡ scalar.Absent → ⊥) → s.absent ≡ scalar_view found → ⊥
 not_absent scalar.Absent never is = never refl
 not_absent (scalar.Bool b) never is = absurd cc
 not_absent (scalar.Number n) never is = absurd cc
 not_absent (scalar.Text x) never is = absurd cc
-not_absent scalar.Other never is = absurd cc
+not_absent scalar.Array never is = absurd cc
+not_absent scalar.Object never is = absurd cc

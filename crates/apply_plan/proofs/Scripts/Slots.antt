@@ -3,6 +3,7 @@ use Rattle.std.proofs.Common.{◌≡◌, ℕ, List, true, codes, map, option_map
 use Rattle.std.specs.Str.{bytes_eq}
 use Rattle.serde_json.specs.Data.{Data, Members, put}
 use Rattle.apply_json.specs.Seen.{scalar_view, seen}
+use Rattle.apply_json.proofs.OneMember.{behind, found_behind}
 use Rattle.apply_plan.specs.declared.script.diag_slots.DiagSlots.{DiagSlots}
 use Rattle.apply_plan.specs.declared.script.wait_slots.WaitSlots.{WaitSlots}
 use Rattle.apply_plan.specs.declared.script.output_slots.OutputSlots.{OutputSlots}
@@ -13,7 +14,6 @@ use Rattle.apply_plan.specs.Script.Entry.{output_from, provisioner_from, wait_fr
 use Rattle.apply_plan.specs.Script.Members.{HoldsDiag, HoldsEntry, HoldsOutput, HoldsProvisioner, HoldsStep, HoldsWait, diag_member, each_member, failure_found, failure_member, object_member, steps_member, text_found}
 use Rattle.apply_plan.specs.Script.OutputView.{outputs_view}
 use Rattle.apply_plan.specs.Script.TreeView.{entry_step_view, provisioner_view, waits_view}
-use Rattle.apply_plan.proofs.OneMember.{behind, found_behind}
 
 module _ (k q : List ℕ) (d : Data) (ms : Members) (here : bytes_eq k q ≡ true) where
   pub diag_behind : (slots : DiagSlots) → scalar_view slots.summary ≡ seen (found_behind q d ms (codes "summary"))

@@ -3,7 +3,7 @@ use Rattle.std.specs.Prelude.{◌≡◌, ℕ, List, [], codes, Bool, false, if�
 use Rattle.std.specs.Option.{option_copied}
 use Rattle.serde_json.specs.Data.{Data, Members}
 use Rattle.serde_json.specs.Find.{as_array, as_i64, get_member}
-use Rattle.apply_json.specs.Seen.{Seen, absent, truth, number, text, other, scalar_view, seen, text_seen, text_seen_or}
+use Rattle.apply_json.specs.Seen.{Seen, absent, truth, number, text, an_array, an_object, scalar_view, seen, text_seen, text_seen_or}
 use Rattle.apply_json.specs.Tree.{◌>>=◌, member_of, non_empty_text_of, unless_empty, unless_null}
 use Rattle.apply_model.specs.declared.plan.key.Key.{Key}
 use Rattle.apply_model.specs.declared.plan.key.Key.TheVariants as key
@@ -58,7 +58,8 @@ truth_seen absent = false
 truth_seen (truth b) = b
 truth_seen (number n) = false
 truth_seen (text s) = false
-truth_seen other = false
+truth_seen an_array = false
+truth_seen an_object = false
 
 abbrev pub mode_seen : Seen → Option Mode
 mode_seen found = text_seen found >>= mode_named
@@ -68,7 +69,8 @@ key_seen absent = Some key.None
 key_seen (truth b) = None
 key_seen (number n) = option_map key.Number (as_i64 n)
 key_seen (text s) = Some (key.Name s)
-key_seen other = None
+key_seen an_array = None
+key_seen an_object = None
 
 abbrev pub name_of : ElementMember → List ℕ
 name_of member.Address = codes "address"

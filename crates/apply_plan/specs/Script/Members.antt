@@ -8,7 +8,7 @@ use Rattle.apply_model.specs.declared.script.diag.Diag.{Diag}
 use Rattle.apply_model.specs.declared.script.ending.Ending.{Ending}
 use Rattle.apply_model.specs.declared.script.outcome.Outcome.{Outcome}
 use Rattle.apply_model.specs.declared.script.provisioner.Provisioner.{Provisioner}
-use Rattle.apply_json.specs.Seen.{Seen, absent, truth, number, text, other, scalar_view, seen, text_seen, text_seen_or, whole_seen}
+use Rattle.apply_json.specs.Seen.{Seen, absent, truth, number, text, an_array, an_object, scalar_view, seen, text_seen, text_seen_or, whole_seen}
 use Rattle.apply_json.specs.Tree.{◌>>=◌, list_of, unless_empty, unless_null}
 use Rattle.apply_plan.specs.declared.script.diag_slots.DiagSlots.{DiagSlots}
 use Rattle.apply_plan.specs.declared.script.entry_slots.EntrySlots.{EntrySlots}
@@ -112,7 +112,8 @@ flag_said set unset absent = Some false
 flag_said set unset (truth b) = None
 flag_said set unset (number n) = None
 flag_said set unset (text s) = flag_by set unset s
-flag_said set unset other = None
+flag_said set unset an_array = None
+flag_said set unset an_object = None
 
 -- whether a failure only warns, by its word
 abbrev pub only_warns_held : Seen → Option Bool
@@ -129,7 +130,8 @@ number_held absent = Some None
 number_held (truth b) = None
 number_held (number n) = option_map Some (whole_seen (number n))
 number_held (text s) = None
-number_held other = None
+number_held an_array = None
+number_held an_object = None
 
 abbrev pub wait_held : WaitSlots → Option WaitName
 wait_held slots = do
@@ -171,7 +173,8 @@ flag_held absent = Some false
 flag_held (truth b) = Some b
 flag_held (number n) = None
 flag_held (text s) = None
-flag_held other = None
+flag_held an_array = None
+flag_held an_object = None
 
 -- something stands there
 abbrev pub is_told : Seen → Bool
@@ -179,7 +182,8 @@ is_told absent = false
 is_told (truth b) = true
 is_told (number n) = true
 is_told (text s) = true
-is_told other = true
+is_told an_array = true
+is_told an_object = true
 
 -- what comes of a step, by its parts
 abbrev pub outcome_held : (skipped : Bool) → (seconds : Seen) → Ending → List Provisioner → Option (Option Outcome)

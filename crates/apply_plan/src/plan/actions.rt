@@ -3,6 +3,7 @@
 ghost use Rattle.std.specs.Prelude.{◌≡◌, ◌<◌, Err, OnOk, Some, length, option_map};
 ghost use Rattle.std.specs.Option.{option_copied};
 ghost use Rattle.serde_json.specs.Data.{Data};
+ghost use Rattle.apply_json.specs.Keeping.{none_kept};
 ghost use Rattle.apply_json.specs.Tokens.{IsNoValue, IsRead};
 ghost use Rattle.apply_model.specs.Plan.Action.{steps_of_action};
 ghost use Rattle.apply_plan.specs.Plan.Members.{actions_member};
@@ -47,6 +48,8 @@ impl<'a> Actions<'a> {
 }
 
 impl<'a> Collector<'a> for Actions<'a> {
+    ghost kept = { none_kept };
+
     ghost holds = { λ _ actions ds. words_view actions ≡ words_of ds };
 
     fn take(

@@ -1,5 +1,6 @@
 //! What is kept of the members of `change`.
 
+ghost use Rattle.apply_json.specs.Keeping.{none_kept};
 ghost use Rattle.apply_plan.specs.Plan.Members.{HoldsChange};
 
 use crate::members::take_member;
@@ -36,6 +37,8 @@ impl<'a> ChangeSlots<'a> {
 }
 
 impl<'a> Slots<'a> for ChangeSlots<'a> {
+    ghost kept = { none_kept };
+
     ghost holds = { λ _ slots ms. HoldsChange slots ms };
 
     fn take(

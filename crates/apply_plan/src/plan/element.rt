@@ -9,9 +9,7 @@ ghost use Rattle.apply_plan.specs.Plan.Members.{element_held, key_seen, mode_see
 use crate::both::both;
 use crate::filled_text::filled_text;
 use crate::plan::element_slots::ElementSlots;
-use crate::text_test::is_text;
-use apply_json::Scalar;
-use apply_json::members::non_empty;
+use apply_json::{Scalar, is_text, non_empty};
 use apply_model::{Action, Key, Mode, Text};
 use std::alloc::{AllocError, Global};
 
@@ -81,7 +79,10 @@ impl<'a> Element<'a> {
 fn mode_of(found: Scalar<'_>) -> Option<Mode>
     ensures { result ≡ mode_seen (scalar_view found.entry) }
 {
-    mode_named(found.text()?)
+    match found.text() {
+        Some(word) => mode_named(word),
+        None => None,
+    }
 }
 
 fn mode_named(word: &str) -> Option<Mode>
@@ -102,8 +103,11 @@ fn index_key(index: Scalar<'_>) -> Option<IndexKey<'_>>
 {
     match index {
         Scalar::Absent => Some(IndexKey::None),
-        Scalar::Number(number) => Some(IndexKey::Number(number.as_i64()?)),
+        Scalar::Number(number) => match number.as_i64() {
+            Some(number) => Some(IndexKey::Number(number)),
+            None => None,
+        },
         Scalar::Text(name) => Some(IndexKey::Name(name)),
-        Scalar::Bool(_) | Scalar::Other => None,
+        Scalar::Bool(_) | Scalar::Array | Scalar::Object => None,
     }
 }

@@ -2,13 +2,13 @@
 
 ghost use Rattle.std.specs.Prelude.{◌≡◌, MatchOption, false, true};
 ghost use Rattle.std.specs.Str.{bytes_eq};
+ghost use Rattle.apply_json.specs.Keeping.{none_kept};
 ghost use Rattle.apply_plan.specs.declared.plan.element_member.ElementMember.{ElementMember};
 ghost use Rattle.apply_plan.specs.Plan.Members.{HoldsElement, name_of, with_scalar};
 
 use crate::plan::element_member::ElementMember;
 use crate::plan::planned_change::PlannedChange;
-use crate::text_test::is_text;
-use apply_json::{ReadFault, Reader, Scalar, Slots, pass_member, read_scalar};
+use apply_json::{ReadFault, Reader, Scalar, Slots, is_text, pass_member, read_scalar};
 use std::alloc::Global;
 
 /// The members of an element.
@@ -60,6 +60,8 @@ impl<'a> ElementSlots<'a> {
 }
 
 impl<'a> Slots<'a> for ElementSlots<'a> {
+    ghost kept = { none_kept };
+
     ghost holds = { λ _ slots ms. HoldsElement slots ms };
 
     fn take(

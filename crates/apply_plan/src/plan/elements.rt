@@ -2,6 +2,7 @@
 
 ghost use Rattle.std.specs.Prelude.{◌≡◌, ◌≤◌, ◌++◌, ◌∷◌, [], IfOk, List, length, vec_len};
 ghost use Rattle.serde_json.specs.Data.{Data};
+ghost use Rattle.apply_json.specs.Keeping.{none_kept};
 ghost use Rattle.apply_model.specs.Plan.ResourceChange.{ResourceChange};
 ghost use Rattle.apply_model.specs.Plan.SavedPlan.{max_changes};
 ghost use Rattle.apply_plan.specs.Plan.ElementsView.{HoldsElements, changes_within};
@@ -57,6 +58,8 @@ impl<'a> Elements<'a> {
 }
 
 impl<'a> Collector<'a> for Elements<'a> {
+    ghost kept = { none_kept };
+
     ghost holds = { λ _ elements ds. HoldsElements elements ds };
 
     fn take(

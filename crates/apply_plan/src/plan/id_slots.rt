@@ -3,6 +3,7 @@
 ghost use Rattle.std.specs.Prelude.{◌≡◌, ◌<◌, Err, IfOk, OnOk, Some, length};
 ghost use Rattle.std.specs.Option.{option_copied};
 ghost use Rattle.serde_json.specs.Data.{Data};
+ghost use Rattle.apply_json.specs.Keeping.{none_kept};
 ghost use Rattle.apply_json.specs.Seen.{scalar_view};
 ghost use Rattle.apply_json.specs.Tokens.{IsNoValue, IsRead};
 ghost use Rattle.apply_plan.specs.Plan.Members.{HoldsId, id_member, sensitive_member, truth_seen};
@@ -30,6 +31,8 @@ impl<'a> IdSlots<'a> {
 }
 
 impl<'a> Slots<'a> for IdSlots<'a> {
+    ghost kept = { none_kept };
+
     ghost holds = { λ _ slots ms. HoldsId slots ms };
 
     fn take(
@@ -60,9 +63,13 @@ pub fn read_id<'a>(
     ensures err { result ≡ Err ReadFault.NotJson → IsNoValue depth reader.old }
 {
     let mut slots = IdSlots::new();
-    read_object(alloc, reader, depth, &mut slots)?;
-    *slot = filled_text(slots.id);
-    Ok(())
+    match read_object(alloc, reader, depth, &mut slots) {
+        Ok(_) => {
+            *slot = filled_text(slots.id);
+            Ok(())
+        }
+        Err(fault) => Err(fault),
+    }
 }
 
 /// Reads `before_sensitive` into its slot: whether it hides the id. Arrays and objects nest at most `depth` deep there.

@@ -4,16 +4,17 @@ ghost use Rattle.std.specs.Prelude.{◌≡◌, codes, nat_eq};
 ghost use Rattle.std.specs.List.{starts_with};
 ghost use Rattle.std.specs.Option.{option_copied};
 ghost use Rattle.serde_json.specs.Data.{Data, Members, no_members};
+ghost use Rattle.apply_json.specs.Keeping.{none_kept};
 ghost use Rattle.apply_json.specs.Seen.{members_in};
 ghost use Rattle.apply_plan.specs.Plan.ElementsView.{HoldsPlan, version_held};
 ghost use Rattle.apply_plan.specs.Plan.SavedPlan.{plan_of_tree};
 ghost use Rattle.apply_plan.specs.Results.{Gives};
 
+use crate::both::both;
 use crate::plan::elements::Elements;
 use crate::plan::plan_error::PlanError;
-use crate::text_test::is_text;
 use apply_json::{
-    Listed, ReadFault, Reader, Scalar, Slots, pass_member, read_list, read_scalar_into,
+    Listed, ReadFault, Reader, Scalar, Slots, is_text, pass_member, read_list, read_scalar_into,
 };
 use apply_model::{Plan, Text};
 use std::alloc::Global;
@@ -48,8 +49,8 @@ impl<'a> PlanSlots<'a> {
     fn version(&self) -> Option<&'a str>
         ensures { option_copied result ≡ version_held self.now }
     {
-        let format = self.format_version.text()?;
-        let version = self.terraform_version.text_or(UNKNOWN_VERSION)?;
+        let version = self.terraform_version.text_or(UNKNOWN_VERSION);
+        let (format, version) = both(self.format_version.text(), version)?;
         match self.resource_changes {
             Listed::Absent | Listed::List => if is_format_1(format) {
                 Some(version)
@@ -80,6 +81,8 @@ impl<'a> PlanSlots<'a> {
 }
 
 impl<'a> Slots<'a> for PlanSlots<'a> {
+    ghost kept = { none_kept };
+
     ghost holds = { λ _ slots ms. HoldsPlan slots ms };
 
     fn take(

@@ -43,8 +43,10 @@ impl<'a> Planned<'a> {
         ensures err { result ≡ Err ReadFault.NotJson → IsNoValue depth reader.old }
     {
         let mut slots = ElementSlots::new();
-        read_object(alloc, reader, depth, &mut slots)?;
-        Ok(Planned::of(number, &slots))
+        match read_object(alloc, reader, depth, &mut slots) {
+            Ok(_) => Ok(Planned::of(number, &slots)),
+            Err(fault) => Err(fault),
+        }
     }
 
     /// The element that the members are, or the first fault that it has by itself.

@@ -35,9 +35,13 @@ impl<'a> PlannedChange<'a> {
         ensures err { result ≡ Err ReadFault.NotJson → IsNoValue depth reader.old }
     {
         let mut slots = ChangeSlots::new();
-        read_object(alloc, reader, depth, &mut slots)?;
-        *slot = PlannedChange::of(&slots);
-        Ok(())
+        match read_object(alloc, reader, depth, &mut slots) {
+            Ok(_) => {
+                *slot = PlannedChange::of(&slots);
+                Ok(())
+            }
+            Err(fault) => Err(fault),
+        }
     }
 
     /// What the members say. `None` where there is no list of actions.

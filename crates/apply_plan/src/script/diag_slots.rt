@@ -5,7 +5,7 @@ ghost use Rattle.apply_plan.specs.Script.Members.{HoldsDiag};
 
 use crate::members::take_member;
 use crate::script::object_text::read_object_text;
-use apply_json::{KeepingSlots, ReadFault, Reader, Scalar, read_scalar_into};
+use apply_json::{ReadFault, Reader, Scalar, Slots, read_scalar_into};
 use std::alloc::Global;
 
 /// The members of a diagnostic.
@@ -35,7 +35,7 @@ impl<'a> DiagSlots<'a> {
     }
 }
 
-impl<'a> KeepingSlots<'a> for DiagSlots<'a> {
+impl<'a> Slots<'a> for DiagSlots<'a> {
     ghost kept = { is_kept };
 
     ghost holds = { λ _ slots ms. HoldsDiag slots ms };

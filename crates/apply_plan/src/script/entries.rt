@@ -13,7 +13,7 @@ use crate::script::said::said_by_entry;
 use crate::script::script_error::ScriptError;
 use crate::script::tree_entry::TreeEntry;
 use apply_beginning::{all_stuck, first_stuck};
-use apply_json::{KeepingCollector, ReadFault, Reader, pass_member};
+use apply_json::{Collector, ReadFault, Reader, pass_member};
 use apply_model::{Plan, Script, StepOutcomes};
 use apply_objects::ChangeNumbers;
 use std::alloc::{AllocError, Global};
@@ -104,7 +104,7 @@ impl<'a> Entries<'a> {
     }
 }
 
-impl<'a> KeepingCollector<'a> for Entries<'a> {
+impl<'a> Collector<'a> for Entries<'a> {
     ghost kept = { is_kept };
 
     ghost holds = { λ start entries ds. (entries.plan ≡ start.plan) × HoldsEntries entries ds };

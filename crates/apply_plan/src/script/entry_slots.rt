@@ -6,7 +6,7 @@ ghost use Rattle.apply_plan.specs.Script.Members.{HoldsEntry};
 use crate::members::take_member;
 use crate::script::found_items::read_items;
 use crate::script::tree_step::TreeStep;
-use apply_json::{KeepingSlots, ReadFault, Reader, Scalar, read_scalar_into};
+use apply_json::{ReadFault, Reader, Scalar, Slots, read_scalar_into};
 use std::alloc::Global;
 
 /// The members of an entry.
@@ -32,7 +32,7 @@ impl<'a> EntrySlots<'a> {
     }
 }
 
-impl<'a> KeepingSlots<'a> for EntrySlots<'a> {
+impl<'a> Slots<'a> for EntrySlots<'a> {
     ghost kept = { is_kept };
 
     ghost holds = { λ _ slots ms. HoldsEntry slots ms };

@@ -4,8 +4,7 @@ ghost use Rattle.std.specs.Prelude.{◌≡◌};
 ghost use Rattle.apply_json.specs.Seen.{scalar_view};
 ghost use Rattle.apply_plan.specs.Script.Members.{flag_by, flag_said};
 
-use crate::text_test::is_text;
-use apply_json::Scalar;
+use apply_json::{Scalar, is_text};
 
 /// The flag that a member says by one word or the other: where it is absent, it is not set. `None` where it is no such word.
 pub fn flag_of_word(found: Scalar<'_>, set: &str, unset: &str) -> Option<bool>

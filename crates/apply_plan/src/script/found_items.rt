@@ -9,7 +9,7 @@ ghost use Rattle.apply_plan.specs.Script.Members.{each_member, needed_member};
 
 use crate::found::add;
 use crate::script::list_item::ListItem;
-use apply_json::{KeepingCollector, Listed, ReadFault, Reader, read_kept_list};
+use apply_json::{Collector, Listed, ReadFault, Reader, read_list};
 use std::alloc::Global;
 
 /// The items of a list, where each is one.
@@ -18,7 +18,7 @@ struct FoundItems<T> {
     items: Option<Vec<T>>,
 }
 
-impl<'a, T: ListItem<'a>> KeepingCollector<'a> for FoundItems<T> {
+impl<'a, T: ListItem<'a>> Collector<'a> for FoundItems<T> {
     ghost kept = { is_kept };
 
     ghost holds = { λ _ found ds. option_map (λ made. map T.see made.items) found.items ≡ all_some (map T.part ds) };
@@ -53,7 +53,7 @@ pub fn read_items<'a, T: ListItem<'a>>(
     let mut found = FoundItems {
         items: Some(Vec::new(alloc)),
     };
-    *slot = match read_kept_list(alloc, reader, depth, &mut found)? {
+    *slot = match read_list(alloc, reader, depth, &mut found)? {
         Listed::List => found.items,
         Listed::Absent => if are_needed { None } else { found.items },
         Listed::Other => None,

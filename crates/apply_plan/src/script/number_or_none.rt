@@ -12,6 +12,9 @@ pub fn number_or_none(found: Scalar<'_>) -> Option<Option<u64>>
 {
     match found {
         Scalar::Absent => Some(None),
-        _ => Some(Some(found.whole()?)),
+        _ => match found.whole() {
+            Some(number) => Some(Some(number)),
+            None => None,
+        },
     }
 }

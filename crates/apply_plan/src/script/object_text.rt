@@ -6,8 +6,7 @@ ghost use Rattle.apply_json.specs.Tokens.{IsNoValue};
 ghost use Rattle.apply_plan.specs.Script.Entry.{is_object_text, object_text};
 ghost use Rattle.apply_plan.specs.Script.Members.{text_found};
 
-use crate::text_test::is_text;
-use apply_json::{ReadFault, Reader, read_own_text};
+use apply_json::{ReadFault, Reader, is_text, read_own_text};
 use std::alloc::Global;
 
 /// Reads a member that is an object or `null`, in which arrays and objects nest at most `depth` deep, into its slot, as its own
@@ -23,9 +22,13 @@ pub fn read_object_text(
     ensures shorter { OnOk result (length reader.new < length reader.old) }
     ensures err { result ≡ Err ReadFault.NotJson → IsNoValue depth reader.old }
 {
-    let text = read_own_text(alloc, reader, depth)?;
-    *slot = object_text(text);
-    Ok(())
+    match read_own_text(alloc, reader, depth) {
+        Ok(text) => {
+            *slot = object_text(text);
+            Ok(())
+        }
+        Err(fault) => Err(fault),
+    }
 }
 
 /// The text of an object or of `null`. `None` where it is another value's.

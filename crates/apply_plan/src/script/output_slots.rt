@@ -4,7 +4,7 @@ ghost use Rattle.apply_plan.specs.Script.Entry.{is_kept};
 ghost use Rattle.apply_plan.specs.Script.Members.{HoldsOutput};
 
 use crate::members::take_member;
-use apply_json::{KeepingSlots, ReadFault, Reader, Scalar, read_scalar_into};
+use apply_json::{ReadFault, Reader, Scalar, Slots, read_scalar_into};
 use std::alloc::Global;
 
 /// The members of an item of `output`.
@@ -28,7 +28,7 @@ impl<'a> OutputSlots<'a> {
     }
 }
 
-impl<'a> KeepingSlots<'a> for OutputSlots<'a> {
+impl<'a> Slots<'a> for OutputSlots<'a> {
     ghost kept = { is_kept };
 
     ghost holds = { λ _ slots ms. HoldsOutput slots ms };

@@ -7,7 +7,7 @@ use crate::members::take_member;
 use crate::script::found_items::read_items;
 use crate::script::tree_diag::TreeDiag;
 use crate::script::tree_output::TreeOutput;
-use apply_json::{KeepingSlots, ReadFault, Reader, Scalar, read_scalar_into};
+use apply_json::{ReadFault, Reader, Scalar, Slots, read_scalar_into};
 use std::alloc::Global;
 
 /// The members of a provisioner.
@@ -37,7 +37,7 @@ impl<'a> ProvisionerSlots<'a> {
     }
 }
 
-impl<'a> KeepingSlots<'a> for ProvisionerSlots<'a> {
+impl<'a> Slots<'a> for ProvisionerSlots<'a> {
     ghost kept = { is_kept };
 
     ghost holds = { λ _ slots ms. HoldsProvisioner slots ms };

@@ -9,8 +9,7 @@ ghost use Rattle.apply_plan.specs.Script.NeverBeginning.{elements_of_tree};
 
 use crate::script::entries::Entries;
 use crate::script::script_error::ScriptError;
-use crate::text_test::is_text;
-use apply_json::{KeepingSlots, Listed, ReadFault, Reader, pass_member, read_kept_list};
+use apply_json::{Listed, ReadFault, Reader, Slots, is_text, pass_member, read_list};
 use apply_model::Plan;
 use std::alloc::{AllocError, Global};
 
@@ -47,7 +46,7 @@ impl<'a> ScriptSlots<'a> {
     }
 }
 
-impl<'a> KeepingSlots<'a> for ScriptSlots<'a> {
+impl<'a> Slots<'a> for ScriptSlots<'a> {
     ghost kept = { is_kept };
 
     ghost holds = { λ start slots ms. (slots.entries.plan ≡ start.entries.plan) × HoldsScript slots ms };
@@ -61,7 +60,7 @@ impl<'a> KeepingSlots<'a> for ScriptSlots<'a> {
     ) -> Result<(), ReadFault> {
         if is_text(name, "changes") {
             self.entries.forget();
-            self.changes = read_kept_list(alloc, reader, depth, &mut self.entries)?;
+            self.changes = read_list(alloc, reader, depth, &mut self.entries)?;
             Ok(())
         } else {
             pass_member(reader, depth)

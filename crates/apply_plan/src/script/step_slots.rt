@@ -9,7 +9,7 @@ use crate::script::tree_diag::TreeDiag;
 use crate::script::tree_failure::TreeFailure;
 use crate::script::tree_provisioner::TreeProvisioner;
 use crate::script::tree_wait::TreeWait;
-use apply_json::{KeepingSlots, ReadFault, Reader, Scalar, read_scalar_into};
+use apply_json::{ReadFault, Reader, Scalar, Slots, read_scalar_into};
 use std::alloc::Global;
 
 /// The members of a step.
@@ -43,7 +43,7 @@ impl<'a> StepSlots<'a> {
     }
 }
 
-impl<'a> KeepingSlots<'a> for StepSlots<'a> {
+impl<'a> Slots<'a> for StepSlots<'a> {
     ghost kept = { is_kept };
 
     ghost holds = { λ _ slots ms. HoldsStep slots ms };

@@ -10,7 +10,7 @@ ghost use Rattle.apply_plan.specs.Script.Members.{HoldsDiag, diag_held, diag_mem
 
 use crate::both::{both, both_made};
 use crate::script::diag_slots::DiagSlots;
-use apply_json::{ReadFault, Reader, Scalar, read_kept_object};
+use apply_json::{ReadFault, Reader, Scalar, read_object};
 use apply_model::{Diag, Text};
 use std::alloc::{AllocError, Global};
 use std::marker::Model;
@@ -66,9 +66,13 @@ impl<'a> TreeDiag<'a> {
         ensures err { result ≡ Err ReadFault.NotJson → IsNoValue depth reader.old }
     {
         let mut slots = DiagSlots::new();
-        let value = read_kept_object(alloc, reader, depth, &mut slots)?;
-        *slot = TreeDiag::of_value(value, slots);
-        Ok(())
+        match read_object(alloc, reader, depth, &mut slots) {
+            Ok(value) => {
+                *slot = TreeDiag::of_value(value, slots);
+                Ok(())
+            }
+            Err(fault) => Err(fault),
+        }
     }
 
     /// What the member is whose value has these members: nothing, where that is `null`. `None` where it is neither that nor
@@ -130,7 +134,10 @@ impl<'a> TreeDiag<'a> {
         ensures { IfOk result (λ copy. copy ≡ diag.now) }
     {
         match diag {
-            Some(diag) => Ok(Some(diag.copied(alloc)?)),
+            Some(diag) => match diag.copied(alloc) {
+                Ok(copy) => Ok(Some(copy)),
+                Err(refused) => Err(refused),
+            },
             None => Ok(None),
         }
     }
@@ -141,7 +148,7 @@ fn copied_text(alloc: Global, text: &Option<String>) -> Result<Option<Text>, All
     ensures { IfOk result (λ copy. copy ≡ option_map string_bytes text.now) }
 {
     match text {
-        Some(text) => Ok(Some(Text::new(alloc, text.as_str())?)),
+        Some(text) => Text::of_option(alloc, Some(text.as_str())),
         None => Ok(None),
     }
 }

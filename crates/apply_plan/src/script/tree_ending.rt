@@ -11,8 +11,7 @@ ghost use Rattle.apply_plan.specs.Script.TreeView.{ending_view, failure_view};
 use crate::both::both_made;
 use crate::script::tree_diag::TreeDiag;
 use crate::script::tree_failure::TreeFailure;
-use apply_json::Scalar;
-use apply_json::members::non_empty;
+use apply_json::{Scalar, non_empty};
 use apply_model::{Ending, Text};
 use std::alloc::{AllocError, Global};
 
@@ -128,12 +127,14 @@ impl<'a> TreeEnding<'a> {
                 let (id, warning) = both_made(id, warning)?;
                 Ok(Ending::Done { id, warning })
             }
-            TreeEnding::Failed { diag } => Ok(Ending::Failed {
-                diag: diag.copied(alloc)?,
-            }),
-            TreeEnding::Warned { diag } => Ok(Ending::Warned {
-                diag: diag.copied(alloc)?,
-            }),
+            TreeEnding::Failed { diag } => match diag.copied(alloc) {
+                Ok(diag) => Ok(Ending::Failed { diag }),
+                Err(refused) => Err(refused),
+            },
+            TreeEnding::Warned { diag } => match diag.copied(alloc) {
+                Ok(diag) => Ok(Ending::Warned { diag }),
+                Err(refused) => Err(refused),
+            },
         }
     }
 }

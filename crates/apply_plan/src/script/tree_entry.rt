@@ -16,8 +16,7 @@ use crate::script::entry_slots::EntrySlots;
 use crate::script::limit::Limit;
 use crate::script::script_error::ScriptError;
 use crate::script::tree_step::TreeStep;
-use apply_json::members::non_empty;
-use apply_json::{ReadFault, Reader, read_kept_object};
+use apply_json::{ReadFault, Reader, non_empty, read_object};
 use apply_model::StepKind;
 use std::alloc::Global;
 
@@ -43,8 +42,10 @@ impl<'a> TreeEntry<'a> {
         ensures err { result ≡ Err ReadFault.NotJson → IsNoValue depth reader.old }
     {
         let mut slots = EntrySlots::new();
-        read_kept_object(alloc, reader, depth, &mut slots)?;
-        Ok(TreeEntry::of(slots))
+        match read_object(alloc, reader, depth, &mut slots) {
+            Ok(_) => Ok(TreeEntry::of(slots)),
+            Err(fault) => Err(fault),
+        }
     }
 
     /// The entry that the members are. `None` where one of them breaks its rule.

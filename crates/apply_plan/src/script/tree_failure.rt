@@ -9,10 +9,11 @@ ghost use Rattle.apply_plan.specs.Script.Entry.{is_kept};
 ghost use Rattle.apply_plan.specs.Script.Members.{HoldsDiag, failure_held, failure_member};
 ghost use Rattle.apply_plan.specs.Script.TreeView.{failure_view};
 
+use crate::both::both;
 use crate::script::diag_slots::DiagSlots;
 use crate::script::flag_of_word::flag_of_word;
 use crate::script::tree_diag::TreeDiag;
-use apply_json::{ReadFault, Reader, Scalar, read_kept_object};
+use apply_json::{ReadFault, Reader, Scalar, read_object};
 use std::alloc::Global;
 
 /// Why a step's provider fails, and whether that only warns.
@@ -37,9 +38,13 @@ impl<'a> TreeFailure<'a> {
         ensures err { result ≡ Err ReadFault.NotJson → IsNoValue depth reader.old }
     {
         let mut slots = DiagSlots::new();
-        let value = read_kept_object(alloc, reader, depth, &mut slots)?;
-        *slot = TreeFailure::of_value(value, slots);
-        Ok(())
+        match read_object(alloc, reader, depth, &mut slots) {
+            Ok(value) => {
+                *slot = TreeFailure::of_value(value, slots);
+                Ok(())
+            }
+            Err(fault) => Err(fault),
+        }
     }
 
     /// What the member is whose value has these members: nothing, where that is `null`. `None` where it is neither that nor
@@ -62,8 +67,8 @@ impl<'a> TreeFailure<'a> {
         ensures { option_map failure_view result ≡ failure_held slots.entry }
     {
         let severity = slots.severity;
-        let diag = TreeDiag::of(slots)?;
-        let only_warns = flag_of_word(severity, "warning", "error")?;
+        let only_warns = flag_of_word(severity, "warning", "error");
+        let (diag, only_warns) = both(TreeDiag::of(slots), only_warns)?;
         Some(TreeFailure { diag, only_warns })
     }
 }

@@ -6,10 +6,11 @@ ghost use Rattle.apply_plan.specs.Script.Entry.{OutputItem, output_from, timed};
 ghost use Rattle.apply_plan.specs.Script.Members.{output_held};
 ghost use Rattle.apply_plan.specs.Script.OutputView.{output_view};
 
+use crate::both::both;
 use crate::script::list_item::ListItem;
 use crate::script::number_or_none::number_or_none;
 use crate::script::output_slots::OutputSlots;
-use apply_json::{ReadFault, Reader, Scalar, read_kept_object};
+use apply_json::{ReadFault, Reader, Scalar, read_object};
 use apply_model::{Text, TimedText};
 use std::alloc::{AllocError, Global};
 
@@ -34,7 +35,7 @@ impl<'a> ListItem<'a> for TreeOutput<'a> {
         depth: usize,
     ) -> Result<Option<TreeOutput<'a>>, ReadFault> {
         let mut slots = OutputSlots::new();
-        match read_kept_object(alloc, reader, depth, &mut slots)? {
+        match read_object(alloc, reader, depth, &mut slots)? {
             Scalar::Text(text) => Ok(Some(TreeOutput { after: None, text })),
             _ => Ok(TreeOutput::of(&slots)),
         }
@@ -46,8 +47,7 @@ impl<'a> TreeOutput<'a> {
     fn of(slots: &OutputSlots<'a>) -> Option<TreeOutput<'a>>
         ensures { option_map output_view result ≡ output_held slots.now }
     {
-        let text = slots.text.text()?;
-        let after = number_or_none(slots.after)?;
+        let (text, after) = both(slots.text.text(), number_or_none(slots.after))?;
         Some(TreeOutput { after, text })
     }
 

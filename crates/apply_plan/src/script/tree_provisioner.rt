@@ -13,7 +13,7 @@ use crate::script::provisioner_slots::ProvisionerSlots;
 use crate::script::tree_diag::TreeDiag;
 use crate::script::tree_output::TreeOutput;
 use crate::script::tree_outputs::{are_in_time, copied_outputs};
-use apply_json::{ReadFault, Reader, read_kept_object};
+use apply_json::{ReadFault, Reader, read_object};
 use apply_model::{MAX_OUTPUTS, Provisioner, Text};
 use std::alloc::{AllocError, Global};
 
@@ -47,8 +47,10 @@ impl<'a> ListItem<'a> for TreeProvisioner<'a> {
         depth: usize,
     ) -> Result<Option<TreeProvisioner<'a>>, ReadFault> {
         let mut slots = ProvisionerSlots::new(alloc);
-        read_kept_object(alloc, reader, depth, &mut slots)?;
-        Ok(TreeProvisioner::of(slots))
+        match read_object(alloc, reader, depth, &mut slots) {
+            Ok(_) => Ok(TreeProvisioner::of(slots)),
+            Err(fault) => Err(fault),
+        }
     }
 }
 

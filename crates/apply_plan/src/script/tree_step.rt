@@ -18,7 +18,7 @@ use crate::script::tree_ending::TreeEnding;
 use crate::script::tree_outcome::TreeOutcome;
 use crate::script::tree_provisioner::TreeProvisioner;
 use crate::script::tree_wait::TreeWait;
-use apply_json::{ReadFault, Reader, Scalar, read_kept_object};
+use apply_json::{ReadFault, Reader, Scalar, read_object};
 use apply_model::{ScriptStep, StepKind, Waits};
 use std::alloc::{AllocError, Global};
 
@@ -44,8 +44,10 @@ impl<'a> ListItem<'a> for TreeStep<'a> {
         depth: usize,
     ) -> Result<Option<TreeStep<'a>>, ReadFault> {
         let mut slots = StepSlots::new(alloc);
-        read_kept_object(alloc, reader, depth, &mut slots)?;
-        Ok(TreeStep::of(slots))
+        match read_object(alloc, reader, depth, &mut slots) {
+            Ok(_) => Ok(TreeStep::of(slots)),
+            Err(fault) => Err(fault),
+        }
     }
 }
 
@@ -99,7 +101,10 @@ impl<'a> TreeStep<'a> {
         ensures { IfOk result (λ copy. copy ≡ with_waits (step_view self.now) after) }
     {
         match &self.outcome {
-            Some(outcome) => Ok(ScriptStep::Answered(outcome.copied(alloc, after)?)),
+            Some(outcome) => match outcome.copied(alloc, after) {
+                Ok(copy) => Ok(ScriptStep::Answered(copy)),
+                Err(refused) => Err(refused),
+            },
             None => Ok(ScriptStep::Skipped { after }),
         }
     }
@@ -118,16 +123,28 @@ fn outcome_of<'a>(
         (option_map (λ found. map provisioner_view found.items) provisioners.entry) }
 {
     // Not joined by `both`, since an ending is large.
-    let provisioners = provisioners?;
-    let ending = ending?;
-    if skipped? {
+    let Some(provisioners) = provisioners else {
+        return None;
+    };
+    let Some(ending) = ending else {
+        return None;
+    };
+    let Some(skipped) = skipped else {
+        return None;
+    };
+    if skipped {
         if is_told(seconds) || !ending.says_nothing() || !provisioners.is_empty() {
             return None;
         }
         return Some(None);
     }
-    let seconds = seconds.whole()?;
-    Some(Some(TreeOutcome::new(seconds, ending, provisioners)?))
+    let Some(seconds) = seconds.whole() else {
+        return None;
+    };
+    match TreeOutcome::new(seconds, ending, provisioners) {
+        Some(outcome) => Some(Some(outcome)),
+        None => None,
+    }
 }
 
 /// The flag, or `false` where it is absent. `None` where it is there and is none.

@@ -6,12 +6,12 @@ ghost use Rattle.apply_plan.specs.Script.Members.{wait_held};
 ghost use Rattle.apply_plan.specs.Script.TreeView.{wait_view};
 ghost use Rattle.apply_plan.specs.Script.WaitedStep.{number_waited};
 
+use crate::both::both;
 use crate::script::list_item::ListItem;
 use crate::script::number_or_none::number_or_none;
 use crate::script::wait_slots::WaitSlots;
 use apply_beginning::step_waited;
-use apply_json::members::non_empty;
-use apply_json::{ReadFault, Reader, Scalar, read_kept_object};
+use apply_json::{ReadFault, Reader, Scalar, non_empty, read_object};
 use std::alloc::Global;
 
 /// An item of `after`, each of whose members obeys its rule.
@@ -36,7 +36,7 @@ impl<'a> ListItem<'a> for TreeWait<'a> {
         depth: usize,
     ) -> Result<Option<TreeWait<'a>>, ReadFault> {
         let mut slots = WaitSlots::new();
-        match read_kept_object(alloc, reader, depth, &mut slots)? {
+        match read_object(alloc, reader, depth, &mut slots)? {
             Scalar::Text(address) => Ok(Some(TreeWait {
                 address,
                 deposed: None,
@@ -52,9 +52,8 @@ impl<'a> TreeWait<'a> {
     fn of(slots: &WaitSlots<'a>) -> Option<TreeWait<'a>>
         ensures { option_map wait_view result ≡ wait_held slots.now }
     {
-        let address = slots.address.text()?;
-        let deposed = slots.deposed.text_or("")?;
-        let step = number_or_none(slots.step)?;
+        let texts = both(slots.address.text(), slots.deposed.text_or(""));
+        let ((address, deposed), step) = both(texts, number_or_none(slots.step))?;
         Some(TreeWait {
             address,
             deposed: non_empty(deposed),

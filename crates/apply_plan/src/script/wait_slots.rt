@@ -4,7 +4,7 @@ ghost use Rattle.apply_plan.specs.Script.Entry.{is_kept};
 ghost use Rattle.apply_plan.specs.Script.Members.{HoldsWait};
 
 use crate::members::take_member;
-use apply_json::{KeepingSlots, ReadFault, Reader, Scalar, read_scalar_into};
+use apply_json::{ReadFault, Reader, Scalar, Slots, read_scalar_into};
 use std::alloc::Global;
 
 /// The members of an item of `after`.
@@ -30,7 +30,7 @@ impl<'a> WaitSlots<'a> {
     }
 }
 
-impl<'a> KeepingSlots<'a> for WaitSlots<'a> {
+impl<'a> Slots<'a> for WaitSlots<'a> {
     ghost kept = { is_kept };
 
     ghost holds = { λ _ slots ms. HoldsWait slots ms };

@@ -17,8 +17,8 @@ use crate::findings::what::What;
 use crate::plan::object_name::ObjectName;
 use crate::walks::mark::Mark;
 use crate::walks::members::{count_at, walk_marks};
-use apply_json::members::{is_text, member};
 use apply_plan::{Change, StepKind};
+use apply_trees::members::{is_text, member};
 use serde_json::Value;
 use std::alloc::{AllocError, Global};
 

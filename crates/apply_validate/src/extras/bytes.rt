@@ -11,8 +11,9 @@ use crate::extras::top_level::walk_extras;
 use crate::findings::list::Findings;
 use crate::form::Form;
 use apply_form_plan::{PlanOutputs, read_details};
-use apply_json::{JsonFault, parse};
+use apply_json::JsonFault;
 use apply_plan::MAX_BYTES;
+use apply_trees::parse;
 use std::alloc::{AllocError, Global};
 
 /// What is found in the bytes of a script that only a run in that form reads, beside the bytes of a plan, which may be refused.

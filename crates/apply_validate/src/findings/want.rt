@@ -5,7 +5,7 @@ ghost use Rattle.serde_json.specs.View.{view};
 ghost use Rattle.apply_plan.specs.Plan.Element.{key_of};
 ghost use Rattle.apply_validate.specs.Wants.{is_format_version, is_met, is_mode, is_on_failure, is_severity, is_text_with_a_byte, may_be_absent, suits};
 
-use apply_json::members::is_text;
+use apply_trees::members::is_text;
 use serde_json::Value;
 
 /// What a value has to be.

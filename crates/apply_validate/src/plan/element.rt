@@ -14,8 +14,8 @@ use crate::walks::known::Known;
 use crate::walks::mark::Mark;
 use crate::walks::members::{faults, walk_inside, walk_marks};
 use crate::walks::walk::Walk;
-use apply_json::members::{is_text, member, text_member, text_member_or};
 use apply_model::relative_address;
+use apply_trees::members::{is_text, member, text_member, text_member_or};
 use serde_json::Value;
 use std::alloc::{AllocError, Global};
 

@@ -6,7 +6,8 @@ ghost use Rattle.apply_validate.specs.ObjectNames.{name_view};
 ghost use Rattle.apply_validate.specs.PlanFindings.{name_read};
 
 use crate::findings::name::Name;
-use apply_json::members::{non_empty, text_member, text_member_or};
+use apply_json::non_empty;
+use apply_trees::members::{text_member, text_member_or};
 use serde_json::Value;
 
 /// An address, and the key of a deposed object or none.

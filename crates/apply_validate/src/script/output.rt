@@ -16,7 +16,7 @@ use crate::walks::known::Known;
 use crate::walks::mark::Mark;
 use crate::walks::members::{faults, items_at, walk_marks};
 use crate::walks::unread::walk_unread;
-use apply_json::members::member;
+use apply_trees::members::member;
 use serde_json::Value;
 use std::alloc::{AllocError, Global};
 

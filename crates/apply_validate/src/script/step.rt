@@ -23,8 +23,8 @@ use crate::walks::members::{
 };
 use crate::walks::unread::walk_unread;
 use crate::walks::walk::Walk;
-use apply_json::members::{member, non_empty_text_member};
 use apply_plan::{Change, MAX_PROVISIONERS, MAX_SECONDS};
+use apply_trees::members::{member, non_empty_text_member};
 use serde_json::Value;
 use std::alloc::{AllocError, Global};
 

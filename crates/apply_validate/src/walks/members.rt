@@ -14,7 +14,7 @@ use crate::findings::what::What;
 use crate::walks::known::Known;
 use crate::walks::mark::Mark;
 use crate::walks::walk::{Walk, walk_items};
-use apply_json::members::member;
+use apply_trees::members::member;
 use serde_json::Value;
 use std::alloc::{AllocError, Global};
 

@@ -7,7 +7,7 @@ ghost use Rattle.apply_view.specs.Details.{count_of, detail_lines, diagnostic_of
 
 use crate::told::details::{kept, len_without_blank_lines, trimmed_line};
 use crate::told::limits::DETAIL_LINES;
-use apply_json::members::{member, text_member};
+use apply_trees::members::{member, text_member};
 use memchr::memchr;
 use serde_json::Value;
 use std::alloc::{AllocError, Global};

@@ -3,7 +3,8 @@
 ghost use Rattle.std.specs.Prelude.{◌≡◌};
 ghost use Rattle.apply_view.specs.Selection.{is_scalar_of_changes, is_scalar_of_diagnostic, line_selection, member_shape, scalar_where};
 
-use apply_json::Shape;
+use apply_json::is_text;
+use apply_trees::Shape;
 
 /// What of a value in a line is looked at (Machine-Readable UI, "Message Types"). A shape is named after the value that
 /// it belongs to; of no array an item is looked at.
@@ -34,11 +35,11 @@ impl Shape for LineShape {
         match self {
             LineShape::Line => member_of_line(name),
             LineShape::Hook => member_of_hook(name),
-            LineShape::Resource => scalar_where(name == "addr"),
+            LineShape::Resource => scalar_where(is_text(name, "addr")),
             LineShape::Changes => scalar_where(is_scalar_of_changes(name)),
             LineShape::Diagnostic => member_of_diagnostic(name),
             LineShape::Range => member_of_range(name),
-            LineShape::Start => scalar_where(name == "line"),
+            LineShape::Start => scalar_where(is_text(name, "line")),
             LineShape::Scalar => None,
         }
     }
@@ -65,43 +66,52 @@ fn scalar_where(is_known: bool) -> Option<LineShape>
 fn is_scalar_of_changes(name: &str) -> bool
     ensures { result ≡ is_scalar_of_changes name.now }
 {
-    name == "operation" || name == "add" || name == "change" || name == "remove" || name == "import"
+    is_text(name, "operation")
+        || is_text(name, "add")
+        || is_text(name, "change")
+        || is_text(name, "remove")
+        || is_text(name, "import")
 }
 
 fn is_scalar_of_diagnostic(name: &str) -> bool
     ensures { result ≡ is_scalar_of_diagnostic name.now }
 {
-    name == "severity" || name == "summary" || name == "detail" || name == "address"
+    is_text(name, "severity")
+        || is_text(name, "summary")
+        || is_text(name, "detail")
+        || is_text(name, "address")
 }
 
 fn member_of_line(name: &str) -> Option<LineShape>
     ensures { result ≡ member_shape LineShape.Line name.now }
 {
-    if name == "hook" {
+    if is_text(name, "hook") {
         Some(LineShape::Hook)
-    } else if name == "changes" {
+    } else if is_text(name, "changes") {
         Some(LineShape::Changes)
-    } else if name == "diagnostic" {
+    } else if is_text(name, "diagnostic") {
         Some(LineShape::Diagnostic)
     } else {
-        scalar_where(name == "type" || name == "@timestamp" || name == "terraform")
+        scalar_where(
+            is_text(name, "type") || is_text(name, "@timestamp") || is_text(name, "terraform"),
+        )
     }
 }
 
 fn member_of_hook(name: &str) -> Option<LineShape>
     ensures { result ≡ member_shape LineShape.Hook name.now }
 {
-    if name == "resource" {
+    if is_text(name, "resource") {
         Some(LineShape::Resource)
     } else {
-        scalar_where(name == "action" || name == "provisioner")
+        scalar_where(is_text(name, "action") || is_text(name, "provisioner"))
     }
 }
 
 fn member_of_diagnostic(name: &str) -> Option<LineShape>
     ensures { result ≡ member_shape LineShape.Diagnostic name.now }
 {
-    if name == "range" {
+    if is_text(name, "range") {
         Some(LineShape::Range)
     } else {
         scalar_where(is_scalar_of_diagnostic(name))
@@ -111,9 +121,9 @@ fn member_of_diagnostic(name: &str) -> Option<LineShape>
 fn member_of_range(name: &str) -> Option<LineShape>
     ensures { result ≡ member_shape LineShape.Range name.now }
 {
-    if name == "start" {
+    if is_text(name, "start") {
         Some(LineShape::Start)
     } else {
-        scalar_where(name == "filename")
+        scalar_where(is_text(name, "filename"))
     }
 }

@@ -3,6 +3,7 @@
 ghost use Rattle.std.specs.Prelude.{◌≡◌, IfSome, Some};
 ghost use Rattle.std.specs.Str.{bytes_eq};
 ghost use Rattle.serde_json.specs.Data.{Data, null};
+ghost use Rattle.apply_json.specs.Keeping.{none_kept};
 ghost use Rattle.apply_json.specs.Seen.{members_in};
 ghost use Rattle.apply_json.specs.Tree.{tree_of};
 ghost use Rattle.apply_view.specs.LineSlots.{HoldsLine, at_moment, is_other, moment_held};
@@ -53,6 +54,8 @@ impl<'a> LineSlots<'a> {
 }
 
 impl<'a> Slots<'a> for LineSlots<'a> {
+    ghost kept = { none_kept };
+
     ghost holds = { λ _ slots ms. HoldsLine slots ms };
 
     fn take(

@@ -10,7 +10,8 @@ ghost use Rattle.apply_view.specs.Messages.{address_of, begin_of, diagnostic_sai
 use crate::told::diagnostic::{count_of, text_or_empty};
 use crate::told::moments::instant_of;
 use crate::told::totals::Totals;
-use apply_json::members::{member, text_member};
+use apply_json::is_text;
+use apply_trees::members::{member, text_member};
 use serde_json::Value;
 
 /// What a message says.
@@ -86,7 +87,7 @@ fn hook_text<'a>(tree: &'a Value, name: &str) -> Option<&'a str>
 fn is_either(name: &str, first: &str, second: &str) -> bool
     ensures { result ≡ (bytes_eq name.now first.now || bytes_eq name.now second.now) }
 {
-    name == first || name == second
+    is_text(name, first) || is_text(name, second)
 }
 
 /// The totals of `changes`.
@@ -198,9 +199,9 @@ impl<'a> Said<'a> {
     fn of_severity(severity: &str, members: &'a Value) -> Said<'a>
         ensures { said_view result ≡ diagnostic_with severity.now (view members.now) }
     {
-        if severity == "error" {
+        if is_text(severity, "error") {
             Said::Error { members }
-        } else if severity == "warning" {
+        } else if is_text(severity, "warning") {
             Said::Warning { members }
         } else {
             Said::Lacking
@@ -266,9 +267,9 @@ impl<'a> Said<'a> {
     fn of_other_step(name: &str, tree: &'a Value) -> Said<'a>
         ensures { said_view result ≡ other_step_said name.now (view tree.now) }
     {
-        if name == "refresh_start" {
+        if is_text(name, "refresh_start") {
             Said::of_refresh_begin(tree)
-        } else if name == "refresh_complete" {
+        } else if is_text(name, "refresh_complete") {
             Said::of_refresh_end(tree)
         } else {
             Said::of_provisioner(name, tree)
@@ -279,11 +280,11 @@ impl<'a> Said<'a> {
     fn of_provisioner(name: &str, tree: &'a Value) -> Said<'a>
         ensures { said_view result ≡ provisioner_said name.now (view tree.now) }
     {
-        if name == "provision_start" {
+        if is_text(name, "provision_start") {
             Said::of_provisioner_begin(tree)
-        } else if name == "provision_complete" {
+        } else if is_text(name, "provision_complete") {
             Said::of_provisioner_end(tree, false)
-        } else if name == "provision_errored" {
+        } else if is_text(name, "provision_errored") {
             Said::of_provisioner_end(tree, true)
         } else {
             Said::of_no_object(name, tree)
@@ -294,13 +295,13 @@ impl<'a> Said<'a> {
     fn of_no_object(name: &str, tree: &'a Value) -> Said<'a>
         ensures { said_view result ≡ general_said name.now (view tree.now) }
     {
-        if name == "diagnostic" {
+        if is_text(name, "diagnostic") {
             Said::of_diagnostic(tree)
-        } else if name == "version" {
+        } else if is_text(name, "version") {
             Said::Version {
                 text: text_or_empty(tree, "terraform"),
             }
-        } else if name == "change_summary" {
+        } else if is_text(name, "change_summary") {
             Said::of_summary(tree)
         } else {
             Said::Other

@@ -12,8 +12,9 @@ use crate::told::open_places::OpenPlaces;
 use crate::told::said::{Said, moment_of};
 use crate::told::stream_told::Told;
 use crate::told::view_fault::ViewFault;
-use apply_json::members::text_member;
-use apply_json::{JsonFault, Scratch, parse_trimmed};
+use apply_json::{JsonFault, Scratch};
+use apply_trees::members::text_member;
+use apply_trees::parse_trimmed;
 use serde_json::Value;
 use std::alloc::Global;
 

@@ -1,73 +1,56 @@
-use Rattle.std.proofs.Common.{◌≡◌, codes, true, Option, Some, refl, sym, subst, ◌∙◌}
+use Rattle.std.proofs.Common.{◌≡◌, codes, true, refl, sym, ◌∙◌}
 use Rattle.std.specs.Str.{bytes_eq}
-use Rattle.serde_json.specs.Data.{Data}
-use Rattle.serde_json.specs.Find.{get_member}
 use Rattle.apply_json.specs.Seen.{seen}
 use Rattle.apply_json.proofs.Copied.{if_ok}
-use Rattle.apply_json.proofs.Held.{left, taken}
-use Rattle.apply_check.specs.Kept.{HoldsHook, inside, seen_in}
-use Rattle.apply_check.proofs.Kept.{beside}
+use Rattle.apply_json.proofs.Held.{left}
+use Rattle.apply_json.proofs.Keeping.{as_member}
+use Rattle.apply_check.specs.Kept.{AreChanges, IsDiagnostic, IsHook, inner_of}
+use Rattle.apply_check.proofs.Slots.{all_left, line_behind}
 use Rattle.apply_check.proofs.messages.line_slots.LineSlotsSlots.take.Goals as goal
 
 pub returns-then-is_text-clause-ok : goal.returns-then-is_text-clause-ok
 returns-then-is_text-clause-ok c =
     let k = c.args.name.now in
     let here : bytes_eq k (codes "hook") ≡ true = sym c.is_text.ensures ∙ c.if-is_text.true in
-    if_ok c.read.result
-    (λ done. (
-      done.0,
-      done.1,
-      λ start ms holds. record {
-        type_name = beside seen (codes "hook") (codes "type") k done.0 ms _ here refl holds.type_name;
-        hook = subst (λ (o : Option Data). HoldsHook c.read.new.hook (inside o)) (taken (λ o. o) (codes "hook") k done.0 ms (Some done.0) here refl) done.2;
-        planned = beside (seen_in (codes "action")) (codes "hook") (codes "change") k done.0 ms _ here refl holds.planned;
-      },
-    ))
-    c.read.ensures.ok
+    if_ok c.read.result (λ done. (done.0, as_member c.args.depth c.args.reader.now done.0 _ k done.1, λ start ms holds. line_behind k (codes "hook") done.0 ms here _ holds.type_name (done.2, done.3) holds.change holds.changes holds.diagnostic)) c.read.ensures.ok
 
 pub returns-then-is_text-2-clause-ok : goal.returns-then-is_text-2-clause-ok
 returns-then-is_text-2-clause-ok c =
     let k = c.args.name.now in
     let here : bytes_eq k (codes "type") ≡ true = sym c.is_text-else-is_text.ensures ∙ c.if-is_text-2.true in
-    if_ok c.read_scalar_into.result
-    (λ done. (
-      done.0,
-      done.1,
-      λ start ms holds. record {
-        type_name = taken seen (codes "type") k done.0 ms _ here done.2;
-        hook = subst (λ (o : Option Data). HoldsHook c.args.self.now.hook (inside o)) (beside (λ o. o) (codes "type") (codes "hook") k done.0 ms (get_member (codes "hook") ms) here refl refl) holds.hook;
-        planned = beside (seen_in (codes "action")) (codes "type") (codes "change") k done.0 ms _ here refl holds.planned;
-      },
-    ))
-    c.read_scalar_into.ensures.ok
+    if_ok c.read_scalar_into.result (λ done. (done.0, as_member c.args.depth c.args.reader.now done.0 _ k done.1, λ start ms holds. line_behind k (codes "type") done.0 ms here _ done.2 holds.hook holds.change holds.changes holds.diagnostic)) c.read_scalar_into.ensures.ok
 
 pub returns-then-is_text-3-clause-ok : goal.returns-then-is_text-3-clause-ok
 returns-then-is_text-3-clause-ok c =
     let k = c.args.name.now in
     let here : bytes_eq k (codes "change") ≡ true = sym c.is_text-else-is_text-2.ensures ∙ c.if-is_text-3.true in
-    if_ok c.read_member.result
-    (λ done. (
-      done.0,
-      done.1,
-      λ start ms holds. record {
-        type_name = beside seen (codes "change") (codes "type") k done.0 ms _ here refl holds.type_name;
-        hook = subst (λ (o : Option Data). HoldsHook c.args.self.now.hook (inside o)) (beside (λ o. o) (codes "change") (codes "hook") k done.0 ms (get_member (codes "hook") ms) here refl refl) holds.hook;
-        planned = taken (seen_in (codes "action")) (codes "change") k done.0 ms _ here done.2;
-      },
-    ))
-    c.read_member.ensures.ok
+    if_ok c.read-then-is_text-3.result (λ done. (done.0, as_member c.args.depth c.args.reader.now done.0 _ k done.1, λ start ms holds. line_behind k (codes "change") done.0 ms here _ holds.type_name holds.hook done.2 holds.changes holds.diagnostic)) c.read-then-is_text-3.ensures.ok
 
-pub returns-else-is_text-3-clause-ok : goal.returns-else-is_text-3-clause-ok
-returns-else-is_text-3-clause-ok c =
+pub returns-then-is_text-4-clause-ok : goal.returns-then-is_text-4-clause-ok
+returns-then-is_text-4-clause-ok c =
+    let k = c.args.name.now in
+    let here : bytes_eq k (codes "changes") ≡ true = sym c.is_text-else-is_text-3.ensures ∙ c.if-is_text-4.true in
+    if_ok c.read-then-is_text-4.result (λ done. (done.0, as_member c.args.depth c.args.reader.now done.0 _ k done.1, λ start ms holds. line_behind k (codes "changes") done.0 ms here _ holds.type_name holds.hook holds.change (done.2, done.3) holds.diagnostic)) c.read-then-is_text-4.ensures.ok
+
+pub returns-then-is_text-5-clause-ok : goal.returns-then-is_text-5-clause-ok
+returns-then-is_text-5-clause-ok c =
+    let k = c.args.name.now in
+    let here : bytes_eq k (codes "diagnostic") ≡ true = sym c.is_text-else-is_text-4.ensures ∙ c.if-is_text-5.true in
+    if_ok c.read-then-is_text-5.result (λ done. (done.0, as_member c.args.depth c.args.reader.now done.0 _ k done.1, λ start ms holds. line_behind k (codes "diagnostic") done.0 ms here _ holds.type_name holds.hook holds.change holds.changes (done.2, done.3))) c.read-then-is_text-5.ensures.ok
+
+pub returns-else-is_text-5-clause-ok : goal.returns-else-is_text-5-clause-ok
+returns-else-is_text-5-clause-ok c =
     let k = c.args.name.now in
     if_ok c.pass_member.result
     (λ done. (
       done.0,
-      done.1,
+      as_member c.args.depth c.args.reader.now done.0 _ k done.1,
       λ start ms holds. record {
         type_name = left seen (codes "type") k done.0 ms _ (sym c.is_text-else-is_text.ensures ∙ c.if-is_text-2.false) holds.type_name;
-        hook = subst (λ (o : Option Data). HoldsHook c.args.self.now.hook (inside o)) (left (λ o. o) (codes "hook") k done.0 ms (get_member (codes "hook") ms) (sym c.is_text.ensures ∙ c.if-is_text.false) refl) holds.hook;
-        planned = left (seen_in (codes "action")) (codes "change") k done.0 ms _ (sym c.is_text-else-is_text-2.ensures ∙ c.if-is_text-3.false) holds.planned;
+        hook = all_left (IsHook c.args.self.now.hook) (codes "hook") k done.0 ms (sym c.is_text.ensures ∙ c.if-is_text.false) holds.hook;
+        change = left (inner_of (codes "action")) (codes "change") k done.0 ms _ (sym c.is_text-else-is_text-2.ensures ∙ c.if-is_text-3.false) holds.change;
+        changes = all_left (AreChanges c.args.self.now.changes) (codes "changes") k done.0 ms (sym c.is_text-else-is_text-3.ensures ∙ c.if-is_text-4.false) holds.changes;
+        diagnostic = all_left (IsDiagnostic c.args.self.now.diagnostic) (codes "diagnostic") k done.0 ms (sym c.is_text-else-is_text-4.ensures ∙ c.if-is_text-5.false) holds.diagnostic;
       },
     ))
     c.pass_member.ensures.ok

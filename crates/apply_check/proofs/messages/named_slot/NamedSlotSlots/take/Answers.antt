@@ -1,23 +1,24 @@
 use Rattle.std.proofs.Common.{List, ℕ, ap, sym, ◌∙◌}
 use Rattle.std.specs.Str.{bytes_eq}
-use Rattle.apply_json.specs.Seen.{seen}
 use Rattle.apply_json.proofs.Copied.{if_ok}
 use Rattle.apply_json.proofs.Held.{left, taken}
+use Rattle.apply_json.proofs.Keeping.{as_member}
+use Rattle.apply_check.specs.Kept.{shown}
 use Rattle.apply_check.proofs.messages.named_slot.NamedSlotSlots.take.Goals as goal
 
 pub returns-then-is_text-clause-ok : goal.returns-then-is_text-clause-ok
 returns-then-is_text-clause-ok c =
     let k = c.args.name.now in
-    if_ok c.read_scalar_into.result
+    if_ok c.read_found.result
     (λ done. (
       done.0,
-      done.1,
+      as_member c.args.depth c.args.reader.now done.0 _ k done.1,
       λ start ms holds. record {
         named = holds.named;
-        found = taken seen start.name.now k done.0 ms _ (ap (λ (q : List ℕ). bytes_eq k q) (sym holds.named) ∙ sym c.is_text.ensures ∙ c.if-is_text.true) done.2;
+        found = taken shown start.name.now k done.0 ms _ (ap (λ (q : List ℕ). bytes_eq k q) (sym holds.named) ∙ sym c.is_text.ensures ∙ c.if-is_text.true) done.2;
       },
     ))
-    c.read_scalar_into.ensures.ok
+    c.read_found.ensures.ok
 
 pub returns-else-is_text-clause-ok : goal.returns-else-is_text-clause-ok
 returns-else-is_text-clause-ok c =
@@ -25,10 +26,10 @@ returns-else-is_text-clause-ok c =
     if_ok c.pass_member.result
     (λ done. (
       done.0,
-      done.1,
+      as_member c.args.depth c.args.reader.now done.0 _ k done.1,
       λ start ms holds. record {
         named = holds.named;
-        found = left seen start.name.now k done.0 ms _ (ap (λ (q : List ℕ). bytes_eq k q) (sym holds.named) ∙ sym c.is_text.ensures ∙ c.if-is_text.false) holds.found;
+        found = left shown start.name.now k done.0 ms _ (ap (λ (q : List ℕ). bytes_eq k q) (sym holds.named) ∙ sym c.is_text.ensures ∙ c.if-is_text.false) holds.found;
       },
     ))
     c.pass_member.ensures.ok

@@ -1,6 +1,7 @@
 use Rattle.std.proofs.Common.{refl, subst, sym, ◌∙◌}
 use Rattle.serde_json.specs.Data.{put}
 use Rattle.apply_json.proofs.Copied.{if_ok}
+use Rattle.apply_json.proofs.Keeping.{as_member}
 use Rattle.apply_plan.specs.Plan.Members.{HoldsElement}
 use Rattle.apply_plan.proofs.Plans.Taken.{takes_change, takes_other, takes_scalar}
 use Rattle.apply_plan.proofs.plan.element_slots.ElementSlotsSlots.take.Goals as goal
@@ -10,7 +11,7 @@ returns-then-is_text-clause-ok c =
     if_ok c.read.result
     (λ done. (
       done.0,
-      done.1,
+      as_member c.args.depth c.args.reader.now done.0 _ c.args.name.now done.1,
       λ start ms holds. takes_change c.args.self.now c.args.name.now done.0 ms holds _ (sym c.is_text.ensures ∙ c.if-is_text.true) done.2 refl,
     ))
     c.read.ensures.ok
@@ -19,7 +20,7 @@ pub returns-in_ok-found-in-Some-clause-ok : goal.returns-in_ok-found-in-Some-cla
 returns-in_ok-found-in-Some-clause-ok c =
     let done = c.in_ok-found-in-Some.ensures.ok in (
       done.0,
-      done.1,
+      as_member c.args.depth c.args.reader.now done.0 _ c.args.name.now done.1,
       λ start ms holds.
           subst (λ slots. HoldsElement slots (put c.args.name.now done.0 ms)) (sym c.set.ensures) (takes_scalar c.args.self.now c.args.name.now done.0 ms holds c.in-Some.member c.in_ok-found-in-Some.found c.in-Some.ensures done.2),
     )
@@ -29,7 +30,7 @@ returns-in-None-clause-ok c =
     if_ok c.pass_member.result
     (λ done. (
       done.0,
-      done.1,
+      as_member c.args.depth c.args.reader.now done.0 _ c.args.name.now done.1,
       λ start ms holds. takes_other c.args.self.now c.args.name.now done.0 ms holds c.in-None.ensures (sym c.is_text.ensures ∙ c.if-is_text.false),
     ))
     c.pass_member.ensures.ok

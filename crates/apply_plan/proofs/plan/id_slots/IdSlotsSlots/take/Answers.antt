@@ -3,19 +3,20 @@ use Rattle.std.specs.Str.{bytes_eq}
 use Rattle.apply_json.specs.Seen.{seen}
 use Rattle.apply_json.proofs.Copied.{if_ok}
 use Rattle.apply_json.proofs.Held.{left, taken}
+use Rattle.apply_json.proofs.Keeping.{as_member}
 use Rattle.apply_plan.proofs.plan.id_slots.IdSlotsSlots.take.Goals as goal
 
 pub returns-then-is_text-clause-ok : goal.returns-then-is_text-clause-ok
 returns-then-is_text-clause-ok c =
     let here : bytes_eq c.args.name.now (codes "id") ≡ true = sym c.is_text.ensures ∙ c.if-is_text.true in
-    if_ok c.read_scalar_into.result (λ done. (done.0, done.1, λ start ms holds. record { id = taken seen (codes "id") c.args.name.now done.0 ms _ here done.2 })) c.read_scalar_into.ensures.ok
+    if_ok c.read_scalar_into.result (λ done. (done.0, as_member c.args.depth c.args.reader.now done.0 _ c.args.name.now done.1, λ start ms holds. record { id = taken seen (codes "id") c.args.name.now done.0 ms _ here done.2 })) c.read_scalar_into.ensures.ok
 
 pub returns-else-is_text-clause-ok : goal.returns-else-is_text-clause-ok
 returns-else-is_text-clause-ok c =
     if_ok c.pass_member.result
     (λ done. (
       done.0,
-      done.1,
+      as_member c.args.depth c.args.reader.now done.0 _ c.args.name.now done.1,
       λ start ms holds. record {
         id = left seen (codes "id") c.args.name.now done.0 ms _ (sym c.is_text.ensures ∙ c.if-is_text.false) holds.id;
       },

@@ -5,6 +5,7 @@ use Rattle.apply_json.specs.Seen.{seen}
 use Rattle.apply_json.specs.Tree.{list_of}
 use Rattle.apply_json.proofs.Copied.{if_ok}
 use Rattle.apply_json.proofs.Held.{is_name, left, taken}
+use Rattle.apply_json.proofs.Keeping.{as_member}
 use Rattle.apply_plan.specs.Plan.ElementsView.{HoldsElements, items_at, kind_of}
 use Rattle.apply_plan.proofs.plan.plan_slots.PlanSlotsSlots.take.Goals as goal
 
@@ -15,7 +16,7 @@ returns-then-is_text-clause-ok c =
     if_ok c.read_scalar_into.result
     (λ done. (
       done.0,
-      done.1,
+      as_member c.args.depth c.args.reader.now done.0 _ k done.1,
       λ start ms holds. record {
         format_version = taken seen (codes "format_version") k done.0 ms _ here done.2;
         terraform_version = left seen (codes "terraform_version") k done.0 ms _ (ap (λ name. bytes_eq name (codes "terraform_version")) (is_name k (codes "format_version") here)) holds.terraform_version;
@@ -32,7 +33,7 @@ returns-then-is_text-2-clause-ok c =
     if_ok c.read_scalar_into-then-is_text-2.result
     (λ done. (
       done.0,
-      done.1,
+      as_member c.args.depth c.args.reader.now done.0 _ k done.1,
       λ start ms holds. record {
         format_version = left seen (codes "format_version") k done.0 ms _ (ap (λ name. bytes_eq name (codes "format_version")) (is_name k (codes "terraform_version") here)) holds.format_version;
         terraform_version = taken seen (codes "terraform_version") k done.0 ms _ here done.2;
@@ -64,7 +65,7 @@ returns-else-is_text-3-clause-ok c =
     if_ok c.pass_member.result
     (λ done. (
       done.0,
-      done.1,
+      as_member c.args.depth c.args.reader.now done.0 _ k done.1,
       λ start ms holds. record {
         format_version = left seen (codes "format_version") k done.0 ms _ (sym c.is_text.ensures ∙ c.if-is_text.false) holds.format_version;
         terraform_version = left seen (codes "terraform_version") k done.0 ms _ (sym c.is_text-else-is_text.ensures ∙ c.if-is_text-2.false) holds.terraform_version;

@@ -1,0 +1,7 @@
+use Rattle.apply_json.proofs.Keeping.{as_whole}
+use Rattle.apply_check.proofs.messages.diagnostic_slots.DiagnosticSlots.read.Goals as goal
+
+pub returns-in-Ok-clause-ok : goal.returns-in-Ok-clause-ok
+returns-in-Ok-clause-ok c =
+    let done = c.in-Ok.ensures.ok in
+    (done.0, as_whole c.args.depth c.args.reader.now done.0 _ done.1, c.of-diagnostic.ensures done.0 done.2, record { severity = done.3.severity; address = done.3.address })

@@ -1,0 +1,9 @@
+use Rattle.std.proofs.Common.{rules}
+use Rattle.apply_json.proofs.Keeping.{as_whole}
+use Rattle.apply_plan.proofs.plan.planned_change.PlannedChange.read.Goals as goal
+
+pub returns-in-Ok-clause-ok : goal.returns-in-Ok-clause-ok
+returns-in-Ok-clause-ok c =
+    let done = c.in-Ok.ensures.ok in
+    let read = as_whole c.args.depth c.args.reader.now done.0 _ done.1 in
+    search (rules, read)

@@ -1,0 +1,59 @@
+use Rattle.std.proofs.Common.{◌≡◌, codes, true, refl, sym, ◌∙◌}
+use Rattle.std.specs.Str.{bytes_eq}
+use Rattle.apply_json.specs.Seen.{seen}
+use Rattle.apply_json.proofs.Held.{left}
+use Rattle.apply_plan.specs.Script.Entry.{provisioner_from, wait_from}
+use Rattle.apply_plan.specs.Script.Members.{diag_member, each_member, failure_member}
+use Rattle.apply_plan.proofs.Scripts.Kept.{other_read, passed_read, scalar_read}
+use Rattle.apply_plan.proofs.Scripts.Slots.{step_behind}
+use Rattle.apply_plan.proofs.script.step_slots.StepSlotsSlots.take.Goals as goal
+
+pub returns-then-is_text-clause-ok : goal.returns-then-is_text-clause-ok
+returns-then-is_text-clause-ok c =
+    let here : bytes_eq c.args.name.now (codes "seconds") ≡ true = sym c.is_text.ensures ∙ c.if-is_text.true in
+    scalar_read c.read_scalar_into.result c.args.name.now (codes "seconds") here _ _ refl (λ d is start ms holds. step_behind c.args.name.now (codes "seconds") d ms here _ is holds.after holds.id holds.warning holds.failed holds.provisioners holds.skipped) c.read_scalar_into.ensures.ok
+
+pub returns-then-is_text-2-clause-ok : goal.returns-then-is_text-2-clause-ok
+returns-then-is_text-2-clause-ok c =
+    let here : bytes_eq c.args.name.now (codes "after") ≡ true = sym c.is_text-else-is_text.ensures ∙ c.if-is_text-2.true in
+    other_read c.read_items.result c.args.name.now (codes "after") here _ _ refl (λ d is start ms holds. step_behind c.args.name.now (codes "after") d ms here _ holds.seconds is holds.id holds.warning holds.failed holds.provisioners holds.skipped) c.read_items.ensures.ok
+
+pub returns-then-is_text-3-clause-ok : goal.returns-then-is_text-3-clause-ok
+returns-then-is_text-3-clause-ok c =
+    let here : bytes_eq c.args.name.now (codes "id") ≡ true = sym c.is_text-else-is_text-2.ensures ∙ c.if-is_text-3.true in
+    scalar_read c.read_scalar_into-then-is_text-3.result c.args.name.now (codes "id") here _ _ refl (λ d is start ms holds. step_behind c.args.name.now (codes "id") d ms here _ holds.seconds holds.after is holds.warning holds.failed holds.provisioners holds.skipped) c.read_scalar_into-then-is_text-3.ensures.ok
+
+pub returns-then-is_text-4-clause-ok : goal.returns-then-is_text-4-clause-ok
+returns-then-is_text-4-clause-ok c =
+    let here : bytes_eq c.args.name.now (codes "warning") ≡ true = sym c.is_text-else-is_text-3.ensures ∙ c.if-is_text-4.true in
+    other_read c.read.result c.args.name.now (codes "warning") here _ _ refl (λ d is start ms holds. step_behind c.args.name.now (codes "warning") d ms here _ holds.seconds holds.after holds.id is holds.failed holds.provisioners holds.skipped) c.read.ensures.ok
+
+pub returns-then-is_text-5-clause-ok : goal.returns-then-is_text-5-clause-ok
+returns-then-is_text-5-clause-ok c =
+    let here : bytes_eq c.args.name.now (codes "failed") ≡ true = sym c.is_text-else-is_text-4.ensures ∙ c.if-is_text-5.true in
+    other_read c.read-then-is_text-5.result c.args.name.now (codes "failed") here _ _ refl (λ d is start ms holds. step_behind c.args.name.now (codes "failed") d ms here _ holds.seconds holds.after holds.id holds.warning is holds.provisioners holds.skipped) c.read-then-is_text-5.ensures.ok
+
+pub returns-then-is_text-6-clause-ok : goal.returns-then-is_text-6-clause-ok
+returns-then-is_text-6-clause-ok c =
+    let here : bytes_eq c.args.name.now (codes "provisioners") ≡ true = sym c.is_text-else-is_text-5.ensures ∙ c.if-is_text-6.true in
+    other_read c.read_items-then-is_text-6.result c.args.name.now (codes "provisioners") here _ _ refl (λ d is start ms holds. step_behind c.args.name.now (codes "provisioners") d ms here _ holds.seconds holds.after holds.id holds.warning holds.failed is holds.skipped) c.read_items-then-is_text-6.ensures.ok
+
+pub returns-then-is_text-7-clause-ok : goal.returns-then-is_text-7-clause-ok
+returns-then-is_text-7-clause-ok c =
+    let here : bytes_eq c.args.name.now (codes "skipped") ≡ true = sym c.is_text-else-is_text-6.ensures ∙ c.if-is_text-7.true in
+    scalar_read c.read_scalar_into-then-is_text-7.result c.args.name.now (codes "skipped") here _ _ refl (λ d is start ms holds. step_behind c.args.name.now (codes "skipped") d ms here _ holds.seconds holds.after holds.id holds.warning holds.failed holds.provisioners is) c.read_scalar_into-then-is_text-7.ensures.ok
+
+pub returns-else-is_text-7-clause-ok : goal.returns-else-is_text-7-clause-ok
+returns-else-is_text-7-clause-ok c =
+    let k = c.args.name.now in
+    passed_read c.pass_member.result k _ _
+    (λ d start ms holds. record {
+      seconds = left seen (codes "seconds") k d ms _ (sym c.is_text.ensures ∙ c.if-is_text.false) holds.seconds;
+      after = left (each_member wait_from) (codes "after") k d ms _ (sym c.is_text-else-is_text.ensures ∙ c.if-is_text-2.false) holds.after;
+      id = left seen (codes "id") k d ms _ (sym c.is_text-else-is_text-2.ensures ∙ c.if-is_text-3.false) holds.id;
+      warning = left diag_member (codes "warning") k d ms _ (sym c.is_text-else-is_text-3.ensures ∙ c.if-is_text-4.false) holds.warning;
+      failed = left failure_member (codes "failed") k d ms _ (sym c.is_text-else-is_text-4.ensures ∙ c.if-is_text-5.false) holds.failed;
+      provisioners = left (each_member provisioner_from) (codes "provisioners") k d ms _ (sym c.is_text-else-is_text-5.ensures ∙ c.if-is_text-6.false) holds.provisioners;
+      skipped = left seen (codes "skipped") k d ms _ (sym c.is_text-else-is_text-6.ensures ∙ c.if-is_text-7.false) holds.skipped;
+    })
+    c.pass_member.ensures.ok
