@@ -14,7 +14,6 @@ use Rattle.apply_json.specs.Tree as tree
 use Rattle.apply_json.specs.Tree.{text_of, tree_of, unless_null}
 use Rattle.apply_json.proofs.Held.{get_in, member_in, text_in}
 use Rattle.apply_check.specs.declared.messages.changes_slots.ChangesSlots.{ChangesSlots}
-use Rattle.apply_check.specs.declared.messages.diagnostic_slots.DiagnosticSlots.{DiagnosticSlots}
 use Rattle.apply_check.specs.declared.messages.hook_slots.HookSlots.{HookSlots}
 use Rattle.apply_check.specs.declared.messages.inner_slot.InnerSlot.{InnerSlot}
 use Rattle.apply_check.specs.declared.messages.kind.Kind.{Kind}
@@ -27,7 +26,6 @@ use Rattle.apply_check.specs.declared.messages.presence.Presence.{Presence}
 use Rattle.apply_check.specs.declared.messages.presence.Presence.TheVariants.{NoObject, Object}
 use Rattle.apply_check.specs.declared.messages.stage.Stage.{Stage}
 use Rattle.apply_check.specs.declared.messages.timed_stage.TimedStage.{TimedStage}
-use Rattle.apply_check.specs.declared.messages.timed_stage.TimedStage.TheVariants.{Start}
 use Rattle.apply_check.specs.declared.rules.fault.Fault.{Fault}
 use Rattle.apply_check.specs.declared.rules.fault.Fault.TheVariants as fault
 use Rattle.apply_check.specs.declared.rules.fault.Fault.TheVariants.{Malformed}
@@ -36,7 +34,7 @@ use Rattle.apply_check.specs.Kept.{HoldsChanges, HoldsDiagnostic, HoldsHook, Hol
 use Rattle.apply_check.specs.MessageKinds.{kind_message, kind_named}
 use Rattle.apply_check.specs.Lines.{text_message, tree_message, untyped_message}
 use Rattle.apply_check.specs.Members.{as_container, count_at, object_at, text_at, there, whole_number}
-use Rattle.apply_check.specs.Message.{Message, version, step, provision, planned, plan_summary, summary, diagnostic, outputs, other, foreign, diagnostic_of, hook_address_of, intent_named, planned_of, provision_of, refresh_of, start_of, step_or_other, subject_of, summary_of, timed_of, timed_stage_of, totals_said, typed_message}
+use Rattle.apply_check.specs.Message.{Message, version, step, provision, planned, plan_summary, summary, diagnostic, outputs, other, foreign, diagnostic_of, hook_address_of, planned_of, provision_of, refresh_of, start_of, subject_of, summary_of, timed_of, timed_stage_of, totals_said, typed_message}
 use Rattle.apply_check.specs.Results.{Gives, ◌>>=◌, mapped, or_refuse}
 use Rattle.apply_check.proofs.MessageKinds.{kind_is}
 

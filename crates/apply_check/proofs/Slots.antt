@@ -1,5 +1,5 @@
 -- What the slots of a line hold behind one member more, whose name is known, or is none that they look for.
-use Rattle.std.proofs.Common.{◌≡◌, ℕ, List, true, false, codes, Option, Some, option_map, refl, subst}
+use Rattle.std.proofs.Common.{◌≡◌, ℕ, List, true, false, codes, Option, option_map, refl, subst}
 use Rattle.std.specs.Str.{bytes_eq}
 use Rattle.serde_json.specs.Data.{Data, Members, put}
 use Rattle.serde_json.specs.Find.{get_member}

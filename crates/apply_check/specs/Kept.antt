@@ -1,5 +1,5 @@
 -- What is kept of the members of a line, for the private types that keep it, and the message that they make.
-use Rattle.std.specs.Prelude.{◌≡◌, ⊤, ℕ, List, codes, Bool, if◌then◌else◌, Option, Some, None, option_map, Result, Ok, Err}
+use Rattle.std.specs.Prelude.{◌≡◌, ⊤, ℕ, List, codes, Bool, Option, Some, None, option_map, Result, Ok, Err}
 use Rattle.std.specs.Option.{option_and_then, option_map_or}
 use Rattle.std.specs.Str.{bytes_eq}
 use Rattle.serde_json.specs.Data.{Data, null, boolean, number, string, array, object, Members, no_members}

@@ -1,6 +1,6 @@
 //! From text to a tree that holds what somebody looks at and no more, in one pass.
 
-ghost use Rattle.std.specs.Prelude.{◌≡◌, ◌≢◌, ◌<◌, ◌++◌, ◌∷◌, [], length, Err, IfOk, MatchResult, None, Ok, OnErr, OnOk, Some};
+ghost use Rattle.std.specs.Prelude.{◌≡◌, ◌<◌, ◌++◌, ◌∷◌, [], length, Err, IfOk, MatchResult, None, Ok, OnOk, Some};
 ghost use Rattle.json.specs.Json.{items, members, value};
 ghost use Rattle.serde_json.specs.Data.{Data, Items, Members, no_members, put as with_member};
 ghost use Rattle.serde_json.specs.Read.{converted, of_items, of_json, of_members, read as read_text};

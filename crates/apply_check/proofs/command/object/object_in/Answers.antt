@@ -1,5 +1,5 @@
 use Rattle.std.proofs.Common.{◌∙◌}
-use Rattle.apply_check.proofs.Kept.{about_found, about_none, no_tree_in}
+use Rattle.apply_check.proofs.Kept.{about_found}
 use Rattle.apply_check.proofs.command.object.object_in.Goals as goal
 
 pub returns-in-Ok : goal.returns-in-Ok
