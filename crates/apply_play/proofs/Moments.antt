@@ -1,9 +1,8 @@
 -- The moment of a line is the same when its tree is trimmed.
 use Rattle.std.proofs.Common.{◌≡◌, ℕ, List, codes, Option, refl, sym, ap, ◌∙◌}
 use Rattle.serde_json.specs.Data.{Data}
-use Rattle.apply_trees.specs.Trimmed.{IsTrimmedTree}
 use Rattle.apply_json.specs.Tree.{◌>>=◌}
-use Rattle.apply_trees.specs.Trimmed.{trimmed}
+use Rattle.apply_trees.specs.Trimmed.{IsTrimmedTree, trimmed}
 use Rattle.apply_trees.proofs.Trimmed.Lookups.{text_trimmed}
 use Rattle.apply_play.specs.Moment.{line_selection, moment_of, tree_moment}
 use Rattle.apply_play.specs.declared.shape.LineShape.TheVariants.{Scalar, Line}

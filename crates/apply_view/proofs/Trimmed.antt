@@ -4,9 +4,8 @@ use Rattle.std.specs.Prelude.{option_map, unwrap_or}
 use Rattle.std.specs.Option.{option_map_or}
 use Rattle.serde_json.specs.Data.{Data, null, boolean, number, string, array, object}
 use Rattle.serde_json.specs.Find.{as_number, as_u64, get}
-use Rattle.apply_trees.specs.Trimmed.{IsTrimmedTree}
 use Rattle.apply_json.specs.Tree.{◌>>=◌, member_of, text_of, unless_null}
-use Rattle.apply_trees.specs.Trimmed.{trimmed}
+use Rattle.apply_trees.specs.Trimmed.{IsTrimmedTree, trimmed}
 use Rattle.apply_trees.proofs.Trimmed.Lookups.{as_number_trimmed, get_trimmed, text_trimmed}
 use Rattle.apply_view.specs.declared.told.line_shape.LineShape.{LineShape}
 use Rattle.apply_view.specs.declared.told.line_shape.LineShape.TheVariants.{Scalar, Line, Hook, Resource, Changes, Diagnostic, Range, Start}

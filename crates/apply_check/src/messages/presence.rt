@@ -1,9 +1,8 @@
 //! Whether an object stands where one has to be.
 
-ghost use Rattle.std.specs.Prelude.{◌≡◌};
+ghost use Rattle.std.specs.Prelude.{◌≡◌, Some};
 ghost use Rattle.serde_json.specs.Data.{Data};
 ghost use Rattle.apply_json.specs.Seen.{scalar_view, seen};
-ghost use Rattle.std.specs.Prelude.{Some};
 ghost use Rattle.apply_check.specs.Kept.{object_held, presence_of};
 
 use crate::messages::lack::Lack;
