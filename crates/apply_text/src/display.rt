@@ -3,4 +3,4 @@
 pub mod elapsed;
 pub mod id_note;
 pub mod moment;
-pub mod told_seconds;
+pub mod number;

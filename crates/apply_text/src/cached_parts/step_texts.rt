@@ -12,9 +12,9 @@ use crate::cached_parts::kept_date::KeptDate;
 use crate::cached_parts::shown_step::ShownStep;
 use crate::cached_parts::step_point::StepPoint;
 use crate::cached_parts::told_step::ToldStep;
-use crate::display::elapsed::Elapsed;
-use crate::display::id_note::IdNote;
-use crate::display::told_seconds::ToldSeconds;
+use crate::display::elapsed::{push_elapsed, push_told_seconds};
+use crate::display::id_note::push_id_note;
+use crate::display::number::push_number;
 use apply_model::{Change, StepKind};
 use std::alloc::{AllocError, Global};
 use std::marker::Model;
@@ -152,16 +152,11 @@ impl StepTexts {
             ++ (lead_text told.entry.point step ++ (seconds_words told.entry.seconds ++ (id_note (option_copied told.entry.id)
             ++ codes "\",\"@module\":\"terraform.ui\",\"@timestamp\":"))))) }
     {
-        let front = self.front.as_str();
-        let lead = told.point.lead(step);
-        let elapsed = ToldSeconds {
-            seconds: told.seconds,
-        };
-        let note = IdNote { id: told.id };
-        write!(
-            line,
-            "{front}{lead}{elapsed}{note}\",\"@module\":\"terraform.ui\",\"@timestamp\":"
-        )
+        line.push_str(self.front.as_str())?;
+        line.push_str(told.point.lead(step))?;
+        push_told_seconds(line, told.seconds)?;
+        push_id_note(line, told.id)?;
+        line.push_str("\",\"@module\":\"terraform.ui\",\"@timestamp\":")
     }
 
     /// Appends a line from behind the seconds and the id on.
@@ -169,9 +164,9 @@ impl StepTexts {
         ensures { OnOk result (string_bytes line.new
             ≡ string_bytes line.old ++ (self.now.pieces.back ++ (point_type point ++ codes "\"}\n"))) }
     {
-        let back = self.back.as_str();
-        let type_name = point.type_name();
-        write!(line, "{back}{type_name}\"}}\n")
+        line.push_str(self.back.as_str())?;
+        line.push_str(point.type_name())?;
+        line.push_str("\"}\n")
     }
 
     /// Appends a line of progress up to its moment.
@@ -179,12 +174,9 @@ impl StepTexts {
         ensures { OnOk result (string_bytes line.new ≡ string_bytes line.old
             ++ (self.now.pieces.front ++ (elapsed_of seconds ++ codes " elapsed]\",\"@module\":\"terraform.ui\",\"@timestamp\":"))) }
     {
-        let front = self.front.as_str();
-        let elapsed = Elapsed { seconds };
-        write!(
-            line,
-            "{front}{elapsed} elapsed]\",\"@module\":\"terraform.ui\",\"@timestamp\":"
-        )
+        line.push_str(self.front.as_str())?;
+        push_elapsed(line, seconds)?;
+        line.push_str(" elapsed]\",\"@module\":\"terraform.ui\",\"@timestamp\":")
     }
 
     /// Appends a line of progress from behind the second of its moment on.
@@ -192,9 +184,9 @@ impl StepTexts {
         ensures { OnOk result (string_bytes line.new ≡ string_bytes line.old
             ++ (self.now.pieces.middle ++ (decimal seconds ++ self.now.pieces.back))) }
     {
-        let middle = self.middle.as_str();
-        let back = self.back.as_str();
-        write!(line, "{middle}{seconds}{back}")
+        line.push_str(self.middle.as_str())?;
+        push_number(line, seconds)?;
+        line.push_str(self.back.as_str())
     }
 }
 
@@ -216,7 +208,10 @@ fn push_seconds(line: &mut String, seconds: Option<u32>) -> Result<(), AllocErro
     ensures { OnOk result (string_bytes line.new ≡ string_bytes line.old ++ seconds_text seconds) }
 {
     match seconds {
-        Some(seconds) => write!(line, ",\"elapsed_seconds\":{seconds}"),
+        Some(seconds) => {
+            line.push_str(",\"elapsed_seconds\":")?;
+            push_number(line, seconds)
+        }
         None => Ok(()),
     }
 }
@@ -227,7 +222,11 @@ fn push_id(line: &mut String, id: Option<&str>) -> Result<(), AllocError>
         (string_bytes line.new ≡ string_bytes line.old ++ id_text (option_copied id.entry)) }
 {
     match id {
-        Some(id) => write!(line, ",\"id_key\":\"id\",\"id_value\":\"{id}\""),
+        Some(id) => {
+            line.push_str(",\"id_key\":\"id\",\"id_value\":\"")?;
+            line.push_str(id)?;
+            line.push_str("\"")
+        }
         None => Ok(()),
     }
 }

@@ -1,8 +1,10 @@
 //! How long something took, in words.
 
-ghost use Rattle.std.specs.Prelude.{◌≡◌, Some, IfOk, string_bytes};
-ghost use Rattle.apply_text.specs.Elapsed.{elapsed_of};
+ghost use Rattle.std.specs.Prelude.{◌≡◌, ◌++◌, Some, IfOk, OnOk, string_bytes};
+ghost use Rattle.apply_text.specs.Elapsed.{elapsed_of, minutes_text, seconds_text};
+ghost use Rattle.apply_text.specs.HookLines.{seconds_words};
 
+use crate::display::number::push_number;
 use std::alloc::{AllocError, Global};
 use std::fmt;
 
@@ -35,4 +37,47 @@ pub fn elapsed_text(alloc: Global, seconds: u32) -> Result<String, AllocError>
     ensures { IfOk result (λ text. string_bytes text ≡ elapsed_of seconds) }
 {
     Elapsed { seconds }.to_string(alloc)
+}
+
+/// Appends so many seconds, as [`elapsed_text`] has them. `Err` where memory is refused.
+pub fn push_elapsed(line: &mut String, seconds: u32) -> Result<(), AllocError>
+    ensures { OnOk result (string_bytes line.new ≡ string_bytes line.old ++ elapsed_of seconds) }
+{
+    if seconds < 60 {
+        return push_seconds(line, seconds);
+    }
+    if seconds < 3600 {
+        return push_minutes(line, seconds);
+    }
+    push_number(line, seconds / 3600)?;
+    line.push_str("h")?;
+    push_minutes(line, seconds)
+}
+
+/// Appends the seconds beside whole minutes.
+#[inline(always)]
+fn push_seconds(line: &mut String, seconds: u32) -> Result<(), AllocError>
+    ensures { OnOk result (string_bytes line.new ≡ string_bytes line.old ++ seconds_text seconds) }
+{
+    push_number(line, seconds % 60)?;
+    line.push_str("s")
+}
+
+/// Appends the minutes beside whole hours, and the seconds beside these.
+fn push_minutes(line: &mut String, seconds: u32) -> Result<(), AllocError>
+    ensures { OnOk result (string_bytes line.new ≡ string_bytes line.old ++ minutes_text seconds) }
+{
+    push_number(line, seconds / 60 % 60)?;
+    line.push_str("m")?;
+    push_seconds(line, seconds)
+}
+
+/// Appends how long something took, where it is told. `Err` where memory is refused.
+pub fn push_told_seconds(line: &mut String, seconds: Option<u32>) -> Result<(), AllocError>
+    ensures { OnOk result (string_bytes line.new ≡ string_bytes line.old ++ seconds_words seconds) }
+{
+    match seconds {
+        Some(seconds) => push_elapsed(line, seconds),
+        None => Ok(()),
+    }
 }

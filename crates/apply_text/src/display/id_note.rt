@@ -1,9 +1,10 @@
 //! The id of an object in a message.
 
-ghost use Rattle.std.specs.Prelude.{Some};
+ghost use Rattle.std.specs.Prelude.{◌≡◌, ◌++◌, Some, OnOk, string_bytes};
 ghost use Rattle.std.specs.Option.{option_copied};
 ghost use Rattle.apply_text.specs.Message as messages;
 
+use std::alloc::AllocError;
 use std::fmt;
 
 /// The id of an object, where it is told, printed as ` [id=ID]`.
@@ -20,5 +21,20 @@ impl fmt::Display for IdNote<'_> {
             Some(id) => write!(f, " [id={id}]"),
             None => Ok(()),
         }
+    }
+}
+
+/// Appends the id, where it is told, as `IdNote` prints it. `Err` where memory is refused.
+pub fn push_id_note(line: &mut String, id: Option<&str>) -> Result<(), AllocError>
+    ensures { OnOk result
+        (string_bytes line.new ≡ string_bytes line.old ++ messages.id_note (option_copied id.entry)) }
+{
+    match id {
+        Some(id) => {
+            line.push_str(" [id=")?;
+            line.push_str(id)?;
+            line.push_str("]")
+        }
+        None => Ok(()),
     }
 }
