@@ -1,4 +1,5 @@
 pub mod ListReading
+pub mod MadeOfRead
 pub mod Plans
 pub mod Results
 pub mod Scripts

@@ -1,8 +1,8 @@
-pub mod Both
 pub mod Bytes
 pub mod FilledText
 pub mod Found
 pub mod ListReading
+pub mod NoTree
 pub mod Plan
 pub mod Results
 pub mod Script

@@ -2,7 +2,7 @@
 //! and is passed on.
 #![tactic(auto)]
 
-mod both;
+mod both_made;
 mod bytes;
 mod filled_text;
 mod found;

@@ -1,7 +1,7 @@
 -- The members of an element, joined two and two: together they make the element that they say, or none where one is missing.
 use Rattle.std.proofs.Common.{◌≡◌, ℕ, List, Option, Some, None, option_map, [], refl, sym}
 use Rattle.std.specs.Borrow.{Bor}
-use Rattle.std.specs.Option.{option_copied}
+use Rattle.std.specs.Option.{option_copied, option_zip}
 use Rattle.apply_json.specs.Seen.{scalar_view, text_seen, text_seen_or}
 use Rattle.apply_json.specs.Tree.{◌>>=◌, unless_empty}
 use Rattle.apply_model.specs.declared.plan.key.Key.{Key}
@@ -9,7 +9,6 @@ use Rattle.apply_model.specs.declared.plan.mode.Mode.{Mode}
 use Rattle.apply_plan.specs.declared.plan.element.IndexKey.{IndexKey}
 use Rattle.apply_plan.specs.declared.plan.element_slots.ElementSlots.{ElementSlots}
 use Rattle.apply_plan.specs.declared.plan.planned_change.PlannedChange.{PlannedChange}
-use Rattle.apply_plan.specs.Both.{both}
 use Rattle.apply_plan.specs.Plan.ElementView.{FoundElement, key_view, planned_change_view}
 use Rattle.apply_plan.specs.Plan.Members.{element_held, key_seen, mode_seen}
 
@@ -55,7 +54,7 @@ one_by_one a m k n o y d p = do
 
 joined : (a : Text) (m : Option Mode) (k n o : Text) (y : Option IndexKey) (d : Text) (p : Option PlannedChange)
     → one_by_one (option_copied a) m (option_copied k) (option_copied n) (option_copied o) (option_map key_view y) (option_copied d) p
-    ≡ option_map made (both (both (both a m) (both k n)) (both (both o y) (both d p)))
+    ≡ option_map made (option_zip (option_zip (option_zip a m) (option_zip k n)) (option_zip (option_zip o y) (option_zip d p)))
 joined None m k n o y d p = refl
 joined (Some a) None k n o y d p = refl
 joined (Some a) (Some m) None n o y d p = refl
@@ -75,5 +74,5 @@ pub held : (slots : ElementSlots) (a : Text) (m : Option Mode) (k n o : Text) (y
     → option_copied o ≡ text_seen_or [] (scalar_view slots.module_address)
     → option_map key_view y ≡ key_seen (scalar_view slots.index)
     → option_copied d ≡ text_seen_or [] (scalar_view slots.deposed)
-    → element_held slots ≡ option_map made (both (both (both a m) (both k n)) (both (both o y) (both d slots.change)))
+    → element_held slots ≡ option_map made (option_zip (option_zip (option_zip a m) (option_zip k n)) (option_zip (option_zip o y) (option_zip d slots.change)))
 held slots a m k n o y d e1 e2 e3 e4 e5 e6 e7 = rw (sym e1, sym e2, sym e3, sym e4, sym e5, sym e6, sym e7) (joined a m k n o y d slots.change)

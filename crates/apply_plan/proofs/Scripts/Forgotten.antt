@@ -1,9 +1,12 @@
 -- What was said is taken back, change by change.
-use Rattle.std.proofs.Common.{◌≡◌, ℕ, ◌+◌, ◌<◌, ◌≤◌, ◌==◌, true, false, List, [], ◌∷◌, length, map, get_or, Option, Some, None, refl, sym, ap, subst, ◌∙◌, arith, ⊎_elim}
-use Rattle.std.specs.Prelude.{is_some}
+use Rattle.std.proofs.Common.{◌≡◌, ℕ, ◌+◌, ◌<◌, ◌≤◌, ◌==◌, true, false, Bool, List, [], ◌∷◌, ◌++◌, length, map, get_or, set, Option, Some, None, refl, sym, ap, subst, ◌∙◌, arith, ⊎_elim}
+use Rattle.std.specs.Prelude.{◌||◌, is_some}
 use Rattle.std.specs.List.{All, list_any}
 use Rattle.std.proofs.lemmas.Bool.{cases_Bool}
-use Rattle.std.proofs.lemmas.List.{get_or_default, same_lists}
+use Rattle.std.proofs.lemmas.Bool.Decides.{eqb_tells}
+use Rattle.std.proofs.lemmas.List.{get_or-set_other, get_or-set_same, get_or_default, length-set, same_lists}
+use Rattle.std.proofs.lemmas.List.Elements.{All-pop}
+use Rattle.std.proofs.lemmas.List.Folds.{list_any-append}
 use Rattle.std.proofs.lemmas.List.FromFn.{get_or-map-range_with_len}
 use Rattle.serde_json.specs.Data.{Data}
 use Rattle.apply_model.specs.declared.script.script_step.ScriptStep.{ScriptStep}
@@ -38,6 +41,38 @@ all_covered entries ds holds =
 never : (o : Option (List ScriptStep)) → o ≡ None → is_some o ≡ true → ⊥
 never None none some = absurd cc
 never (Some x) none some = absurd cc
+
+-- the change that is kept last is one of those of which something may be said
+pub last_within : (said : OutcomeMap) (all kept : List (ℕ × ℕ)) (last : ℕ × ℕ) → all ≡ kept ++ last ∷ [] → AreCovered said all → last.0 < length said
+last_within said all kept last is are =
+    (All-pop (λ (entry : ℕ × ℕ). (entry.0 < length said) × (entry.1 ≤ 2)) all kept (Some last) is are.within).1.0
+
+-- where nothing is said of it any more, the others are kept still
+pub without_last : (said : OutcomeMap) (all kept : List (ℕ × ℕ)) (last : ℕ × ℕ) → all ≡ kept ++ last ∷ [] → AreCovered said all → AreCovered (set said last.0 None) kept
+without_last said all kept last is are =
+    let within : ℕ → Type 0 = λ n. All (λ (entry : ℕ × ℕ). (entry.0 < n) × (entry.1 ≤ 2)) kept in
+    let long = length-set said last.0 None in
+    let parts = All-pop (λ (entry : ℕ × ℕ). (entry.0 < length said) × (entry.1 ≤ 2)) all kept (Some last) is are.within in
+    record {
+      within = subst within (sym long) parts.0;
+      covered = λ number below some. ⊎_elim
+          (λ same.
+          let none = ap (λ (n : ℕ). get_or (set said last.0 None) n None) (sym same.1) ∙ get_or-set_same said last.0 None None parts.1.0 in
+          absurd (never (get_or (set said last.0 None) number None) none some))
+          (λ apart.
+          let there = ap is_some (sym (get_or-set_other said last.0 number None None (λ e. apart.1 (sym e)))) ∙ some in
+          others kept number apart.0
+          (sym (list_any-append (λ (entry : ℕ × ℕ). entry.0 == number) kept (last ∷ [])) ∙ ap (list_any (λ (entry : ℕ × ℕ). entry.0 == number)) (sym is) ∙ are.covered number (omega (arith, below, long)) there))
+          (eqb_tells last.0 number);
+    }
+  where
+    others : (kept : List (ℕ × ℕ)) (number : ℕ) → (last.0 == number) ≡ false → (list_any (λ (entry : ℕ × ℕ). entry.0 == number) kept || list_any (λ (entry : ℕ × ℕ). entry.0 == number) (last ∷ [])) ≡ true
+        → list_any (λ (entry : ℕ × ℕ). entry.0 == number) kept ≡ true
+    others kept number other any = first (list_any (λ (entry : ℕ × ℕ). entry.0 == number) kept) (rw other at any)
+      where
+        first : (b : Bool) → (b || false) ≡ true → b ≡ true
+        first true e = refl
+        first false e = e
 
 -- and without any nothing is said
 pub none_left : (said : OutcomeMap) → AreCovered said [] → said ≡ by_number (length said) []

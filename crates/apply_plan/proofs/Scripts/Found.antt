@@ -1,5 +1,6 @@
 -- Lists of a script, as they are found item by item.
-use Rattle.std.proofs.Common.{◌≡◌, ℕ, ◌+◌, ◌<◌, Global, List, [], ◌∷◌, ◌++◌, length, map, take, get_or, Option, Some, None, option_map, Vec, refl, sym, ap, ◌∙◌}
+use Rattle.std.proofs.Common.{◌≡◌, ℕ, ◌+◌, ◌<◌, Global, List, [], ◌∷◌, ◌++◌, length, map, take, get_or, Option, Some, None, option_map, Vec, refl, sym, ap, subst, ◌∙◌}
+use Rattle.std.specs.Prelude.{IfOk, Ok, Result}
 use Rattle.std.proofs.lemmas.List.{map-append, take_more}
 use Rattle.serde_json.specs.Data.{Data}
 use Rattle.apply_json.specs.Tree.{◌>>=◌}
@@ -48,3 +49,7 @@ found_more see part old new last ds d more is so_far =
 pub copied_more : {T A : Type 0} (see : T → A) (made : List A) (xs : List T) (i : ℕ) (x : T) → i < length xs → x ≡ get_or xs i x → made ≡ map see (take i xs) → made ++ see x ∷ [] ≡ map see (take (i + 1) xs)
 copied_more see made xs i x below is so_far =
     rw (take_more xs i x below, ← is, map-append see (take i xs) (x ∷ []), so_far) refl
+
+-- what holds of each that is made holds of this one
+pub made : {T E : Type 0} (P : T → Type 0) (r : Result T E) (x : T) → r ≡ Ok x → IfOk r P → P x
+made P r x is holds = subst (λ s. IfOk s P) is holds

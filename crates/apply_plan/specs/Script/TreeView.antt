@@ -2,7 +2,7 @@
 use Rattle.std.specs.Prelude.{ℕ, List, [], length, map, nat_lt, sum_by, if◌then◌else◌, Option, Some, None, option_map}
 use Rattle.std.specs.Option.{option_copied}
 use Rattle.apply_model.specs.declared.script.ending.Ending.{Ending}
-use Rattle.apply_model.specs.declared.script.ending.Ending.TheVariants as ending
+use Rattle.apply_model.specs.declared.script.ending.Ending.TheVariants.{Done}
 use Rattle.apply_model.specs.declared.script.outcome.Outcome.{Outcome}
 use Rattle.apply_model.specs.declared.script.provisioner.Provisioner.{Provisioner}
 use Rattle.apply_plan.specs.declared.script.tree_ending.TreeEnding.{TreeEnding}
@@ -13,16 +13,15 @@ use Rattle.apply_plan.specs.declared.script.tree_outcome.TreeOutcome.{TreeOutcom
 use Rattle.apply_plan.specs.declared.script.tree_provisioner.TreeProvisioner.{TreeProvisioner}
 use Rattle.apply_plan.specs.declared.script.tree_step.TreeStep.{TreeStep}
 use Rattle.apply_plan.specs.declared.script.tree_wait.TreeWait.{TreeWait}
-use Rattle.apply_plan.specs.Script.Entry.{Entry, EntryStep, Failure, WaitName, timed}
+use Rattle.apply_plan.specs.Script.Entry.{Entry, EntryStep, Failure, WaitName, ending_by, timed}
 use Rattle.apply_plan.specs.Script.OutputView.{outputs_view}
-
-abbrev pub ending_view : TreeEnding → Ending
-ending_view (tree.Done id warning) = ending.Done (option_copied id) warning
-ending_view (tree.Failed diag) = ending.Failed diag
-ending_view (tree.Warned diag) = ending.Warned diag
 
 abbrev pub failure_view : TreeFailure → Failure
 failure_view failure = record { diag = failure.diag; only_warns = failure.only_warns }
+
+abbrev pub ending_view : TreeEnding → Ending
+ending_view (tree.Done id warning) = Done (option_copied id) warning
+ending_view (tree.Failed failure) = ending_by (failure_view failure)
 
 abbrev pub provisioner_view : TreeProvisioner → Provisioner
 provisioner_view provisioner = record {

@@ -6,7 +6,6 @@ ghost use Rattle.apply_plan.specs.Plan.Element.{mode_named};
 ghost use Rattle.apply_plan.specs.Plan.ElementView.{element_view, key_view};
 ghost use Rattle.apply_plan.specs.Plan.Members.{element_held, key_seen, mode_seen};
 
-use crate::both::both;
 use crate::filled_text::filled_text;
 use crate::plan::element_slots::ElementSlots;
 use apply_json::{Scalar, is_text, non_empty};
@@ -54,11 +53,11 @@ impl<'a> Element<'a> {
     pub fn of(slots: &ElementSlots<'a>) -> Option<Element<'a>>
         ensures { option_map element_view result ≡ element_held slots.now }
     {
-        let kinds = both(slots.address.text(), mode_of(slots.mode));
-        let names = both(filled_text(slots.kind_name), filled_text(slots.name));
-        let places = both(slots.module_address.text_or(""), index_key(slots.index));
-        let others = both(slots.deposed.text_or(""), slots.change);
-        let all = both(both(kinds, names), both(places, others))?;
+        let kinds = slots.address.text().zip(mode_of(slots.mode));
+        let names = filled_text(slots.kind_name).zip(filled_text(slots.name));
+        let places = slots.module_address.text_or("").zip(index_key(slots.index));
+        let others = slots.deposed.text_or("").zip(slots.change);
+        let all = kinds.zip(names).zip(places.zip(others))?;
         let (((address, mode), (kind_name, name)), ((module_address, key), (deposed, change))) =
             all;
         Some(Element {

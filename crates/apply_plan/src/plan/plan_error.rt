@@ -2,7 +2,9 @@
 
 ghost use Rattle.std.specs.Prelude.{◌≡◌};
 ghost use Rattle.apply_plan.specs.declared.plan.plan_error.PlanError.TheVariants.{Memory};
+ghost use Rattle.apply_plan.specs.NoTree.{plan_refusal};
 
+use apply_json::JsonFault;
 use std::alloc::{AllocError, AllocFailed};
 use std::error::Error;
 use std::fmt;
@@ -34,6 +36,17 @@ pub enum PlanError {
 }
 
 impl PlanError {
+    /// Why bytes are no plan that gave no tree.
+    pub fn of_json(fault: JsonFault) -> PlanError
+        ensures { result ≡ plan_refusal fault }
+    {
+        match fault {
+            JsonFault::TooLarge => PlanError::TooLarge,
+            JsonFault::NotJson => PlanError::NotJson,
+            JsonFault::Memory => PlanError::Memory,
+        }
+    }
+
     /// The element that it names, if any.
     fn element(self) -> Option<u32> {
         match self {

@@ -10,7 +10,6 @@ ghost use Rattle.apply_plan.specs.Plan.ElementsView.{HoldsPlan, version_held};
 ghost use Rattle.apply_plan.specs.Plan.SavedPlan.{plan_of_tree};
 ghost use Rattle.apply_plan.specs.Results.{Gives};
 
-use crate::both::both;
 use crate::plan::elements::Elements;
 use crate::plan::plan_error::PlanError;
 use apply_json::{
@@ -50,7 +49,7 @@ impl<'a> PlanSlots<'a> {
         ensures { option_copied result ≡ version_held self.now }
     {
         let version = self.terraform_version.text_or(UNKNOWN_VERSION);
-        let (format, version) = both(self.format_version.text(), version)?;
+        let (format, version) = self.format_version.text().zip(version)?;
         match self.resource_changes {
             Listed::Absent | Listed::List => if is_format_1(format) {
                 Some(version)

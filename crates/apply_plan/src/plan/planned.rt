@@ -3,7 +3,7 @@
 ghost use Rattle.std.specs.Prelude.{◌≡◌, IfOk, is_some, true};
 ghost use Rattle.apply_model.specs.Plan.Address.{relative_address};
 
-use crate::both::both_made;
+use crate::both_made::both_made;
 use crate::plan::element::Element;
 use crate::plan::element_slots::ElementSlots;
 use crate::plan::plan_error::PlanError;

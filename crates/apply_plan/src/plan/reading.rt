@@ -8,7 +8,7 @@ ghost use Rattle.apply_plan.specs.Results.{Gives};
 use crate::bytes::MAX_BYTES;
 use crate::plan::plan_error::PlanError;
 use crate::plan::plan_slots::PlanSlots;
-use apply_json::{JsonFault, Scratch, read_slots};
+use apply_json::{Scratch, read_slots};
 use apply_model::Plan;
 use std::alloc::Global;
 
@@ -26,8 +26,6 @@ pub fn read_plan(alloc: Global, bytes: &[u8]) -> Result<Plan, PlanError>
     let mut slots = PlanSlots::new(alloc);
     match read_slots(alloc, &mut scratch, bytes, MAX_BYTES, &mut slots) {
         Ok(()) => slots.plan(alloc),
-        Err(JsonFault::TooLarge) => Err(PlanError::TooLarge),
-        Err(JsonFault::NotJson) => Err(PlanError::NotJson),
-        Err(JsonFault::Memory) => Err(PlanError::Memory),
+        Err(fault) => Err(PlanError::of_json(fault)),
     }
 }

@@ -9,6 +9,7 @@ ghost use Rattle.apply_plan.specs.Script.EntriesView.{AreCovered, HoldsEntries, 
 ghost use Rattle.apply_plan.specs.Script.NeverBeginning.{never_beginning_in};
 ghost use Rattle.apply_plan.specs.Script.OutcomeMap.{by_number, script_of_entries};
 
+use crate::both_made::both_made;
 use crate::script::said::said_by_entry;
 use crate::script::script_error::ScriptError;
 use crate::script::tree_entry::TreeEntry;
@@ -37,8 +38,10 @@ impl<'a> Entries<'a> {
     pub fn new(alloc: Global, plan: &'a Plan) -> Result<Entries<'a>, AllocError>
         ensures { IfOk result (λ entries. (entries.plan ≡ plan.entry) × HoldsEntries entries []) }
     {
-        let numbers = ChangeNumbers::of(alloc, plan)?;
-        let said = nothing(alloc, plan.len())?;
+        let (numbers, said) = both_made(
+            ChangeNumbers::of(alloc, plan),
+            nothing(alloc, plan.len()),
+        )?;
         let kept = Vec::new(alloc);
         Ok(Entries {
             plan,
@@ -120,15 +123,18 @@ impl<'a> Collector<'a> for Entries<'a> {
         }
         let entry = TreeEntry::read(alloc, reader, depth)?;
         let number = self.kept.len() as u32;
-        match said_by_entry(
+        let said = said_by_entry(
             alloc,
             number,
             self.waits,
-            entry,
+            &entry,
             self.plan,
             &self.numbers,
             &self.said,
-        ) {
+        );
+        // Now, and not on each of the ways out.
+        drop(entry);
+        match said {
             Ok((change, steps, waits)) => {
                 self.keep(change, steps, waits)?;
                 Ok(())

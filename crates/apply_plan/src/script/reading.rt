@@ -13,7 +13,7 @@ use crate::bytes::MAX_BYTES;
 use crate::script::entries::Entries;
 use crate::script::script_error::ScriptError;
 use crate::script::script_slots::ScriptSlots;
-use apply_json::{JsonFault, Listed, Scratch, read_slots};
+use apply_json::{Listed, Scratch, read_slots};
 use apply_model::{Plan, Script};
 use std::alloc::Global;
 
@@ -64,8 +64,6 @@ fn read_entries<'a>(
     let mut slots = ScriptSlots::new(alloc, plan)?;
     match read_slots(alloc, scratch, bytes, MAX_BYTES, &mut slots) {
         Ok(()) => slots.entries(),
-        Err(JsonFault::TooLarge) => Err(ScriptError::TooLarge),
-        Err(JsonFault::NotJson) => Err(ScriptError::NotJson),
-        Err(JsonFault::Memory) => Err(ScriptError::Memory),
+        Err(fault) => Err(ScriptError::of_json(fault)),
     }
 }

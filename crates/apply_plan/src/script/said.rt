@@ -28,7 +28,7 @@ pub fn said_by_entry<'a>(
     alloc: Global,
     number: u32,
     earlier: usize,
-    entry: Option<TreeEntry<'a>>,
+    entry: &Option<TreeEntry<'a>>,
     plan: &Plan,
     numbers: &ChangeNumbers<'a>,
     said: &[Option<StepOutcomes>],
@@ -37,7 +37,7 @@ pub fn said_by_entry<'a>(
     requires numbers { (id : _) → number_of numbers.now id
         ≡ option_map (λ p. p.0) (find (λ p. is_of id p.1) (enumerate_from 0 plan.now.changes)) }
     requires said { length said.now ≡ length plan.now.changes }
-    ensures defined { (d : Data) → option_map entry_view entry.entry ≡ entry_of d → Gives ScriptError.Memory said_view result
+    ensures defined { (d : Data) → option_map entry_view entry.now ≡ entry_of d → Gives ScriptError.Memory said_view result
         (entry_beside plan.now.changes said.now earlier number d) }
     ensures within { IfOk result (λ entry. entry.0 < length said.now) }
     ensures placed { IfOk result (λ entry. ArePlaced (length said.now) entry.1) }

@@ -2,8 +2,10 @@
 
 ghost use Rattle.std.specs.Prelude.{◌≡◌};
 ghost use Rattle.apply_plan.specs.declared.script.script_error.ScriptError.TheVariants.{Memory};
+ghost use Rattle.apply_plan.specs.NoTree.{script_refusal};
 
 use crate::script::named::Named;
+use apply_json::JsonFault;
 use std::alloc::{AllocError, AllocFailed};
 use std::error::Error;
 use std::fmt;
@@ -62,6 +64,17 @@ pub enum ScriptError {
 }
 
 impl ScriptError {
+    /// Why bytes are no script that gave no tree.
+    pub fn of_json(fault: JsonFault) -> ScriptError
+        ensures { result ≡ script_refusal fault }
+    {
+        match fault {
+            JsonFault::TooLarge => ScriptError::TooLarge,
+            JsonFault::NotJson => ScriptError::NotJson,
+            JsonFault::Memory => ScriptError::Memory,
+        }
+    }
+
     /// What of the script it names.
     fn named(self) -> Named {
         match self {

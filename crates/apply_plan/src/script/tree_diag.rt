@@ -8,7 +8,7 @@ ghost use Rattle.apply_json.specs.Tokens.{IsNoValue};
 ghost use Rattle.apply_plan.specs.Script.Entry.{is_kept};
 ghost use Rattle.apply_plan.specs.Script.Members.{HoldsDiag, diag_held, diag_member};
 
-use crate::both::{both, both_made};
+use crate::both_made::both_made;
 use crate::script::diag_slots::DiagSlots;
 use apply_json::{ReadFault, Reader, Scalar, read_object};
 use apply_model::{Diag, Text};
@@ -94,9 +94,9 @@ impl<'a> TreeDiag<'a> {
     pub fn of(slots: DiagSlots<'a>) -> Option<TreeDiag<'a>>
         ensures { result ≡ diag_held slots.entry }
     {
-        let texts = both(slots.summary.text(), slots.detail.text_or(""));
-        let kept = both(slots.range, slots.snippet);
-        let ((summary, detail), (range, snippet)) = both(texts, kept)?;
+        let texts = slots.summary.text().zip(slots.detail.text_or(""));
+        let kept = slots.range.zip(slots.snippet);
+        let ((summary, detail), (range, snippet)) = texts.zip(kept)?;
         Some(TreeDiag {
             summary,
             detail,

@@ -3,12 +3,12 @@
 ghost use Rattle.std.specs.Prelude.{◌≡◌, IfOk, option_map};
 ghost use Rattle.std.specs.Option.{option_copied};
 ghost use Rattle.apply_json.specs.Seen.{scalar_view};
-ghost use Rattle.apply_plan.specs.Script.Entry.{ending_by, ending_from, says_nothing};
+ghost use Rattle.apply_plan.specs.Script.Entry.{ending_from, says_nothing};
 ghost use Rattle.apply_plan.specs.Script.Members.{ending_held};
 ghost use Rattle.apply_model.specs.Script.Outcome.{is_failed, is_warned};
 ghost use Rattle.apply_plan.specs.Script.TreeView.{ending_view, failure_view};
 
-use crate::both::both_made;
+use crate::both_made::both_made;
 use crate::script::tree_diag::TreeDiag;
 use crate::script::tree_failure::TreeFailure;
 use apply_json::{Scalar, non_empty};
@@ -21,12 +21,7 @@ pub enum TreeEnding<'a> {
         id: Option<&'a str>,
         warning: Option<TreeDiag<'a>>,
     },
-    Failed {
-        diag: TreeDiag<'a>,
-    },
-    Warned {
-        diag: TreeDiag<'a>,
-    },
+    Failed(TreeFailure<'a>),
 }
 
 // Written out, so that values in which one stands are dropped by a call.
@@ -34,8 +29,7 @@ impl<'a> Drop for TreeEnding<'a> {
     fn drop(self) {
         match self {
             TreeEnding::Done { id: _, warning: _ } => {}
-            TreeEnding::Failed { diag: _ } => {}
-            TreeEnding::Warned { diag: _ } => {}
+            TreeEnding::Failed(_) => {}
         }
     }
 }
@@ -49,40 +43,13 @@ impl<'a> TreeEnding<'a> {
     ) -> Option<TreeEnding<'a>>
         ensures { option_map ending_view result ≡ ending_held (scalar_view id.entry) warning.entry failed.entry }
     {
-        // Not joined by `both`: a diagnostic is large, and to move it once more would be felt in lists of millions of steps.
-        let id = id.text_or("")?;
-        TreeEnding::of(non_empty(id), warning?, failed?)
-    }
-
-    /// The ending that the members give. `None` where a step whose provider fails has an id or a warning.
-    fn of(
-        id: Option<&'a str>,
-        warning: Option<TreeDiag<'a>>,
-        failed: Option<TreeFailure<'a>>,
-    ) -> Option<TreeEnding<'a>>
-        ensures { option_map ending_view result ≡ ending_from (option_copied id.entry) warning.entry
-            (option_map failure_view failed.entry) }
-    {
-        match failed {
-            None => Some(TreeEnding::Done { id, warning }),
-            Some(failure) => {
-                if id.is_some() || warning.is_some() {
-                    return None;
-                }
-                Some(TreeEnding::by(failure))
-            }
-        }
-    }
-
-    /// The ending of a step whose provider fails.
-    fn by(failure: TreeFailure<'a>) -> TreeEnding<'a>
-        ensures { ending_view result ≡ ending_by (failure_view failure.entry) }
-    {
-        let diag = failure.diag;
-        if failure.only_warns {
-            TreeEnding::Warned { diag }
-        } else {
-            TreeEnding::Failed { diag }
+        match (id.text_or(""), warning, failed) {
+            (Some(id), Some(warning), Some(None)) => Some(TreeEnding::Done {
+                id: non_empty(id),
+                warning,
+            }),
+            (Some(""), Some(None), Some(Some(failure))) => Some(TreeEnding::Failed(failure)),
+            _ => None,
         }
     }
 
@@ -91,8 +58,8 @@ impl<'a> TreeEnding<'a> {
         ensures { result ≡ is_failed (ending_view self.now) }
     {
         match self {
-            TreeEnding::Failed { .. } => true,
-            TreeEnding::Done { .. } | TreeEnding::Warned { .. } => false,
+            TreeEnding::Failed(failure) => !failure.only_warns,
+            TreeEnding::Done { .. } => false,
         }
     }
 
@@ -101,8 +68,8 @@ impl<'a> TreeEnding<'a> {
         ensures { result ≡ is_warned (ending_view self.now) }
     {
         match self {
-            TreeEnding::Warned { .. } => true,
-            TreeEnding::Done { .. } | TreeEnding::Failed { .. } => false,
+            TreeEnding::Failed(failure) => failure.only_warns,
+            TreeEnding::Done { .. } => false,
         }
     }
 
@@ -112,7 +79,7 @@ impl<'a> TreeEnding<'a> {
     {
         match self {
             TreeEnding::Done { id, warning } => id.is_none() && warning.is_none(),
-            TreeEnding::Failed { .. } | TreeEnding::Warned { .. } => false,
+            TreeEnding::Failed(_) => false,
         }
     }
 
@@ -127,14 +94,7 @@ impl<'a> TreeEnding<'a> {
                 let (id, warning) = both_made(id, warning)?;
                 Ok(Ending::Done { id, warning })
             }
-            TreeEnding::Failed { diag } => match diag.copied(alloc) {
-                Ok(diag) => Ok(Ending::Failed { diag }),
-                Err(refused) => Err(refused),
-            },
-            TreeEnding::Warned { diag } => match diag.copied(alloc) {
-                Ok(diag) => Ok(Ending::Warned { diag }),
-                Err(refused) => Err(refused),
-            },
+            TreeEnding::Failed(failure) => failure.copied(alloc),
         }
     }
 }

@@ -11,7 +11,6 @@ ghost use Rattle.apply_plan.specs.Script.Limit.{exceeds};
 ghost use Rattle.apply_plan.specs.Script.Refusals.{fault_of_steps, misplaces_provisioners, passes, warns_not_a_read};
 ghost use Rattle.apply_plan.specs.Script.TreeView.{entry_view, step_view, waits_within};
 
-use crate::both::both;
 use crate::script::entry_slots::EntrySlots;
 use crate::script::limit::Limit;
 use crate::script::script_error::ScriptError;
@@ -42,18 +41,16 @@ impl<'a> TreeEntry<'a> {
         ensures err { result ≡ Err ReadFault.NotJson → IsNoValue depth reader.old }
     {
         let mut slots = EntrySlots::new();
-        match read_object(alloc, reader, depth, &mut slots) {
-            Ok(_) => Ok(TreeEntry::of(slots)),
-            Err(fault) => Err(fault),
-        }
+        let read = read_object(alloc, reader, depth, &mut slots);
+        read.and(Ok(TreeEntry::of(slots)))
     }
 
     /// The entry that the members are. `None` where one of them breaks its rule.
     fn of(slots: EntrySlots<'a>) -> Option<TreeEntry<'a>>
         ensures { option_map entry_view result ≡ entry_held slots.entry }
     {
-        let texts = both(slots.address.text(), slots.deposed.text_or(""));
-        let ((address, deposed), steps) = both(texts, slots.steps)?;
+        let texts = slots.address.text().zip(slots.deposed.text_or(""));
+        let ((address, deposed), steps) = texts.zip(slots.steps)?;
         Some(TreeEntry {
             address,
             deposed: non_empty(deposed),

@@ -5,16 +5,16 @@ ghost use Rattle.serde_json.specs.Data.{Data};
 ghost use Rattle.apply_json.specs.Keeping.{IsKeptRead};
 ghost use Rattle.apply_json.specs.Seen.{members_in, scalar_view, seen};
 ghost use Rattle.apply_json.specs.Tokens.{IsNoValue};
-ghost use Rattle.apply_plan.specs.Script.Entry.{is_kept};
+ghost use Rattle.apply_plan.specs.Script.Entry.{ending_by, is_kept};
 ghost use Rattle.apply_plan.specs.Script.Members.{HoldsDiag, failure_held, failure_member};
 ghost use Rattle.apply_plan.specs.Script.TreeView.{failure_view};
 
-use crate::both::both;
 use crate::script::diag_slots::DiagSlots;
 use crate::script::flag_of_word::flag_of_word;
 use crate::script::tree_diag::TreeDiag;
 use apply_json::{ReadFault, Reader, Scalar, read_object};
-use std::alloc::Global;
+use apply_model::Ending;
+use std::alloc::{AllocError, Global};
 
 /// Why a step's provider fails, and whether that only warns.
 #[derive(Drop)]
@@ -68,7 +68,20 @@ impl<'a> TreeFailure<'a> {
     {
         let severity = slots.severity;
         let only_warns = flag_of_word(severity, "warning", "error");
-        let (diag, only_warns) = both(TreeDiag::of(slots), only_warns)?;
+        let (diag, only_warns) = TreeDiag::of(slots).zip(only_warns)?;
         Some(TreeFailure { diag, only_warns })
+    }
+    /// The ending of its step, with copies of its texts.
+    pub fn copied(&self, alloc: Global) -> Result<Ending, AllocError>
+        ensures { IfOk result (λ copy. copy ≡ ending_by (failure_view self.now)) }
+    {
+        match self.diag.copied(alloc) {
+            Ok(diag) => if self.only_warns {
+                Ok(Ending::Warned { diag })
+            } else {
+                Ok(Ending::Failed { diag })
+            },
+            Err(refused) => Err(refused),
+        }
     }
 }

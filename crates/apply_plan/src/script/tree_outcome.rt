@@ -9,7 +9,7 @@ ghost use Rattle.apply_plan.specs.Script.Limit.{exceeds};
 ghost use Rattle.apply_plan.specs.Script.Refusals.{has_provisioners, only_warns};
 ghost use Rattle.apply_plan.specs.Script.TreeView.{ending_view, outcome_view, provisioner_view};
 
-use crate::both::both_made;
+use crate::both_made::both_made;
 use crate::script::limit::Limit;
 use crate::script::tree_ending::TreeEnding;
 use crate::script::tree_provisioner::TreeProvisioner;

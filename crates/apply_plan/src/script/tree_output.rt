@@ -6,7 +6,6 @@ ghost use Rattle.apply_plan.specs.Script.Entry.{OutputItem, output_from, timed};
 ghost use Rattle.apply_plan.specs.Script.Members.{output_held};
 ghost use Rattle.apply_plan.specs.Script.OutputView.{output_view};
 
-use crate::both::both;
 use crate::script::list_item::ListItem;
 use crate::script::number_or_none::number_or_none;
 use crate::script::output_slots::OutputSlots;
@@ -47,7 +46,7 @@ impl<'a> TreeOutput<'a> {
     fn of(slots: &OutputSlots<'a>) -> Option<TreeOutput<'a>>
         ensures { option_map output_view result ≡ output_held slots.now }
     {
-        let (text, after) = both(slots.text.text(), number_or_none(slots.after))?;
+        let (text, after) = slots.text.text().zip(number_or_none(slots.after))?;
         Some(TreeOutput { after, text })
     }
 

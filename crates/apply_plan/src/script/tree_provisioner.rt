@@ -5,7 +5,7 @@ ghost use Rattle.apply_model.specs.Script.Outcome.{are_in_time};
 ghost use Rattle.apply_plan.specs.Script.Entry.{timed};
 ghost use Rattle.apply_plan.specs.Script.OutputView.{outputs_view};
 
-use crate::both::{both, both_made};
+use crate::both_made::both_made;
 use crate::filled_text::filled_text;
 use crate::script::flag_of_word::flag_of_word;
 use crate::script::list_item::ListItem;
@@ -47,10 +47,8 @@ impl<'a> ListItem<'a> for TreeProvisioner<'a> {
         depth: usize,
     ) -> Result<Option<TreeProvisioner<'a>>, ReadFault> {
         let mut slots = ProvisionerSlots::new(alloc);
-        match read_object(alloc, reader, depth, &mut slots) {
-            Ok(_) => Ok(TreeProvisioner::of(slots)),
-            Err(fault) => Err(fault),
-        }
+        let read = read_object(alloc, reader, depth, &mut slots);
+        read.and(Ok(TreeProvisioner::of(slots)))
     }
 }
 
@@ -64,10 +62,10 @@ impl<'a> TreeProvisioner<'a> {
     fn of(slots: ProvisionerSlots<'a>) -> Option<TreeProvisioner<'a>>
         ensures { option_map provisioner_view result ≡ provisioner_held slots.entry }
     {
-        let named = both(filled_text(slots.name), slots.seconds.whole());
-        let kept = both(slots.failed, slots.output);
+        let named = filled_text(slots.name).zip(slots.seconds.whole());
+        let kept = slots.failed.zip(slots.output);
         let may_fail = flag_of_word(slots.on_failure, "continue", "fail");
-        let (((name, seconds), (failed, output)), may_fail) = both(both(named, kept), may_fail)?;
+        let (((name, seconds), (failed, output)), may_fail) = named.zip(kept).zip(may_fail)?;
         if !are_in_time(&output, seconds) {
             return None;
         }

@@ -44,10 +44,8 @@ impl<'a> ListItem<'a> for TreeStep<'a> {
         depth: usize,
     ) -> Result<Option<TreeStep<'a>>, ReadFault> {
         let mut slots = StepSlots::new(alloc);
-        match read_object(alloc, reader, depth, &mut slots) {
-            Ok(_) => Ok(TreeStep::of(slots)),
-            Err(fault) => Err(fault),
-        }
+        let read = read_object(alloc, reader, depth, &mut slots);
+        read.and(Ok(TreeStep::of(slots)))
     }
 }
 
@@ -122,7 +120,7 @@ fn outcome_of<'a>(
         ≡ outcome_by skipped (scalar_view seconds.entry) (option_map ending_view ending.entry)
         (option_map (λ found. map provisioner_view found.items) provisioners.entry) }
 {
-    // Not joined by `both`, since an ending is large.
+    // Not joined by `zip`, since an ending is large.
     let Some(provisioners) = provisioners else {
         return None;
     };

@@ -6,7 +6,6 @@ ghost use Rattle.apply_plan.specs.Script.Members.{wait_held};
 ghost use Rattle.apply_plan.specs.Script.TreeView.{wait_view};
 ghost use Rattle.apply_plan.specs.Script.WaitedStep.{number_waited};
 
-use crate::both::both;
 use crate::script::list_item::ListItem;
 use crate::script::number_or_none::number_or_none;
 use crate::script::wait_slots::WaitSlots;
@@ -52,8 +51,8 @@ impl<'a> TreeWait<'a> {
     fn of(slots: &WaitSlots<'a>) -> Option<TreeWait<'a>>
         ensures { option_map wait_view result ≡ wait_held slots.now }
     {
-        let texts = both(slots.address.text(), slots.deposed.text_or(""));
-        let ((address, deposed), step) = both(texts, number_or_none(slots.step))?;
+        let texts = slots.address.text().zip(slots.deposed.text_or(""));
+        let ((address, deposed), step) = texts.zip(number_or_none(slots.step))?;
         Some(TreeWait {
             address,
             deposed: non_empty(deposed),

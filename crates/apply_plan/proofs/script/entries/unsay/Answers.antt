@@ -1,9 +1,21 @@
-use Rattle.std.proofs.Common.{[], ap, subst, ◌∙◌, arith}
-use Rattle.std.proofs.lemmas.List.{nil_from_length}
+use Rattle.std.proofs.Common.{[], None, ap, refl, subst, ◌∙◌, arith}
+use Rattle.std.proofs.lemmas.List.{length-set, nil_from_length}
 use Rattle.apply_plan.specs.Script.EntriesView.{AreCovered}
 use Rattle.apply_plan.specs.Script.OutcomeMap.{by_number}
-use Rattle.apply_plan.proofs.Scripts.Forgotten.{none_left}
+use Rattle.apply_plan.proofs.Scripts.Forgotten.{last_within, none_left, without_last}
 use Rattle.apply_plan.proofs.script.entries.unsay.Goals as goal
+
+pub loop-change-init : goal.loop-change-init
+loop-change-init c = (c.requires, refl)
+
+pub bounds-said-change : goal.bounds-said-change
+bounds-said-change c = last_within c.loop-change.said c.loop-change.kept.items c.pop.new.self.items (c.in-Some.change, c.in-Some._steps) c.in-Some.ensures.items c.loop-change.invariant.0
+
+pub loop-change-preserved-in-Some : goal.loop-change-preserved-in-Some
+loop-change-preserved-in-Some c = (
+  without_last c.loop-change.said c.loop-change.kept.items c.pop.new.self.items (c.in-Some.change, c.in-Some._steps) c.in-Some.ensures.items c.loop-change.invariant.0,
+  length-set c.loop-change.said c.in-Some.change None ∙ c.loop-change.invariant.1,
+)
 
 pub returns-clause-said : goal.returns-clause-said
 returns-clause-said c =

@@ -25,23 +25,23 @@ within c =
     (c.in-Some-get.ensures ∙ c.requires.numbers (record { address = c.in-Some.entry.address; deposed = c.in-Some.entry.deposed }))
 
 -- the reader has found the entry and its change
-found : (c : After-change-known) (d : Data) → option_map entry_view c.args.entry ≡ entry_of d → IsFound c.args.plan.now.changes c.args.said.now d c.in-Some.entry c.in-Some-get.change c.change-known.result.now c.index-said-change.result
+found : (c : After-change-known) (d : Data) → option_map entry_view c.args.entry.now ≡ entry_of d → IsFound c.args.plan.now.changes c.args.said.now d c.in-Some.entry c.in-Some-get.change c.change-known.result.now c.index-said-change.result
 found c d is =
     let known = c.in-Some-get.ensures ∙ c.requires.numbers (record { address = c.in-Some.entry.address; deposed = c.in-Some.entry.deposed }) in
     let below = is_numbered c.args.plan.now.changes (entry_view c.in-Some.entry) c.in-Some-get.change known in
     record {
-      entry_is = entry_found d c.args.entry c.in-Some.entry is c.in-Some.is;
+      entry_is = entry_found d c.args.entry.now c.in-Some.entry is c.in-Some.is;
       change_is = change_numbered c.args.plan.now.changes (entry_view c.in-Some.entry) c.in-Some-get.change c.change-known.result.now known c.change-known.ensures;
       below = omega (arith, below, c.requires.said);
       there_is = c.index-said-change.is;
     }
 
 pub returns-in_default-clause-defined : goal.returns-in_default-clause-defined
-returns-in_default-clause-defined c = λ d is memory. malformed c.args.plan.now.changes c.args.said.now c.args.earlier c.args.number d c.args.entry is c.in_default.is
+returns-in_default-clause-defined c = λ d is memory. malformed c.args.plan.now.changes c.args.said.now c.args.earlier c.args.number d c.args.entry.now is c.in_default.is
 
 pub returns-in_default-get-clause-defined : goal.returns-in_default-get-clause-defined
 returns-in_default-get-clause-defined c = λ d is memory.
-    unknown c.args.plan.now.changes c.args.said.now c.args.earlier c.args.number d c.args.entry c.in-Some.entry is c.in-Some.is
+    unknown c.args.plan.now.changes c.args.said.now c.args.earlier c.args.number d c.args.entry.now c.in-Some.entry is c.in-Some.is
     (not_numbered _ (c.in_default-get.ensures ∙ c.requires.numbers (record { address = c.in-Some.entry.address; deposed = c.in-Some.entry.deposed })))
 
 pub bounds-said-change : goal.bounds-said-change
@@ -57,7 +57,7 @@ returns-then-is_some-clause-defined c = λ d is memory.
     let below = within (goal.at.returns-then-is_some-clause-defined c).In-Some-get in
     repeats c.args.plan.now.changes c.args.said.now c.args.earlier c.args.number d c.in-Some.entry c.in-Some-get.change some.0 c.index-said-change.result
     (record {
-      entry_is = entry_found d c.args.entry c.in-Some.entry is c.in-Some.is;
+      entry_is = entry_found d c.args.entry.now c.in-Some.entry is c.in-Some.is;
       change_is = some.1;
       below = omega (arith, below, c.requires.said);
       there_is = c.index-said-change.is;
@@ -65,13 +65,13 @@ returns-then-is_some-clause-defined c = λ d is memory.
     (sym c.if-is_some.ensures)
 
 -- what is answered, by the fault of the entry
-answered_by : (c : After-change-known) (d : Data) → option_map entry_view c.args.entry ≡ entry_of d → (fault : Option ScriptError) → is_some c.index-said-change.result ≡ false → fault_of_entry c.args.number c.args.plan.now.changes c.args.earlier c.change-known.result.now (entry_view c.in-Some.entry).steps ≡ fault
+answered_by : (c : After-change-known) (d : Data) → option_map entry_view c.args.entry.now ≡ entry_of d → (fault : Option ScriptError) → is_some c.index-said-change.result ≡ false → fault_of_entry c.args.number c.args.plan.now.changes c.args.earlier c.change-known.result.now (entry_view c.in-Some.entry).steps ≡ fault
     → entry_beside c.args.plan.now.changes c.args.said.now c.args.earlier c.args.number d ≡ unless_refused fault (said_by c.args.plan.now.changes c.in-Some-get.change (entry_view c.in-Some.entry).steps)
 answered_by c d read fault none is =
     answered c.args.plan.now.changes c.args.said.now c.args.earlier c.args.number d c.in-Some.entry c.in-Some-get.change c.change-known.result.now c.index-said-change.result fault (found c d read) none is
 
 -- the same, where the items are not too many
-by_items : (c : After-change-known) (d : Data) → option_map entry_view c.args.entry ≡ entry_of d → is_some c.index-said-change.result ≡ false → None ≡ fault_of_steps c.args.number (is_some c.change-known.result.now.deposed) c.change-known.result.now.steps (map step_view c.in-Some.entry.steps.items)
+by_items : (c : After-change-known) (d : Data) → option_map entry_view c.args.entry.now ≡ entry_of d → is_some c.index-said-change.result ≡ false → None ≡ fault_of_steps c.args.number (is_some c.change-known.result.now.deposed) c.change-known.result.now.steps (map step_view c.in-Some.entry.steps.items)
     → (count : ℕ) → Some count ≡ waits_within (max_waits - c.args.earlier) c.in-Some.entry.steps.items
     → entry_beside c.args.plan.now.changes c.args.said.now c.args.earlier c.args.number d
     ≡ unless_refused (fault_of_names c.args.number c.args.plan.now.changes (map entry_step_view c.in-Some.entry.steps.items)) (said_by c.args.plan.now.changes c.in-Some-get.change (map entry_step_view c.in-Some.entry.steps.items))

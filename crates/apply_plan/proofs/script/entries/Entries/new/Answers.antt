@@ -1,7 +1,12 @@
 use Rattle.std.proofs.Common.{[], refl, ap, ◌∙◌}
 use Rattle.apply_plan.specs.Script.OutcomeMap.{by_number}
+use Rattle.apply_plan.proofs.Scripts.Found.{made}
 use Rattle.apply_plan.proofs.Scripts.Read.{holds_none}
 use Rattle.apply_plan.proofs.script.entries.Entries.new.Goals as goal
 
 pub returns : goal.returns
-returns c = (refl, holds_none _ c.len.ensures.few c.in_ok-numbers.ensures (c.in_ok-said.ensures ∙ ap (λ count. by_number count []) c.len.ensures.len) c.new-kept.ensures.items refl refl)
+returns c =
+    let both = c.in_ok-numbers.ensures in
+    let numbers = made _ c.of.result c.in_ok-numbers.numbers both.0 c.of.ensures in
+    let said = made _ c.nothing.result c.in_ok-numbers.said both.1 c.nothing.ensures in
+    (refl, holds_none _ c.len.ensures.few numbers (said ∙ ap (λ count. by_number count []) c.len.ensures.len) c.new-kept.ensures.items refl refl)

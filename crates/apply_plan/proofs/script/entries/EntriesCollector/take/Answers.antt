@@ -21,8 +21,8 @@ overflow_cast-number c =
     let few = few_entries self.plan.now.changes self.said.items self.waits (length self.kept.items) holds.made holds.said in
     omega (arith, few, holds.few_changes, c.len-number.ensures)
 
-pub said_by_entry-requires-clause-said : goal.said_by_entry-requires-clause-said
-said_by_entry-requires-clause-said c = rw c.deref.ensures.value (long c.args.self.now c.requires.1 c.requires.2.1)
+pub said_by_entry-said-requires-clause-said : goal.said_by_entry-said-requires-clause-said
+said_by_entry-said-requires-clause-said c = rw c.deref.ensures.value (long c.args.self.now c.requires.1 c.requires.2.1)
 
 pub returns-in_ok-keep-in-Ok-clause-ok : goal.returns-in_ok-keep-in-Ok-clause-ok
 returns-in_ok-keep-in-Ok-clause-ok c =

@@ -1,0 +1,15 @@
+use Rattle.std.proofs.Common.{ap, ap₂, map, ◌∙◌}
+use Rattle.apply_model.specs.declared.script.ending.Ending.{Ending}
+use Rattle.apply_model.specs.declared.script.outcome.Outcome.{Outcome}
+use Rattle.apply_model.specs.declared.script.provisioners.Provisioners.{Provisioners}
+use Rattle.apply_plan.specs.Script.TreeView.{provisioner_view}
+use Rattle.apply_plan.proofs.Scripts.Found.{made}
+use Rattle.apply_plan.proofs.script.tree_outcome.TreeOutcome.copied.Goals as goal
+
+pub returns : goal.returns
+returns c =
+    let both = c.in_ok-provisioners.ensures in
+    let outcome : Provisioners → Ending → Outcome = λ provisioners result. record { seconds = c.args.self.now.seconds; provisioners = provisioners; result = result; after = c.args.after } in
+    ap₂ outcome
+    (made _ c.copied_provisioners-provisioners.result c.in_ok-provisioners.provisioners both.0 c.copied_provisioners-provisioners.ensures ∙ ap (map provisioner_view) c.deref.ensures.value)
+    (made _ c.copied.result c.in_ok-provisioners.result both.1 c.copied.ensures)
