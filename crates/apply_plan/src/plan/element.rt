@@ -57,7 +57,9 @@ impl<'a> Element<'a> {
         let names = filled_text(slots.kind_name).zip(filled_text(slots.name));
         let places = slots.module_address.text_or("").zip(index_key(slots.index));
         let others = slots.deposed.text_or("").zip(slots.change);
-        let all = kinds.zip(names).zip(places.zip(others))?;
+        let Some(all) = kinds.zip(names).zip(places.zip(others)) else {
+            return None;
+        };
         let (((address, mode), (kind_name, name)), ((module_address, key), (deposed, change))) =
             all;
         Some(Element {

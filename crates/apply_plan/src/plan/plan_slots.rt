@@ -49,7 +49,9 @@ impl<'a> PlanSlots<'a> {
         ensures { option_copied result ≡ version_held self.now }
     {
         let version = self.terraform_version.text_or(UNKNOWN_VERSION);
-        let (format, version) = self.format_version.text().zip(version)?;
+        let Some((format, version)) = self.format_version.text().zip(version) else {
+            return None;
+        };
         match self.resource_changes {
             Listed::Absent | Listed::List => if is_format_1(format) {
                 Some(version)

@@ -48,7 +48,9 @@ impl<'a> PlannedChange<'a> {
     fn of(slots: &ChangeSlots<'a>) -> Option<PlannedChange<'a>>
         ensures { option_map planned_change_view result ≡ change_held slots.now }
     {
-        let action = slots.actions?;
+        let Some(action) = slots.actions else {
+            return None;
+        };
         let prior_id = if slots.hides_id { None } else { slots.id };
         Some(PlannedChange { action, prior_id })
     }

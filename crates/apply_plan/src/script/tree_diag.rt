@@ -96,7 +96,9 @@ impl<'a> TreeDiag<'a> {
     {
         let texts = slots.summary.text().zip(slots.detail.text_or(""));
         let kept = slots.range.zip(slots.snippet);
-        let ((summary, detail), (range, snippet)) = texts.zip(kept)?;
+        let Some(((summary, detail), (range, snippet))) = texts.zip(kept) else {
+            return None;
+        };
         Some(TreeDiag {
             summary,
             detail,
@@ -117,13 +119,15 @@ impl<'a> TreeDiag<'a> {
             copied_text(alloc, &self.range),
             copied_text(alloc, &self.snippet),
         );
-        let ((summary, detail), (range, snippet)) = both_made(texts, kept)?;
-        Ok(Diag {
-            summary,
-            detail,
-            range,
-            snippet,
-        })
+        match both_made(texts, kept) {
+            Ok(((summary, detail), (range, snippet))) => Ok(Diag {
+                summary,
+                detail,
+                range,
+                snippet,
+            }),
+            Err(refused) => Err(refused),
+        }
     }
 
     /// The same of a diagnostic that there may be.

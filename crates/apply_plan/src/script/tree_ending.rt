@@ -91,8 +91,10 @@ impl<'a> TreeEnding<'a> {
             TreeEnding::Done { id, warning } => {
                 let id = Text::of_option(alloc, *id);
                 let warning = TreeDiag::copied_option(alloc, warning);
-                let (id, warning) = both_made(id, warning)?;
-                Ok(Ending::Done { id, warning })
+                match both_made(id, warning) {
+                    Ok((id, warning)) => Ok(Ending::Done { id, warning }),
+                    Err(refused) => Err(refused),
+                }
             }
             TreeEnding::Failed(failure) => failure.copied(alloc),
         }

@@ -50,7 +50,9 @@ impl<'a> TreeEntry<'a> {
         ensures { option_map entry_view result ≡ entry_held slots.entry }
     {
         let texts = slots.address.text().zip(slots.deposed.text_or(""));
-        let ((address, deposed), steps) = texts.zip(slots.steps)?;
+        let Some(((address, deposed), steps)) = texts.zip(slots.steps) else {
+            return None;
+        };
         Some(TreeEntry {
             address,
             deposed: non_empty(deposed),

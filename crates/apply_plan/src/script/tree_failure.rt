@@ -68,7 +68,9 @@ impl<'a> TreeFailure<'a> {
     {
         let severity = slots.severity;
         let only_warns = flag_of_word(severity, "warning", "error");
-        let (diag, only_warns) = TreeDiag::of(slots).zip(only_warns)?;
+        let Some((diag, only_warns)) = TreeDiag::of(slots).zip(only_warns) else {
+            return None;
+        };
         Some(TreeFailure { diag, only_warns })
     }
     /// The ending of its step, with copies of its texts.

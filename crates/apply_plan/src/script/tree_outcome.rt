@@ -110,13 +110,15 @@ impl<'a> TreeOutcome<'a> {
         ensures { IfOk result (λ copy. copy ≡ record (outcome_view self.now) { after = after }) }
     {
         let provisioners = copied_provisioners(alloc, &self.provisioners);
-        let (provisioners, result) = both_made(provisioners, self.result.copied(alloc))?;
-        Ok(Outcome {
-            seconds: self.seconds as u32,
-            provisioners,
-            result,
-            after,
-        })
+        match both_made(provisioners, self.result.copied(alloc)) {
+            Ok((provisioners, result)) => Ok(Outcome {
+                seconds: self.seconds as u32,
+                provisioners,
+                result,
+                after,
+            }),
+            Err(refused) => Err(refused),
+        }
     }
 }
 

@@ -46,7 +46,9 @@ impl<'a> TreeOutput<'a> {
     fn of(slots: &OutputSlots<'a>) -> Option<TreeOutput<'a>>
         ensures { option_map output_view result ≡ output_held slots.now }
     {
-        let (text, after) = slots.text.text().zip(number_or_none(slots.after))?;
+        let Some((text, after)) = slots.text.text().zip(number_or_none(slots.after)) else {
+            return None;
+        };
         Some(TreeOutput { after, text })
     }
 

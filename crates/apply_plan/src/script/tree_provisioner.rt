@@ -65,7 +65,10 @@ impl<'a> TreeProvisioner<'a> {
         let named = filled_text(slots.name).zip(slots.seconds.whole());
         let kept = slots.failed.zip(slots.output);
         let may_fail = flag_of_word(slots.on_failure, "continue", "fail");
-        let (((name, seconds), (failed, output)), may_fail) = named.zip(kept).zip(may_fail)?;
+        let Some((((name, seconds), (failed, output)), may_fail)) = named.zip(kept).zip(may_fail)
+        else {
+            return None;
+        };
         if !are_in_time(&output, seconds) {
             return None;
         }
@@ -94,13 +97,15 @@ impl<'a> TreeProvisioner<'a> {
             copied_outputs(alloc, &self.output, self.seconds),
             TreeDiag::copied_option(alloc, &self.failed),
         );
-        let (name, (output, failed)) = both_made(Text::new(alloc, self.name), told)?;
-        Ok(Provisioner {
-            name,
-            seconds: self.seconds as u32,
-            output,
-            failed,
-            may_fail: self.may_fail,
-        })
+        match both_made(Text::new(alloc, self.name), told) {
+            Ok((name, (output, failed))) => Ok(Provisioner {
+                name,
+                seconds: self.seconds as u32,
+                output,
+                failed,
+                may_fail: self.may_fail,
+            }),
+            Err(refused) => Err(refused),
+        }
     }
 }

@@ -52,7 +52,9 @@ impl<'a> TreeWait<'a> {
         ensures { option_map wait_view result ≡ wait_held slots.now }
     {
         let texts = slots.address.text().zip(slots.deposed.text_or(""));
-        let ((address, deposed), step) = texts.zip(number_or_none(slots.step))?;
+        let Some(((address, deposed), step)) = texts.zip(number_or_none(slots.step)) else {
+            return None;
+        };
         Some(TreeWait {
             address,
             deposed: non_empty(deposed),

@@ -6,10 +6,10 @@ use Rattle.apply_plan.specs.Script.TreeView.{provisioner_view}
 use Rattle.apply_plan.proofs.Scripts.Found.{made}
 use Rattle.apply_plan.proofs.script.tree_outcome.TreeOutcome.copied.Goals as goal
 
-pub returns : goal.returns
-returns c =
-    let both = c.in_ok-provisioners.ensures in
+pub returns-in-Ok : goal.returns-in-Ok
+returns-in-Ok c =
+    let both = c.in-Ok.ensures in
     let outcome : Provisioners → Ending → Outcome = λ provisioners result. record { seconds = c.args.self.now.seconds; provisioners = provisioners; result = result; after = c.args.after } in
     ap₂ outcome
-    (made _ c.copied_provisioners-provisioners.result c.in_ok-provisioners.provisioners both.0 c.copied_provisioners-provisioners.ensures ∙ ap (map provisioner_view) c.deref.ensures.value)
-    (made _ c.copied.result c.in_ok-provisioners.result both.1 c.copied.ensures)
+    (made _ c.copied_provisioners-provisioners.result c.in-Ok.provisioners both.0 c.copied_provisioners-provisioners.ensures ∙ ap (map provisioner_view) c.deref.ensures.value)
+    (made _ c.copied.result c.in-Ok.result both.1 c.copied.ensures)
