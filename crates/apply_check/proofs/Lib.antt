@@ -21,6 +21,7 @@ pub mod Progress
 pub mod Putting
 pub mod Saying
 pub mod Slots
+pub mod Statuses
 pub mod Summaries
 pub mod Summing
 pub mod WholeStream

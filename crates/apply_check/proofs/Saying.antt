@@ -1,5 +1,6 @@
 -- Words that were added, one behind another.
-use Rattle.std.proofs.Common.{◌∙◌, ℕ, [], ◌++◌, List, ap, append_assoc}
+use Rattle.std.proofs.Common.{◌≡◌, ◌∙◌, ℕ, [], ◌∷◌, ◌++◌, List, Option, ap, sym, append_assoc}
+use Rattle.std.specs.Io.KnownBytes.{Appends}
 use Rattle.std.specs.Prelude.{string_bytes}
 use Rattle.apply_check.specs.Sayings.{Says, SaysMore}
 use Rattle.apply_check.specs.declared.command.saying.Saying.{Saying}
@@ -13,3 +14,7 @@ says_then a b c v w first second whole =
 -- behind no words
 pub says_all : (a b : Saying) (w : List ℕ) → Says a [] → SaysMore a b w → Says b w
 says_all a b w none more whole = let all = more whole in all.1 ∙ ap (λ (bytes : List ℕ). bytes ++ w) (none all.0)
+
+-- words that are written, and a line feed
+pub written : (before after : Option (List ℕ)) (text said : List ℕ) → text ≡ said → Appends before after (text ++ 10 ∷ []) → Appends before after (said ++ 10 ∷ [])
+written before after text said is done = rw (sym is) done

@@ -1,5 +1,5 @@
 -- What the slots of a line hold behind one member more, whose name is known, or is none that they look for.
-use Rattle.std.proofs.Common.{◌≡◌, ℕ, List, true, false, codes, Option, option_map, refl, subst}
+use Rattle.std.proofs.Common.{◌≡◌, ℕ, List, true, false, codes, Option, option_map, Result, Ok, Err, refl, subst}
 use Rattle.std.specs.Str.{bytes_eq}
 use Rattle.serde_json.specs.Data.{Data, Members, put}
 use Rattle.serde_json.specs.Find.{get_member}
@@ -59,3 +59,11 @@ module _ (k q : List ℕ) (d : Data) (ms : Members) (here : bytes_eq k q ≡ tru
     changes = all_behind (AreChanges slots.changes) (codes "changes") k q d ms here changes;
     diagnostic = all_behind (IsDiagnostic slots.diagnostic) (codes "diagnostic") k q d ms here diagnostic;
   }
+
+-- ---- the fault that a read ends with, or does not
+
+pub no_fault : {T E R : Type 0} (done : T) (fault : E) → Ok done ≡ Err fault → R
+no_fault done fault same = absurd cc
+
+pub same_fault : {T U E : Type 0} (a b : E) → ◌≡◌ {A = Result T E} (Err a) (Err b) → ◌≡◌ {A = Result U E} (Err a) (Err b)
+same_fault a b same = cc

@@ -53,9 +53,14 @@ pub fn read_words(alloc: Global, words: &[String]) -> Result<Settings, Usage>
     ensures said { IfOk result (HaveSaid (map string_bytes words.now)) }
     ensures refused { IfErr result (WereRefused command_line (map string_bytes words.now)) }
 {
-    let command = command(alloc)?;
+    let Ok(command) = command(alloc) else {
+        return Err(Usage::Memory);
+    };
     match matches_of(alloc, command, words) {
-        Ok(matches) => Ok(settings_of(alloc, &matches)?),
+        Ok(matches) => match settings_of(alloc, &matches) {
+            Ok(settings) => Ok(settings),
+            Err(_) => Err(Usage::Memory),
+        },
         Err(usage) => Err(usage),
     }
 }

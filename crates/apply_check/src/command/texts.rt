@@ -90,7 +90,8 @@ fn say_open(words: &mut Saying, open: &[OpenEntry<'_>]) {
     if open.len() != 1 {
         words.count(open.len() as u64, " stand open: ");
     }
-    for (index, entry) in open.iter().take(MAX_OPEN).enumerate() {
+    let named = &open[..open.len().min(MAX_OPEN)];
+    for (index, entry) in named.iter().enumerate() {
         if index > 0 {
             words.text(", ");
         }

@@ -77,9 +77,13 @@ impl<'a> HookSlots<'a> {
     fn subject(&self) -> Result<Subject<'a>, Fault>
         ensures { mapped (λ s. (s.address.now, s.word.now)) result ≡ subject_held self.now }
     {
-        let address = self.resource.text(Path::Address, Path::Resource)?;
-        let word = text_at(Path::Action, self.action)?;
-        Ok(Subject { address, word })
+        match self.resource.text(Path::Address, Path::Resource) {
+            Ok(address) => match text_at(Path::Action, self.action) {
+                Ok(word) => Ok(Subject { address, word }),
+                Err(fault) => Err(fault),
+            },
+            Err(fault) => Err(fault),
+        }
     }
 
     /// The address alone.

@@ -135,7 +135,9 @@ impl Checker {
         if self.tally.is_beyond(action, stage) {
             return Err(Fault::NotPlanned);
         }
-        self.pending.set(alloc, address, standing)?;
+        let Ok(()) = self.pending.set(alloc, address, standing) else {
+            return Err(Fault::Memory);
+        };
         self.tally = self.tally.with_step(action, stage);
         Ok(())
     }
@@ -152,7 +154,9 @@ impl Checker {
             Ok(standing) => standing,
             Err(fault) => return Err(fault),
         };
-        self.pending.set(alloc, address, standing)?;
+        let Ok(()) = self.pending.set(alloc, address, standing) else {
+            return Err(Fault::Memory);
+        };
         self.tally = self.tally.with_line();
         Ok(())
     }
@@ -255,7 +259,9 @@ impl Checker {
         ensures { Continues self.old self.new (λ messages. behind messages 0 (diagnostic true (Some address.now))) result }
     {
         let standing = self.pending.at(address);
-        self.pending.set(alloc, address, explained(true, standing))?;
+        let Ok(()) = self.pending.set(alloc, address, explained(true, standing)) else {
+            return Err(Fault::Memory);
+        };
         let count = failure_count(standing.failures);
         self.tally = self.tally.with_error_at(count);
         Ok(())

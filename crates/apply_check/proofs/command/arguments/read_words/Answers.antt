@@ -4,13 +4,25 @@ use Rattle.apply_check.specs.CommandLine.{AreSaid, command_line}
 use Rattle.apply_check.proofs.Parsed.{line_is_free, line_is_simple}
 use Rattle.apply_check.proofs.command.arguments.read_words.Goals as goal
 
-pub returns-in_ok-settings_of-in-Ok-clause-said : goal.returns-in_ok-settings_of-in-Ok-clause-said
-returns-in_ok-settings_of-in-Ok-clause-said c =
-    let is = c.in-Ok.ensures.said command_line c.in_ok-command.ensures line_is_simple line_is_free in
+pub returns-in_default : goal.returns-in_default
+returns-in_default c = record { said = tt; refused = tt }
+
+pub returns-in-Ok-settings_of : goal.returns-in-Ok-settings_of
+returns-in-Ok-settings_of c =
+    let is = c.in-Ok-matches_of.ensures.said command_line c.in-Ok.ensures line_is_simple line_is_free in
     record {
-      taken = is.0;
-      said = subst (λ (rows : List Row). AreSaid rows c.in_ok-settings_of-in-Ok.field-0) is.1 c.in_ok-settings_of-in-Ok.ensures;
+      said = record {
+        taken = is.0;
+        said = subst (λ (rows : List Row). AreSaid rows c.in-Ok-settings_of.settings) is.1 c.in-Ok-settings_of.ensures;
+      };
+      refused = tt;
     }
 
-pub returns-in-Err-clause-refused : goal.returns-in-Err-clause-refused
-returns-in-Err-clause-refused c = c.in-Err.ensures.refused command_line c.in_ok-command.ensures line_is_free
+pub returns-in-Ok-matches_of : goal.returns-in-Ok-matches_of
+returns-in-Ok-matches_of c = record { said = tt; refused = tt }
+
+pub returns : goal.returns
+returns c = record {
+  said = tt;
+  refused = c.in-Err.ensures.refused command_line c.in-Ok.ensures line_is_free;
+}

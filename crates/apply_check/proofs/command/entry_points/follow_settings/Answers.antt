@@ -1,5 +1,9 @@
 -- A stream of the input or of a file, and a file that can't be opened.
-use Rattle.std.proofs.Common.{◌≡◌, Option, Some, None, inl, refl}
+use Rattle.std.proofs.Common.{◌≡◌, ℕ, List, Option, Some, None, ◌⊎◌, inl, inr, refl, ap, not, String, Global}
+use Rattle.std.proofs.KnownBytes.{Keeps-refl}
+use Rattle.apply_check.specs.CommandLine.{HaveSaid, WasNotChecked}
+use Rattle.apply_check.specs.declared.command.settings.Settings.{Settings}
+use Rattle.apply_check.proofs.Statuses.{refused, refused_by}
 use Rattle.apply_check.proofs.command.entry_points.follow_settings.Goals as goal
 
 -- what is named is there
@@ -7,32 +11,64 @@ named : {A R : Type 0} (found : Option A) (name : A) → found ≡ Some name →
 named None name is none = absurd cc
 named (Some other) name is none = absurd cc
 
-pub returns-in_default-clause-told : goal.returns-in_default-clause-told
-returns-in_default-clause-told g c = λ words said.
-    rw (c.with_answer.ensures)
-    (inl (record {
-      settings = c.args.settings.now;
-      said = said;
-      answer = c.check_input-checked.result.answer;
-      answered = refl;
-      bytes = g.R.Read.remaining c.args.input.now;
-      given = rw (c.in_default.is) refl;
-      judged = c.check_input-checked.ensures.answer;
-      told = c.check_input-checked.ensures.told;
-      read = λ none. c.check_input-checked.ensures.read;
-    }))
+-- a stream that was checked has an answer
+answered : {A R : Type 0} (answer : A) → Some answer ≡ None → R
+answered answer none = absurd cc
 
-pub returns-in-Ok-clause-told : goal.returns-in-Ok-clause-told
-returns-in-Ok-clause-told g c = λ words said.
-    rw (c.with_answer-in-Ok.ensures)
-    (inl (record {
-      settings = c.args.settings.now;
-      said = said;
-      answer = c.check_input-checked-in-Ok.result.answer;
-      answered = refl;
-      bytes = g.F.File.Read.remaining c.in-Ok.file;
-      given = rw (c.in-Some.is) (c.in-Ok.file, refl);
-      judged = c.check_input-checked-in-Ok.ensures.answer;
-      told = c.check_input-checked-in-Ok.ensures.told;
-      read = λ none. named c.args.settings.now.file c.in-Some.name c.in-Some.is none;
-    }))
+-- a file that can't be opened
+not_opened : (settings : Settings) (name : String Global) (words : List (List ℕ)) (held : Option (List ℕ)) (status : ℕ) → HaveSaid words settings
+    → settings.file ≡ Some name → (status ≡ 2) ⊎ (status ≡ 3) → WasNotChecked words held held status
+not_opened settings name words held status said is (inl two) =
+    inr (inl (two, Keeps-refl held, inr (record { settings = settings; said = said; named = rw is refl })))
+not_opened settings name words held status said is (inr three) = inr (inr (three, Keeps-refl held))
+
+pub returns-in_default : goal.returns-in_default
+returns-in_default g c = record {
+  told = λ words said.
+      rw (c.with_answer.ensures)
+      (inl (record {
+        settings = c.args.settings.now;
+        said = said;
+        answer = c.check_input-checked.result.answer;
+        answered = refl;
+        bytes = g.R.Read.remaining c.args.input.now;
+        given = rw (c.in_default.is) refl;
+        judged = c.check_input-checked.ensures.answer;
+        told = c.check_input-checked.ensures.told;
+        read = λ none. c.check_input-checked.ensures.read;
+      }));
+  quiet = rw (c.with_answer.ensures) c.check_input-checked.ensures.quiet;
+  statuses = rw (c.with_answer.ensures) c.check_input-checked.ensures.statuses;
+  read = rw (c.with_answer.ensures) (answered c.check_input-checked.result.answer);
+}
+
+pub returns-in-Ok : goal.returns-in-Ok
+returns-in-Ok g c = record {
+  told = λ words said.
+      rw (c.with_answer-in-Ok.ensures)
+      (inl (record {
+        settings = c.args.settings.now;
+        said = said;
+        answer = c.check_input-checked-in-Ok.result.answer;
+        answered = refl;
+        bytes = g.F.File.Read.remaining c.in-Ok.file;
+        given = rw (c.in-Some.is) (c.in-Ok.file, refl);
+        judged = c.check_input-checked-in-Ok.ensures.answer;
+        told = c.check_input-checked-in-Ok.ensures.told;
+        read = λ none. named c.args.settings.now.file c.in-Some.name c.in-Some.is none;
+      }));
+  quiet = rw (c.with_answer-in-Ok.ensures) c.check_input-checked-in-Ok.ensures.quiet;
+  statuses = rw (c.with_answer-in-Ok.ensures) c.check_input-checked-in-Ok.ensures.statuses;
+  read = rw (c.with_answer-in-Ok.ensures) (answered c.check_input-checked-in-Ok.result.answer);
+}
+
+pub returns-in-Err : goal.returns-in-Err
+returns-in-Err g c = record {
+  told = λ words said.
+      rw (c.without_answer.ensures)
+      (inr (not_opened c.args.settings.now c.in-Some.name words (g.W.Write.contents c.args.out.now) c.refuse_file-status.result said c.in-Some.is c.refuse_file-status.ensures));
+  quiet = rw (c.without_answer.ensures) (refused c.refuse_file-status.result c.refuse_file-status.ensures);
+  statuses = rw (c.without_answer.ensures) (refused_by c.refuse_file-status.result c.refuse_file-status.ensures);
+  read = λ none bad awaited.
+      rw (c.without_answer.ensures) (c.read_on.ensures.read (ap not awaited));
+}

@@ -14,3 +14,15 @@ returns-in-None c = λ messages read.
       rw (none, error) refl,
       plain_read c.args.self.now _ (diagnostic true None) messages with_error read (λ b. refl) c.with_error-self.ensures.value (error_tallied messages) (still_error messages),
     )
+
+pub with_error-self-requires : goal.with_error-self-requires
+with_error-self-requires c = record { few = c.requires; small = c.args.self.now.small }
+
+pub invariant_of-self : goal.invariant_of-self
+invariant_of-self c = record { small = c.with_error-self.ensures.small }
+
+pub returns-then-not-is_error : goal.returns-then-not-is_error
+returns-then-not-is_error c = rw (c.if-not-is_error.true) c.warning.ensures
+
+pub returns-in-Some : goal.returns-in-Some
+returns-in-Some c = rw (c.if-not-is_error.false, c.in-Some.is) c.error_at.ensures

@@ -18,6 +18,18 @@ returns c = λ messages read.
       diagnostic true (Some a) ∷ messages,
       refl,
       error_read c.args.self.now _ messages a read
-          (λ b. c.in_ok-set.ensures.ok b ∙ ap (λ (s : Standing). cond (bytes_eq a b) (unless_idle s) (get_by_text c.args.self.now.pending.standings b)) there)
+          (λ b. c.in-Ok.ensures.ok b ∙ ap (λ (s : Standing). cond (bytes_eq a b) (unless_idle s) (get_by_text c.args.self.now.pending.standings b)) there)
           (c.with_error_at-self.ensures.value ∙ ap (λ (n : ℕ). with_error_at n c.args.self.now.tally) count),
     )
+
+pub invariant_of-self : goal.invariant_of-self
+invariant_of-self c = record { small = c.args.self.now.small }
+
+pub with_error_at-self-requires : goal.with_error_at-self-requires
+with_error_at-self-requires c = record {
+  few = c.requires;
+  small = c.args.self.now.small;
+}
+
+pub invariant_of-self-2 : goal.invariant_of-self-2
+invariant_of-self-2 c = record { small = c.with_error_at-self.ensures.small }

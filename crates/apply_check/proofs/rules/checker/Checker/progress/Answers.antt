@@ -4,7 +4,7 @@ use Rattle.std.specs.BTreeMap.{get_by_text}
 use Rattle.apply_check.specs.declared.messages.timed_stage.TimedStage.TheVariants.{Progress}
 use Rattle.apply_check.specs.Message.{step}
 use Rattle.apply_check.specs.Standing.{idle, standing_of, step_on}
-use Rattle.apply_check.proofs.Continuing.{no_summary, step_after, step_read}
+use Rattle.apply_check.proofs.Continuing.{after_summary, no_summary, step_after, step_read}
 use Rattle.apply_check.proofs.Summing.{step_faulty, step_fits}
 use Rattle.apply_check.proofs.rules.checker.Checker.progress.Goals as goal
 
@@ -32,3 +32,12 @@ returns-in-Ok c = λ messages read.
       step_fits messages a k stage told.0 (no_summary c.args.self.now messages read c.in_default.not-Some) e refl,
       step_read c.args.self.now _ messages a k stage told.0 read told.2 c.with_line-self.ensures.value e,
     )
+
+pub returns-in-Some : goal.returns-in-Some
+returns-in-Some c = λ messages read. after_summary c.args.self.now messages c.in-Some.line _ read c.in-Some.is
+
+pub with_line-self-requires : goal.with_line-self-requires
+with_line-self-requires c = record { few = c.requires; small = c.args.self.now.small }
+
+pub invariant_of-self : goal.invariant_of-self
+invariant_of-self c = record { small = c.with_line-self.ensures.small }

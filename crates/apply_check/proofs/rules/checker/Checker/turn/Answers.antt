@@ -4,7 +4,7 @@ use Rattle.apply_check.specs.Lines.{is_beyond_plan}
 use Rattle.apply_check.specs.Message.{step}
 use Rattle.apply_check.specs.Standing.{standing_of, step_on}
 use Rattle.apply_check.specs.Tallied.{is_beyond}
-use Rattle.apply_check.proofs.Continuing.{no_summary, step_after, step_read}
+use Rattle.apply_check.proofs.Continuing.{after_summary, no_summary, one_more, step_after, step_read}
 use Rattle.apply_check.proofs.Summing.{step_beyond, step_faulty, step_fits}
 use Rattle.apply_check.proofs.rules.checker.Checker.turn.Goals as goal
 
@@ -30,5 +30,23 @@ returns c = λ messages read.
     let within : is_beyond_plan c.args.action c.args.stage messages ≡ false = ap (λ (t : Tally). is_beyond c.args.action c.args.stage t) (sym read.tally) ∙ sym c.is_beyond.ensures ∙ c.if-is_beyond.false in (
       step a c.args.action c.args.stage ∷ messages,
       step_fits messages a c.args.action c.args.stage c.in-Ok.standing (no_summary c.args.self.now messages read c.in_default.not-Some) e within,
-      step_read c.args.self.now _ messages a c.args.action c.args.stage c.in-Ok.standing read c.in_ok-set.ensures.ok c.with_step-self.ensures.value e,
+      step_read c.args.self.now _ messages a c.args.action c.args.stage c.in-Ok.standing read c.in-Ok-set.ensures.ok c.with_step-self.ensures.value e,
     )
+
+pub returns-in-Some : goal.returns-in-Some
+returns-in-Some c = λ messages read. after_summary c.args.self.now messages c.in-Some.line _ read c.in-Some.is
+
+pub overflow_add-self : goal.overflow_add-self
+overflow_add-self c = one_more c.args.self.now.tally.lines c.requires
+
+pub invariant_of-self : goal.invariant_of-self
+invariant_of-self c = record { small = c.args.self.now.small }
+
+pub with_step-self-requires : goal.with_step-self-requires
+with_step-self-requires c = record {
+  few = c.requires;
+  small = c.args.self.now.small;
+}
+
+pub invariant_of-self-2 : goal.invariant_of-self-2
+invariant_of-self-2 c = record { small = c.with_step-self.ensures.small }

@@ -35,6 +35,9 @@ none_or_found : (r f : Bool) (a : List ℕ) (o : Option Standing) → (IsSome o 
 none_or_found r f a None found = idle_is_closed r f
 none_or_found r f a (Some s) found = found refl
 
+differ : true ≡ false → ⊥
+differ same = cc
+
 -- a key that was looked at, as its text
 pub loop-address-preserved : goal.loop-address-preserved
 loop-address-preserved c =
@@ -43,11 +46,24 @@ loop-address-preserved c =
     let closed : P c.as_str.result.now = ap (stands_open c.args.matters.refreshes c.args.matters.failures) (sym c.at.ensures) ∙ sym c.stands_open.ensures ∙ c.if-stands_open.false in
     All-push (λ e. P (string_bytes e.0.now)) c.loop-address.yielded (c.in-Some.address, c.in-Some.field-0-1) c.loop-address.invariant (subst P c.as_str.ensures.value closed)
 
-pub returns-clause-none : goal.returns-clause-none
-returns-clause-none c = λ done a.
-    let m = c.args.self.now.standings in
-    let P : List ℕ → Type 0 = λ (b : List ℕ). stands_open c.args.matters.refreshes c.args.matters.failures (unwrap_or (get_by_text m b) idle) ≡ false in
-    let all : map deref_pair c.loop-address.yielded ≡ m.entries = search (rules, iter_end) in
-    let each = All-map (λ (e : String Global × Standing). P (string_bytes e.0)) deref_pair c.loop-address.yielded c.loop-address.invariant in
-    let listed = recursion_from_All (λ (e : String Global × Standing). P (string_bytes e.0)) m.entries (rw all at each) in
-    none_or_found c.args.matters.refreshes c.args.matters.failures a (get_by_text m a) (λ there. found_too P m.entries listed a there)
+pub returns : goal.returns
+returns c = record {
+  some = λ found. absurd (differ (sym found));
+  none = λ done a.
+      let m = c.args.self.now.standings in
+      let P : List ℕ → Type 0 = λ (b : List ℕ). stands_open c.args.matters.refreshes c.args.matters.failures (unwrap_or (get_by_text m b) idle) ≡ false in
+      let all : map deref_pair c.loop-address.yielded ≡ m.entries = search (rules, iter_end) in
+      let each = All-map (λ (e : String Global × Standing). P (string_bytes e.0)) deref_pair c.loop-address.yielded c.loop-address.invariant in
+      let listed = recursion_from_All (λ (e : String Global × Standing). P (string_bytes e.0)) m.entries (rw all at each) in
+      none_or_found c.args.matters.refreshes c.args.matters.failures a (get_by_text m a) (λ there. found_too P m.entries listed a there);
+}
+
+-- an address at which something stands open is one of all
+pub returns-then-stands_open : goal.returns-then-stands_open
+returns-then-stands_open c = record {
+  some = λ found. (
+    c.as_str.result.now,
+    ap (stands_open c.args.matters.refreshes c.args.matters.failures) (sym c.at.ensures) ∙ sym c.stands_open.ensures ∙ c.if-stands_open.true,
+  );
+  none = λ none. absurd (differ none);
+}
