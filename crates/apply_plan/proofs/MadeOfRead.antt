@@ -14,3 +14,7 @@ shorter A (Err e) x result is known = subst (λ r. OnOk r A) (sym is) tt
 pub fault : {T U E : Type 0} (A : Type 0) (read : Result U E) (x : T) (result : Result T E) (e : E) → result ≡ result_and read (Ok x) → (read ≡ Err e → A) → result ≡ Err e → A
 fault A (Ok u) x result e is known fails = absurd cc
 fault A (Err f) x result e is known fails = known (let same : f ≡ e = cc in cc)
+
+-- a fault that is handed on, where something else would have been made
+pub same_fault : {T U E : Type 0} (a b : E) → ◌≡◌ {A = Result T E} (Err a) (Err b) → ◌≡◌ {A = Result U E} (Err a) (Err b)
+same_fault a b same = cc

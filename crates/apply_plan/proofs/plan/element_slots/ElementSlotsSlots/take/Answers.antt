@@ -6,31 +6,44 @@ use Rattle.apply_plan.specs.Plan.Members.{HoldsElement}
 use Rattle.apply_plan.proofs.Plans.Taken.{takes_change, takes_other, takes_scalar}
 use Rattle.apply_plan.proofs.plan.element_slots.ElementSlotsSlots.take.Goals as goal
 
-pub returns-then-is_text-clause-ok : goal.returns-then-is_text-clause-ok
-returns-then-is_text-clause-ok c =
-    if_ok c.read.result
-    (λ done. (
-      done.0,
-      as_member c.args.depth c.args.reader.now done.0 _ c.args.name.now done.1,
-      λ start ms holds. takes_change c.args.self.now c.args.name.now done.0 ms holds _ (sym c.is_text.ensures ∙ c.if-is_text.true) done.2 refl,
-    ))
-    c.read.ensures.ok
+pub returns-then-is_text : goal.returns-then-is_text
+returns-then-is_text c =
+    record {
+      ok = if_ok c.read.result
+          (λ done. (
+            done.0,
+            as_member c.args.depth c.args.reader.now done.0 _ c.args.name.now done.1,
+            λ start ms holds. takes_change c.args.self.now c.args.name.now done.0 ms holds _ (sym c.is_text.ensures ∙ c.if-is_text.true) done.2 refl,
+          ))
+          c.read.ensures.ok;
+      shorter = c.read.ensures.shorter;
+      err = c.read.ensures.err;
+    }
 
-pub returns-in_ok-found-in-Some-clause-ok : goal.returns-in_ok-found-in-Some-clause-ok
-returns-in_ok-found-in-Some-clause-ok c =
-    let done = c.in_ok-found-in-Some.ensures.ok in (
-      done.0,
-      as_member c.args.depth c.args.reader.now done.0 _ c.args.name.now done.1,
-      λ start ms holds.
-          subst (λ slots. HoldsElement slots (put c.args.name.now done.0 ms)) (sym c.set.ensures) (takes_scalar c.args.self.now c.args.name.now done.0 ms holds c.in-Some.member c.in_ok-found-in-Some.found c.in-Some.ensures done.2),
-    )
+pub returns-in_ok-found-in-Some : goal.returns-in_ok-found-in-Some
+returns-in_ok-found-in-Some c =
+    let done = c.in_ok-found-in-Some.ensures.ok in
+    record {
+      ok = (
+        done.0,
+        as_member c.args.depth c.args.reader.now done.0 _ c.args.name.now done.1,
+        λ start ms holds.
+            subst (λ slots. HoldsElement slots (put c.args.name.now done.0 ms)) (sym c.set.ensures) (takes_scalar c.args.self.now c.args.name.now done.0 ms holds c.in-Some.member c.in_ok-found-in-Some.found c.in-Some.ensures done.2),
+      );
+      shorter = c.in_ok-found-in-Some.ensures.shorter;
+      err = λ never. absurd cc;
+    }
 
-pub returns-in-None-clause-ok : goal.returns-in-None-clause-ok
-returns-in-None-clause-ok c =
-    if_ok c.pass_member.result
-    (λ done. (
-      done.0,
-      as_member c.args.depth c.args.reader.now done.0 _ c.args.name.now done.1,
-      λ start ms holds. takes_other c.args.self.now c.args.name.now done.0 ms holds c.in-None.ensures (sym c.is_text.ensures ∙ c.if-is_text.false),
-    ))
-    c.pass_member.ensures.ok
+pub returns-in-None : goal.returns-in-None
+returns-in-None c =
+    record {
+      ok = if_ok c.pass_member.result
+          (λ done. (
+            done.0,
+            as_member c.args.depth c.args.reader.now done.0 _ c.args.name.now done.1,
+            λ start ms holds. takes_other c.args.self.now c.args.name.now done.0 ms holds c.in-None.ensures (sym c.is_text.ensures ∙ c.if-is_text.false),
+          ))
+          c.pass_member.ensures.ok;
+      shorter = c.pass_member.ensures.shorter;
+      err = c.pass_member.ensures.err;
+    }

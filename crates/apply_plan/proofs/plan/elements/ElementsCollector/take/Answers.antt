@@ -4,27 +4,40 @@ use Rattle.apply_json.proofs.Keeping.{as_item}
 use Rattle.apply_plan.proofs.Plans.Elements.{holds_full, holds_more, holds_past, holds_refused}
 use Rattle.apply_plan.proofs.plan.elements.ElementsCollector.take.Goals as goal
 
-pub returns-then-self-ge-MAX_CHANGES-clause-ok : goal.returns-then-self-ge-MAX_CHANGES-clause-ok
-returns-then-self-ge-MAX_CHANGES-clause-ok c =
-    if_ok c.pass_member.result
-    (λ done. (done.0, as_item c.args.depth c.args.reader.now done.0 _ done.1, λ start ds holds. holds_full c.args.self.now _ ds done.0 holds c.if-self-ge-MAX_CHANGES.true refl))
-    c.pass_member.ensures.ok
+pub returns-then-self-ge-MAX_CHANGES : goal.returns-then-self-ge-MAX_CHANGES
+returns-then-self-ge-MAX_CHANGES c =
+    record {
+      ok = if_ok c.pass_member.result
+          (λ done. (done.0, as_item c.args.depth c.args.reader.now done.0 _ done.1, λ start ds holds. holds_full c.args.self.now _ ds done.0 holds c.if-self-ge-MAX_CHANGES.true refl))
+          c.pass_member.ensures.ok;
+      shorter = c.pass_member.ensures.shorter;
+      err = c.pass_member.ensures.err;
+    }
 
-pub returns-then-is_some-clause-ok : goal.returns-then-is_some-clause-ok
-returns-then-is_some-clause-ok c =
-    if_ok c.pass_member-then-is_some.result
-    (λ done. (done.0, as_item c.args.depth c.args.reader.now done.0 _ done.1, λ start ds holds. holds_past c.args.self.now _ ds done.0 (sym c.if-is_some.ensures) holds c.if-self-ge-MAX_CHANGES.false refl))
-    c.pass_member-then-is_some.ensures.ok
+pub returns-then-is_some : goal.returns-then-is_some
+returns-then-is_some c =
+    record {
+      ok = if_ok c.pass_member-then-is_some.result
+          (λ done. (done.0, as_item c.args.depth c.args.reader.now done.0 _ done.1, λ start ds holds. holds_past c.args.self.now _ ds done.0 (sym c.if-is_some.ensures) holds c.if-self-ge-MAX_CHANGES.false refl))
+          c.pass_member-then-is_some.ensures.ok;
+      shorter = c.pass_member-then-is_some.ensures.shorter;
+      err = c.pass_member-then-is_some.ensures.err;
+    }
 
-pub returns-in_ok-push-in-Ok-clause-ok : goal.returns-in_ok-push-in-Ok-clause-ok
-returns-in_ok-push-in-Ok-clause-ok c =
+pub returns-in_ok-push-in-Ok : goal.returns-in_ok-push-in-Ok
+returns-in_ok-push-in-Ok c =
     let done = c.in_ok-planned.ensures.ok in
-    let made = c.args.self.now.changes.items in (
-      done.0,
-      as_item c.args.depth c.args.reader.now done.0 _ done.1,
-      λ start ds holds.
-          holds_more c.args.self.now _ ds done.0 c.in-Ok.change holds c.if-self-ge-MAX_CHANGES.false (sym c.if-is_some.ensures) (λ count seen. c.in-Ok.ensures.defined done.0 made done.2 count seen) (λ seen. c.in-Ok.ensures.seen made seen) c.in_ok-push-in-Ok.ensures.items refl refl,
-    )
+    let made = c.args.self.now.changes.items in
+    record {
+      ok = (
+        done.0,
+        as_item c.args.depth c.args.reader.now done.0 _ done.1,
+        λ start ds holds.
+            holds_more c.args.self.now _ ds done.0 c.in-Ok.change holds c.if-self-ge-MAX_CHANGES.false (sym c.if-is_some.ensures) (λ count seen. c.in-Ok.ensures.defined done.0 made done.2 count seen) (λ seen. c.in-Ok.ensures.seen made seen) c.in_ok-push-in-Ok.ensures.items refl refl,
+      );
+      shorter = c.in_ok-planned.ensures.shorter;
+      err = λ never. absurd cc;
+    }
 
 pub returns-in-Err : goal.returns-in-Err
 returns-in-Err c =

@@ -1,6 +1,7 @@
 use Rattle.std.proofs.Common.{◌≡◌, codes, true, refl, sym, ◌∙◌}
 use Rattle.std.specs.Str.{bytes_eq}
 use Rattle.serde_json.specs.Data.{string}
+use Rattle.json.specs.Json.{value}
 use Rattle.apply_json.specs.Seen.{seen}
 use Rattle.apply_json.proofs.Held.{left}
 use Rattle.apply_plan.specs.Script.Members.{object_member}
@@ -8,40 +9,64 @@ use Rattle.apply_plan.proofs.Scripts.Kept.{passed_read, scalar_read, text_read}
 use Rattle.apply_plan.proofs.Scripts.Slots.{diag_behind}
 use Rattle.apply_plan.proofs.script.diag_slots.DiagSlotsSlots.take.Goals as goal
 
-pub returns-then-is_text-clause-ok : goal.returns-then-is_text-clause-ok
-returns-then-is_text-clause-ok c =
+pub returns-then-is_text : goal.returns-then-is_text
+returns-then-is_text c =
     let here : bytes_eq c.args.name.now (codes "summary") ≡ true = sym c.is_text.ensures ∙ c.if-is_text.true in
-    scalar_read c.read_scalar_into.result c.args.name.now (codes "summary") here _ _ refl (λ d is start ms holds. diag_behind c.args.name.now (codes "summary") d ms here _ is holds.detail holds.range holds.snippet holds.severity) c.read_scalar_into.ensures.ok
+    record {
+      ok = scalar_read c.read_scalar_into.result c.args.name.now (codes "summary") here (value c.args.depth c.args.reader.now) c.read_scalar_into.new.reader refl (λ d is start ms holds. diag_behind c.args.name.now (codes "summary") d ms here _ is holds.detail holds.range holds.snippet holds.severity) c.read_scalar_into.ensures.ok;
+      shorter = c.read_scalar_into.ensures.shorter;
+      err = c.read_scalar_into.ensures.err;
+    }
 
-pub returns-then-is_text-2-clause-ok : goal.returns-then-is_text-2-clause-ok
-returns-then-is_text-2-clause-ok c =
+pub returns-then-is_text-2 : goal.returns-then-is_text-2
+returns-then-is_text-2 c =
     let here : bytes_eq c.args.name.now (codes "detail") ≡ true = sym c.is_text-else-is_text.ensures ∙ c.if-is_text-2.true in
-    scalar_read c.read_scalar_into-then-is_text-2.result c.args.name.now (codes "detail") here _ _ refl (λ d is start ms holds. diag_behind c.args.name.now (codes "detail") d ms here _ holds.summary is holds.range holds.snippet holds.severity) c.read_scalar_into-then-is_text-2.ensures.ok
+    record {
+      ok = scalar_read c.read_scalar_into-then-is_text-2.result c.args.name.now (codes "detail") here (value c.args.depth c.args.reader.now) c.read_scalar_into-then-is_text-2.new.reader refl (λ d is start ms holds. diag_behind c.args.name.now (codes "detail") d ms here _ holds.summary is holds.range holds.snippet holds.severity) c.read_scalar_into-then-is_text-2.ensures.ok;
+      shorter = c.read_scalar_into-then-is_text-2.ensures.shorter;
+      err = c.read_scalar_into-then-is_text-2.ensures.err;
+    }
 
-pub returns-then-is_text-3-clause-ok : goal.returns-then-is_text-3-clause-ok
-returns-then-is_text-3-clause-ok c =
+pub returns-then-is_text-3 : goal.returns-then-is_text-3
+returns-then-is_text-3 c =
     let here : bytes_eq c.args.name.now (codes "range") ≡ true = sym c.is_text-else-is_text-2.ensures ∙ c.if-is_text-3.true in
-    text_read c.read_object_text.result c.args.name.now (codes "range") here _ _ _ refl (λ text is start ms holds. diag_behind c.args.name.now (codes "range") (string text) ms here _ holds.summary holds.detail is holds.snippet holds.severity) c.read_object_text.ensures.ok
+    record {
+      ok = text_read c.read_object_text.result c.args.name.now (codes "range") here (value c.args.depth c.args.reader.now) c.read_object_text.new.reader _ refl (λ text is start ms holds. diag_behind c.args.name.now (codes "range") (string text) ms here _ holds.summary holds.detail is holds.snippet holds.severity) c.read_object_text.ensures.ok;
+      shorter = c.read_object_text.ensures.shorter;
+      err = c.read_object_text.ensures.err;
+    }
 
-pub returns-then-is_text-4-clause-ok : goal.returns-then-is_text-4-clause-ok
-returns-then-is_text-4-clause-ok c =
+pub returns-then-is_text-4 : goal.returns-then-is_text-4
+returns-then-is_text-4 c =
     let here : bytes_eq c.args.name.now (codes "snippet") ≡ true = sym c.is_text-else-is_text-3.ensures ∙ c.if-is_text-4.true in
-    text_read c.read_object_text-then-is_text-4.result c.args.name.now (codes "snippet") here _ _ _ refl (λ text is start ms holds. diag_behind c.args.name.now (codes "snippet") (string text) ms here _ holds.summary holds.detail holds.range is holds.severity) c.read_object_text-then-is_text-4.ensures.ok
+    record {
+      ok = text_read c.read_object_text-then-is_text-4.result c.args.name.now (codes "snippet") here (value c.args.depth c.args.reader.now) c.read_object_text-then-is_text-4.new.reader _ refl (λ text is start ms holds. diag_behind c.args.name.now (codes "snippet") (string text) ms here _ holds.summary holds.detail holds.range is holds.severity) c.read_object_text-then-is_text-4.ensures.ok;
+      shorter = c.read_object_text-then-is_text-4.ensures.shorter;
+      err = c.read_object_text-then-is_text-4.ensures.err;
+    }
 
-pub returns-then-is_text-5-clause-ok : goal.returns-then-is_text-5-clause-ok
-returns-then-is_text-5-clause-ok c =
+pub returns-then-is_text-5 : goal.returns-then-is_text-5
+returns-then-is_text-5 c =
     let here : bytes_eq c.args.name.now (codes "severity") ≡ true = sym c.is_text-else-is_text-4.ensures ∙ c.if-is_text-5.true in
-    scalar_read c.read_scalar_into-then-is_text-5.result c.args.name.now (codes "severity") here _ _ refl (λ d is start ms holds. diag_behind c.args.name.now (codes "severity") d ms here _ holds.summary holds.detail holds.range holds.snippet is) c.read_scalar_into-then-is_text-5.ensures.ok
+    record {
+      ok = scalar_read c.read_scalar_into-then-is_text-5.result c.args.name.now (codes "severity") here (value c.args.depth c.args.reader.now) c.read_scalar_into-then-is_text-5.new.reader refl (λ d is start ms holds. diag_behind c.args.name.now (codes "severity") d ms here _ holds.summary holds.detail holds.range holds.snippet is) c.read_scalar_into-then-is_text-5.ensures.ok;
+      shorter = c.read_scalar_into-then-is_text-5.ensures.shorter;
+      err = c.read_scalar_into-then-is_text-5.ensures.err;
+    }
 
-pub returns-else-is_text-5-clause-ok : goal.returns-else-is_text-5-clause-ok
-returns-else-is_text-5-clause-ok c =
+pub returns-else-is_text-5 : goal.returns-else-is_text-5
+returns-else-is_text-5 c =
     let k = c.args.name.now in
-    passed_read c.pass_member.result k _ _
-    (λ d start ms holds. record {
-      summary = left seen (codes "summary") k d ms _ (sym c.is_text.ensures ∙ c.if-is_text.false) holds.summary;
-      detail = left seen (codes "detail") k d ms _ (sym c.is_text-else-is_text.ensures ∙ c.if-is_text-2.false) holds.detail;
-      range = left object_member (codes "range") k d ms _ (sym c.is_text-else-is_text-2.ensures ∙ c.if-is_text-3.false) holds.range;
-      snippet = left object_member (codes "snippet") k d ms _ (sym c.is_text-else-is_text-3.ensures ∙ c.if-is_text-4.false) holds.snippet;
-      severity = left seen (codes "severity") k d ms _ (sym c.is_text-else-is_text-4.ensures ∙ c.if-is_text-5.false) holds.severity;
-    })
-    c.pass_member.ensures.ok
+    record {
+      ok = passed_read c.pass_member.result k (value c.args.depth c.args.reader.now) c.pass_member.new.reader
+          (λ d start ms holds. record {
+            summary = left seen (codes "summary") k d ms _ (sym c.is_text.ensures ∙ c.if-is_text.false) holds.summary;
+            detail = left seen (codes "detail") k d ms _ (sym c.is_text-else-is_text.ensures ∙ c.if-is_text-2.false) holds.detail;
+            range = left object_member (codes "range") k d ms _ (sym c.is_text-else-is_text-2.ensures ∙ c.if-is_text-3.false) holds.range;
+            snippet = left object_member (codes "snippet") k d ms _ (sym c.is_text-else-is_text-3.ensures ∙ c.if-is_text-4.false) holds.snippet;
+            severity = left seen (codes "severity") k d ms _ (sym c.is_text-else-is_text-4.ensures ∙ c.if-is_text-5.false) holds.severity;
+          })
+          c.pass_member.ensures.ok;
+      shorter = c.pass_member.ensures.shorter;
+      err = c.pass_member.ensures.err;
+    }

@@ -6,13 +6,17 @@ use Rattle.apply_plan.proofs.Scripts.Read.{holds_more, holds_past, holds_refused
 use Rattle.apply_plan.proofs.Scripts.WholeList.{few_entries}
 use Rattle.apply_plan.proofs.script.entries.EntriesCollector.take.Goals as goal
 
-pub returns-then-is_some-clause-ok : goal.returns-then-is_some-clause-ok
-returns-then-is_some-clause-ok c =
-    if_ok c.pass_member.result
-    (λ done.
-    let there = passed_item (value c.args.depth c.args.reader.now) done.0 _ done.1 in
-    (there.0, there.1, λ start ds holds. (holds.0, holds_past c.args.self.now ds there.0 (sym c.if-is_some.ensures) holds.1)))
-    c.pass_member.ensures.ok
+pub returns-then-is_some : goal.returns-then-is_some
+returns-then-is_some c =
+    record {
+      ok = if_ok c.pass_member.result
+          (λ done.
+          let there = passed_item (value c.args.depth c.args.reader.now) done.0 _ done.1 in
+          (there.0, there.1, λ start ds holds. (holds.0, holds_past c.args.self.now ds there.0 (sym c.if-is_some.ensures) holds.1)))
+          c.pass_member.ensures.ok;
+      shorter = c.pass_member.ensures.shorter;
+      err = c.pass_member.ensures.err;
+    }
 
 pub overflow_cast-number : goal.overflow_cast-number
 overflow_cast-number c =
@@ -24,19 +28,24 @@ overflow_cast-number c =
 pub said_by_entry-said-requires-clause-said : goal.said_by_entry-said-requires-clause-said
 said_by_entry-said-requires-clause-said c = rw c.deref.ensures.value (long c.args.self.now c.requires.1 c.requires.2.1)
 
-pub returns-in_ok-keep-in-Ok-clause-ok : goal.returns-in_ok-keep-in-Ok-clause-ok
-returns-in_ok-keep-in-Ok-clause-ok c =
+pub returns-in_ok-keep-in-Ok : goal.returns-in_ok-keep-in-Ok
+returns-in_ok-keep-in-Ok c =
     let done = c.in_ok-entry.ensures.ok in
     let keeps = c.in_ok-keep-in-Ok.ensures in
     let number : c.len-number.result ≡ length c.args.self.now.kept.items = omega (arith, c.len-number.ensures, c.args.self.now.kept.ok.0) in
     let said = rw (c.deref.ensures.value, number) at c.in-Ok.ensures.defined done.0 done.2 in
     let below = rw c.deref.ensures.value at c.in-Ok.ensures.within in
-    let placed = rw c.deref.ensures.value at c.in-Ok.ensures.placed in (
-      done.0,
-      done.1,
-      λ start ds holds.
-          (keeps.plan ∙ holds.0, holds_more c.args.self.now c.keep.new.self ds done.0 c.in-Ok.change c.in-Ok.steps c.in-Ok.waits holds.1 (sym c.if-is_some.ensures) said below placed c.in-Ok.ensures.few keeps),
-    )
+    let placed = rw c.deref.ensures.value at c.in-Ok.ensures.placed in
+    record {
+      ok = (
+        done.0,
+        done.1,
+        λ start ds holds.
+            (keeps.plan ∙ holds.0, holds_more c.args.self.now c.keep.new.self ds done.0 c.in-Ok.change c.in-Ok.steps c.in-Ok.waits holds.1 (sym c.if-is_some.ensures) said below placed c.in-Ok.ensures.few keeps),
+      );
+      shorter = c.in_ok-entry.ensures.shorter;
+      err = λ never. absurd cc;
+    }
 
 pub returns-in-Err : goal.returns-in-Err
 returns-in-Err c =

@@ -1,5 +1,6 @@
 use Rattle.std.proofs.Common.{◌≡◌, codes, true, refl, sym, ◌∙◌}
 use Rattle.std.specs.Str.{bytes_eq}
+use Rattle.json.specs.Json.{value}
 use Rattle.apply_json.specs.Seen.{seen}
 use Rattle.apply_json.proofs.Held.{left}
 use Rattle.apply_plan.specs.Script.Members.{steps_member}
@@ -7,28 +8,44 @@ use Rattle.apply_plan.proofs.Scripts.Kept.{other_read, passed_read, scalar_read}
 use Rattle.apply_plan.proofs.Scripts.Slots.{entry_behind}
 use Rattle.apply_plan.proofs.script.entry_slots.EntrySlotsSlots.take.Goals as goal
 
-pub returns-then-is_text-clause-ok : goal.returns-then-is_text-clause-ok
-returns-then-is_text-clause-ok c =
+pub returns-then-is_text : goal.returns-then-is_text
+returns-then-is_text c =
     let here : bytes_eq c.args.name.now (codes "address") ≡ true = sym c.is_text.ensures ∙ c.if-is_text.true in
-    scalar_read c.read_scalar_into.result c.args.name.now (codes "address") here _ _ refl (λ d is start ms holds. entry_behind c.args.name.now (codes "address") d ms here _ is holds.deposed holds.steps) c.read_scalar_into.ensures.ok
+    record {
+      ok = scalar_read c.read_scalar_into.result c.args.name.now (codes "address") here (value c.args.depth c.args.reader.now) c.read_scalar_into.new.reader refl (λ d is start ms holds. entry_behind c.args.name.now (codes "address") d ms here _ is holds.deposed holds.steps) c.read_scalar_into.ensures.ok;
+      shorter = c.read_scalar_into.ensures.shorter;
+      err = c.read_scalar_into.ensures.err;
+    }
 
-pub returns-then-is_text-2-clause-ok : goal.returns-then-is_text-2-clause-ok
-returns-then-is_text-2-clause-ok c =
+pub returns-then-is_text-2 : goal.returns-then-is_text-2
+returns-then-is_text-2 c =
     let here : bytes_eq c.args.name.now (codes "deposed") ≡ true = sym c.is_text-else-is_text.ensures ∙ c.if-is_text-2.true in
-    scalar_read c.read_scalar_into-then-is_text-2.result c.args.name.now (codes "deposed") here _ _ refl (λ d is start ms holds. entry_behind c.args.name.now (codes "deposed") d ms here _ holds.address is holds.steps) c.read_scalar_into-then-is_text-2.ensures.ok
+    record {
+      ok = scalar_read c.read_scalar_into-then-is_text-2.result c.args.name.now (codes "deposed") here (value c.args.depth c.args.reader.now) c.read_scalar_into-then-is_text-2.new.reader refl (λ d is start ms holds. entry_behind c.args.name.now (codes "deposed") d ms here _ holds.address is holds.steps) c.read_scalar_into-then-is_text-2.ensures.ok;
+      shorter = c.read_scalar_into-then-is_text-2.ensures.shorter;
+      err = c.read_scalar_into-then-is_text-2.ensures.err;
+    }
 
-pub returns-then-is_text-3-clause-ok : goal.returns-then-is_text-3-clause-ok
-returns-then-is_text-3-clause-ok c =
+pub returns-then-is_text-3 : goal.returns-then-is_text-3
+returns-then-is_text-3 c =
     let here : bytes_eq c.args.name.now (codes "steps") ≡ true = sym c.is_text-else-is_text-2.ensures ∙ c.if-is_text-3.true in
-    other_read c.read_items.result c.args.name.now (codes "steps") here _ _ refl (λ d is start ms holds. entry_behind c.args.name.now (codes "steps") d ms here _ holds.address holds.deposed is) c.read_items.ensures.ok
+    record {
+      ok = other_read c.read_items.result c.args.name.now (codes "steps") here (value c.args.depth c.args.reader.now) c.read_items.new.reader refl (λ d is start ms holds. entry_behind c.args.name.now (codes "steps") d ms here _ holds.address holds.deposed is) c.read_items.ensures.ok;
+      shorter = c.read_items.ensures.shorter;
+      err = c.read_items.ensures.err;
+    }
 
-pub returns-else-is_text-3-clause-ok : goal.returns-else-is_text-3-clause-ok
-returns-else-is_text-3-clause-ok c =
+pub returns-else-is_text-3 : goal.returns-else-is_text-3
+returns-else-is_text-3 c =
     let k = c.args.name.now in
-    passed_read c.pass_member.result k _ _
-    (λ d start ms holds. record {
-      address = left seen (codes "address") k d ms _ (sym c.is_text.ensures ∙ c.if-is_text.false) holds.address;
-      deposed = left seen (codes "deposed") k d ms _ (sym c.is_text-else-is_text.ensures ∙ c.if-is_text-2.false) holds.deposed;
-      steps = left steps_member (codes "steps") k d ms _ (sym c.is_text-else-is_text-2.ensures ∙ c.if-is_text-3.false) holds.steps;
-    })
-    c.pass_member.ensures.ok
+    record {
+      ok = passed_read c.pass_member.result k (value c.args.depth c.args.reader.now) c.pass_member.new.reader
+          (λ d start ms holds. record {
+            address = left seen (codes "address") k d ms _ (sym c.is_text.ensures ∙ c.if-is_text.false) holds.address;
+            deposed = left seen (codes "deposed") k d ms _ (sym c.is_text-else-is_text.ensures ∙ c.if-is_text-2.false) holds.deposed;
+            steps = left steps_member (codes "steps") k d ms _ (sym c.is_text-else-is_text-2.ensures ∙ c.if-is_text-3.false) holds.steps;
+          })
+          c.pass_member.ensures.ok;
+      shorter = c.pass_member.ensures.shorter;
+      err = c.pass_member.ensures.err;
+    }

@@ -1,5 +1,6 @@
 use Rattle.std.proofs.Common.{◌≡◌, codes, true, refl, sym, ◌∙◌}
 use Rattle.std.specs.Str.{bytes_eq}
+use Rattle.json.specs.Json.{value}
 use Rattle.apply_json.specs.Seen.{seen}
 use Rattle.apply_json.proofs.Held.{left}
 use Rattle.apply_plan.specs.Script.Entry.{provisioner_from, wait_from}
@@ -8,52 +9,84 @@ use Rattle.apply_plan.proofs.Scripts.Kept.{other_read, passed_read, scalar_read}
 use Rattle.apply_plan.proofs.Scripts.Slots.{step_behind}
 use Rattle.apply_plan.proofs.script.step_slots.StepSlotsSlots.take.Goals as goal
 
-pub returns-then-is_text-clause-ok : goal.returns-then-is_text-clause-ok
-returns-then-is_text-clause-ok c =
+pub returns-then-is_text : goal.returns-then-is_text
+returns-then-is_text c =
     let here : bytes_eq c.args.name.now (codes "seconds") ≡ true = sym c.is_text.ensures ∙ c.if-is_text.true in
-    scalar_read c.read_scalar_into.result c.args.name.now (codes "seconds") here _ _ refl (λ d is start ms holds. step_behind c.args.name.now (codes "seconds") d ms here _ is holds.after holds.id holds.warning holds.failed holds.provisioners holds.skipped) c.read_scalar_into.ensures.ok
+    record {
+      ok = scalar_read c.read_scalar_into.result c.args.name.now (codes "seconds") here (value c.args.depth c.args.reader.now) c.read_scalar_into.new.reader refl (λ d is start ms holds. step_behind c.args.name.now (codes "seconds") d ms here _ is holds.after holds.id holds.warning holds.failed holds.provisioners holds.skipped) c.read_scalar_into.ensures.ok;
+      shorter = c.read_scalar_into.ensures.shorter;
+      err = c.read_scalar_into.ensures.err;
+    }
 
-pub returns-then-is_text-2-clause-ok : goal.returns-then-is_text-2-clause-ok
-returns-then-is_text-2-clause-ok c =
+pub returns-then-is_text-2 : goal.returns-then-is_text-2
+returns-then-is_text-2 c =
     let here : bytes_eq c.args.name.now (codes "after") ≡ true = sym c.is_text-else-is_text.ensures ∙ c.if-is_text-2.true in
-    other_read c.read_items.result c.args.name.now (codes "after") here _ _ refl (λ d is start ms holds. step_behind c.args.name.now (codes "after") d ms here _ holds.seconds is holds.id holds.warning holds.failed holds.provisioners holds.skipped) c.read_items.ensures.ok
+    record {
+      ok = other_read c.read_items.result c.args.name.now (codes "after") here (value c.args.depth c.args.reader.now) c.read_items.new.reader refl (λ d is start ms holds. step_behind c.args.name.now (codes "after") d ms here _ holds.seconds is holds.id holds.warning holds.failed holds.provisioners holds.skipped) c.read_items.ensures.ok;
+      shorter = c.read_items.ensures.shorter;
+      err = c.read_items.ensures.err;
+    }
 
-pub returns-then-is_text-3-clause-ok : goal.returns-then-is_text-3-clause-ok
-returns-then-is_text-3-clause-ok c =
+pub returns-then-is_text-3 : goal.returns-then-is_text-3
+returns-then-is_text-3 c =
     let here : bytes_eq c.args.name.now (codes "id") ≡ true = sym c.is_text-else-is_text-2.ensures ∙ c.if-is_text-3.true in
-    scalar_read c.read_scalar_into-then-is_text-3.result c.args.name.now (codes "id") here _ _ refl (λ d is start ms holds. step_behind c.args.name.now (codes "id") d ms here _ holds.seconds holds.after is holds.warning holds.failed holds.provisioners holds.skipped) c.read_scalar_into-then-is_text-3.ensures.ok
+    record {
+      ok = scalar_read c.read_scalar_into-then-is_text-3.result c.args.name.now (codes "id") here (value c.args.depth c.args.reader.now) c.read_scalar_into-then-is_text-3.new.reader refl (λ d is start ms holds. step_behind c.args.name.now (codes "id") d ms here _ holds.seconds holds.after is holds.warning holds.failed holds.provisioners holds.skipped) c.read_scalar_into-then-is_text-3.ensures.ok;
+      shorter = c.read_scalar_into-then-is_text-3.ensures.shorter;
+      err = c.read_scalar_into-then-is_text-3.ensures.err;
+    }
 
-pub returns-then-is_text-4-clause-ok : goal.returns-then-is_text-4-clause-ok
-returns-then-is_text-4-clause-ok c =
+pub returns-then-is_text-4 : goal.returns-then-is_text-4
+returns-then-is_text-4 c =
     let here : bytes_eq c.args.name.now (codes "warning") ≡ true = sym c.is_text-else-is_text-3.ensures ∙ c.if-is_text-4.true in
-    other_read c.read.result c.args.name.now (codes "warning") here _ _ refl (λ d is start ms holds. step_behind c.args.name.now (codes "warning") d ms here _ holds.seconds holds.after holds.id is holds.failed holds.provisioners holds.skipped) c.read.ensures.ok
+    record {
+      ok = other_read c.read.result c.args.name.now (codes "warning") here (value c.args.depth c.args.reader.now) c.read.new.reader refl (λ d is start ms holds. step_behind c.args.name.now (codes "warning") d ms here _ holds.seconds holds.after holds.id is holds.failed holds.provisioners holds.skipped) c.read.ensures.ok;
+      shorter = c.read.ensures.shorter;
+      err = c.read.ensures.err;
+    }
 
-pub returns-then-is_text-5-clause-ok : goal.returns-then-is_text-5-clause-ok
-returns-then-is_text-5-clause-ok c =
+pub returns-then-is_text-5 : goal.returns-then-is_text-5
+returns-then-is_text-5 c =
     let here : bytes_eq c.args.name.now (codes "failed") ≡ true = sym c.is_text-else-is_text-4.ensures ∙ c.if-is_text-5.true in
-    other_read c.read-then-is_text-5.result c.args.name.now (codes "failed") here _ _ refl (λ d is start ms holds. step_behind c.args.name.now (codes "failed") d ms here _ holds.seconds holds.after holds.id holds.warning is holds.provisioners holds.skipped) c.read-then-is_text-5.ensures.ok
+    record {
+      ok = other_read c.read-then-is_text-5.result c.args.name.now (codes "failed") here (value c.args.depth c.args.reader.now) c.read-then-is_text-5.new.reader refl (λ d is start ms holds. step_behind c.args.name.now (codes "failed") d ms here _ holds.seconds holds.after holds.id holds.warning is holds.provisioners holds.skipped) c.read-then-is_text-5.ensures.ok;
+      shorter = c.read-then-is_text-5.ensures.shorter;
+      err = c.read-then-is_text-5.ensures.err;
+    }
 
-pub returns-then-is_text-6-clause-ok : goal.returns-then-is_text-6-clause-ok
-returns-then-is_text-6-clause-ok c =
+pub returns-then-is_text-6 : goal.returns-then-is_text-6
+returns-then-is_text-6 c =
     let here : bytes_eq c.args.name.now (codes "provisioners") ≡ true = sym c.is_text-else-is_text-5.ensures ∙ c.if-is_text-6.true in
-    other_read c.read_items-then-is_text-6.result c.args.name.now (codes "provisioners") here _ _ refl (λ d is start ms holds. step_behind c.args.name.now (codes "provisioners") d ms here _ holds.seconds holds.after holds.id holds.warning holds.failed is holds.skipped) c.read_items-then-is_text-6.ensures.ok
+    record {
+      ok = other_read c.read_items-then-is_text-6.result c.args.name.now (codes "provisioners") here (value c.args.depth c.args.reader.now) c.read_items-then-is_text-6.new.reader refl (λ d is start ms holds. step_behind c.args.name.now (codes "provisioners") d ms here _ holds.seconds holds.after holds.id holds.warning holds.failed is holds.skipped) c.read_items-then-is_text-6.ensures.ok;
+      shorter = c.read_items-then-is_text-6.ensures.shorter;
+      err = c.read_items-then-is_text-6.ensures.err;
+    }
 
-pub returns-then-is_text-7-clause-ok : goal.returns-then-is_text-7-clause-ok
-returns-then-is_text-7-clause-ok c =
+pub returns-then-is_text-7 : goal.returns-then-is_text-7
+returns-then-is_text-7 c =
     let here : bytes_eq c.args.name.now (codes "skipped") ≡ true = sym c.is_text-else-is_text-6.ensures ∙ c.if-is_text-7.true in
-    scalar_read c.read_scalar_into-then-is_text-7.result c.args.name.now (codes "skipped") here _ _ refl (λ d is start ms holds. step_behind c.args.name.now (codes "skipped") d ms here _ holds.seconds holds.after holds.id holds.warning holds.failed holds.provisioners is) c.read_scalar_into-then-is_text-7.ensures.ok
+    record {
+      ok = scalar_read c.read_scalar_into-then-is_text-7.result c.args.name.now (codes "skipped") here (value c.args.depth c.args.reader.now) c.read_scalar_into-then-is_text-7.new.reader refl (λ d is start ms holds. step_behind c.args.name.now (codes "skipped") d ms here _ holds.seconds holds.after holds.id holds.warning holds.failed holds.provisioners is) c.read_scalar_into-then-is_text-7.ensures.ok;
+      shorter = c.read_scalar_into-then-is_text-7.ensures.shorter;
+      err = c.read_scalar_into-then-is_text-7.ensures.err;
+    }
 
-pub returns-else-is_text-7-clause-ok : goal.returns-else-is_text-7-clause-ok
-returns-else-is_text-7-clause-ok c =
+pub returns-else-is_text-7 : goal.returns-else-is_text-7
+returns-else-is_text-7 c =
     let k = c.args.name.now in
-    passed_read c.pass_member.result k _ _
-    (λ d start ms holds. record {
-      seconds = left seen (codes "seconds") k d ms _ (sym c.is_text.ensures ∙ c.if-is_text.false) holds.seconds;
-      after = left (each_member wait_from) (codes "after") k d ms _ (sym c.is_text-else-is_text.ensures ∙ c.if-is_text-2.false) holds.after;
-      id = left seen (codes "id") k d ms _ (sym c.is_text-else-is_text-2.ensures ∙ c.if-is_text-3.false) holds.id;
-      warning = left diag_member (codes "warning") k d ms _ (sym c.is_text-else-is_text-3.ensures ∙ c.if-is_text-4.false) holds.warning;
-      failed = left failure_member (codes "failed") k d ms _ (sym c.is_text-else-is_text-4.ensures ∙ c.if-is_text-5.false) holds.failed;
-      provisioners = left (each_member provisioner_from) (codes "provisioners") k d ms _ (sym c.is_text-else-is_text-5.ensures ∙ c.if-is_text-6.false) holds.provisioners;
-      skipped = left seen (codes "skipped") k d ms _ (sym c.is_text-else-is_text-6.ensures ∙ c.if-is_text-7.false) holds.skipped;
-    })
-    c.pass_member.ensures.ok
+    record {
+      ok = passed_read c.pass_member.result k (value c.args.depth c.args.reader.now) c.pass_member.new.reader
+          (λ d start ms holds. record {
+            seconds = left seen (codes "seconds") k d ms _ (sym c.is_text.ensures ∙ c.if-is_text.false) holds.seconds;
+            after = left (each_member wait_from) (codes "after") k d ms _ (sym c.is_text-else-is_text.ensures ∙ c.if-is_text-2.false) holds.after;
+            id = left seen (codes "id") k d ms _ (sym c.is_text-else-is_text-2.ensures ∙ c.if-is_text-3.false) holds.id;
+            warning = left diag_member (codes "warning") k d ms _ (sym c.is_text-else-is_text-3.ensures ∙ c.if-is_text-4.false) holds.warning;
+            failed = left failure_member (codes "failed") k d ms _ (sym c.is_text-else-is_text-4.ensures ∙ c.if-is_text-5.false) holds.failed;
+            provisioners = left (each_member provisioner_from) (codes "provisioners") k d ms _ (sym c.is_text-else-is_text-5.ensures ∙ c.if-is_text-6.false) holds.provisioners;
+            skipped = left seen (codes "skipped") k d ms _ (sym c.is_text-else-is_text-6.ensures ∙ c.if-is_text-7.false) holds.skipped;
+          })
+          c.pass_member.ensures.ok;
+      shorter = c.pass_member.ensures.shorter;
+      err = c.pass_member.ensures.err;
+    }

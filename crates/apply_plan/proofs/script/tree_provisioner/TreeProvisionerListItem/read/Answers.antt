@@ -4,13 +4,10 @@ use Rattle.apply_plan.proofs.MadeOfRead as of_read
 use Rattle.apply_plan.proofs.Scripts.Held.{provisioner_is}
 use Rattle.apply_plan.proofs.script.tree_provisioner.TreeProvisionerListItem.read.Goals as goal
 
-pub returns-clause-ok : goal.returns-clause-ok
-returns-clause-ok c =
-    of_read.made _ _ c.read_object-read.result c.of.result c.and.result c.and.ensures c.read_object-read.ensures.ok (λ value done.
-    (done.0, done.1, c.of.ensures ∙ provisioner_is c.read_object-read.new.slots done.0 done.3))
-
-pub returns-clause-shorter : goal.returns-clause-shorter
-returns-clause-shorter c = of_read.shorter _ c.read_object-read.result c.of.result c.and.result c.and.ensures c.read_object-read.ensures.shorter
-
-pub returns-clause-err : goal.returns-clause-err
-returns-clause-err c = of_read.fault _ c.read_object-read.result c.of.result c.and.result NotJson c.and.ensures c.read_object-read.ensures.err
+pub returns : goal.returns
+returns c = record {
+  ok = of_read.made _ _ c.read_object-read.result c.of.result c.and.result c.and.ensures c.read_object-read.ensures.ok (λ value done.
+      (done.0, done.1, c.of.ensures ∙ provisioner_is c.read_object-read.new.slots done.0 done.3));
+  shorter = of_read.shorter _ c.read_object-read.result c.of.result c.and.result c.and.ensures c.read_object-read.ensures.shorter;
+  err = of_read.fault _ c.read_object-read.result c.of.result c.and.result NotJson c.and.ensures c.read_object-read.ensures.err;
+}
