@@ -37,7 +37,7 @@ pub enum PlanError {
 
 impl PlanError {
     /// Why bytes are no plan that gave no tree.
-    pub fn of_json(fault: JsonFault) -> PlanError
+    pub(crate) fn of_json(fault: JsonFault) -> PlanError
         ensures { result ≡ plan_refusal fault }
     {
         match fault {

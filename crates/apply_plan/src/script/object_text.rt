@@ -1,6 +1,6 @@
 //! An object of a script that is kept as its own text.
 
-ghost use Rattle.std.specs.Prelude.{◌≡◌, ◌<◌, ◌==◌, ℕ, Err, IfOk, List, OnOk, length, string_bytes};
+ghost use Rattle.std.specs.Prelude.{◌≡◌, ◌<◌, ◌==◌, ℕ, Err, List, OnOk, length, string_bytes};
 ghost use Rattle.apply_json.specs.Keeping.{IsOwnText};
 ghost use Rattle.apply_json.specs.Tokens.{IsNoValue};
 ghost use Rattle.apply_plan.specs.Script.Entry.{is_object_text, object_text};

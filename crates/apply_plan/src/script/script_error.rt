@@ -65,7 +65,7 @@ pub enum ScriptError {
 
 impl ScriptError {
     /// Why bytes are no script that gave no tree.
-    pub fn of_json(fault: JsonFault) -> ScriptError
+    pub(crate) fn of_json(fault: JsonFault) -> ScriptError
         ensures { result ≡ script_refusal fault }
     {
         match fault {

@@ -1,12 +1,11 @@
 //! How a step ends, its texts borrowed.
 
 ghost use Rattle.std.specs.Prelude.{◌≡◌, IfOk, option_map};
-ghost use Rattle.std.specs.Option.{option_copied};
 ghost use Rattle.apply_json.specs.Seen.{scalar_view};
-ghost use Rattle.apply_plan.specs.Script.Entry.{ending_from, says_nothing};
+ghost use Rattle.apply_plan.specs.Script.Entry.{says_nothing};
 ghost use Rattle.apply_plan.specs.Script.Members.{ending_held};
 ghost use Rattle.apply_model.specs.Script.Outcome.{is_failed, is_warned};
-ghost use Rattle.apply_plan.specs.Script.TreeView.{ending_view, failure_view};
+ghost use Rattle.apply_plan.specs.Script.TreeView.{ending_view};
 
 use crate::both_made::both_made;
 use crate::script::tree_diag::TreeDiag;

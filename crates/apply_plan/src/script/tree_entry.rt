@@ -1,6 +1,6 @@
 //! An entry of a script, whose texts are borrowed.
 
-ghost use Rattle.std.specs.Prelude.{◌≡◌, ◌<◌, ◌≤◌, Err, IfOk, OnOk, Some, length, map, option_map};
+ghost use Rattle.std.specs.Prelude.{◌≡◌, ◌<◌, ◌≤◌, Err, IfOk, OnOk, length, map, option_map};
 ghost use Rattle.std.specs.List.{enumerate_from, list_any, zip};
 ghost use Rattle.serde_json.specs.Data.{Data};
 ghost use Rattle.apply_json.specs.Keeping.{IsKeptRead};
