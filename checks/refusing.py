@@ -45,6 +45,26 @@ def checked_streams():
     return sorted(cases_with("input.jsonl") + cases_with("input.of"))
 
 
+def validations():
+    """What `validate` is tried on: the name, the words, the plan, and the folder in which they stand."""
+    top = f"{HERE}/../examples/validations"
+    for name in sorted(os.listdir(top)):
+        folder = f"{top}/{name}"
+        parts = {it: f"{folder}/{it}" for it in os.listdir(folder)}
+        words = ["validate"]
+        if "args.txt" in parts:
+            with open(parts["args.txt"]) as text:
+                words += text.read().splitlines()
+        if "script.json" in parts:
+            words += ["--script", "script.json"]
+        plan = parts.get("plan.json")
+        if "plan.of" in parts:
+            with open(parts["plan.of"]) as path:
+                plan = f"{HERE}/../examples/{path.read().strip()}"
+        with open(plan, "rb") as text:
+            yield f"validations/{name}", words, text.read(), folder
+
+
 def folder_of(name):
     """The folder of an example, in which the program runs: its arguments may name files there."""
     return f"{CASES}/{name}"

@@ -74,7 +74,7 @@ impl Claims {
     }
 
     /// Draws the next number that nobody has drawn, by a drawer of these claims. `None` where none is left, and from then
-    /// on for this drawer. It waits for nobody.
+    /// on for this drawer. It waits for nobody: whatever takes a lock takes a handle that may wait, and this takes none.
     pub fn draw(&self, drawer: &mut Drawer) -> Option<u32>
         requires { drawer.old.claims ≡ self.now }
 

@@ -33,6 +33,6 @@ pub enum What {
     },
     /// The provisioner of that number completes (`provision_complete`).
     ProvisionComplete(u8),
-    /// The provisioner of that number fails (`provision_errored`), and with it the step.
+    /// The provisioner of that number fails (`provision_errored`), and with it the step, unless the provisioner may fail.
     ProvisionErrored(u8),
 }

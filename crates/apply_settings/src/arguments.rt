@@ -31,29 +31,31 @@ static KINDS: [&str; 4] = ["create", "update", "delete", "read"];
 static FORMS: [&str; 2] = ["applystream", "terraform"];
 
 const ABOUT: &str =
-    "Writes the messages of `terraform apply -json` for a saved plan, without applying anything.
+    "Prints the messages that `terraform apply -json` would print for a saved plan. Nothing is applied.
 
-Standard input: the plan in JSON, as `terraform show -json PLANFILE` prints it, with at most 10000 changes and 67108864 bytes.
+Standard input: the plan, as `terraform show -json PLANFILE` prints it: at most 10,000 changes and 64 MiB.
 Standard output: the messages, one JSON object a line.
-Standard error: what went wrong, if anything did.
+Standard error: errors.
 
-`applystream check` says whether a stream that was written is whole: applystream check --help explains it.
-`applystream play` writes such a stream in its own time: applystream play --help explains it.
-`applystream view` draws such a stream, as a text or an SVG: applystream view --help explains it.
-`applystream validate` tells all that is wrong with a plan and a script: applystream validate --help explains it.";
+Tools for a stream of such messages, each with its own --help:
+  applystream check     reports whether a stream is whole
+  applystream view      draws a stream, as text or SVG
+  applystream play      writes a stream in its own time, or faster
+And for a plan and a script:
+  applystream validate  lists every error of both";
 
-const AFTER: &str = r#"Example, with two workers, a start, and no deletes:
-  terraform show -json tfplan | applystream --workers 2 --at 2024-05-01T12:00:00Z --halt-before delete
+const AFTER: &str = r#"Example, with ten changes at once, a start time and a script:
+  terraform show -json tfplan | applystream --parallelism 10 --at 2024-05-01T12:00:00Z --script script.json
 
-Example of a script, for --script: one step takes 12 seconds and tells an id, one fails after 4 seconds, all others are done at once:
+Example of a script: a takes 12 seconds and gets an id, b starts after a and fails after 4 seconds, every other step succeeds at once:
   {"changes":[{"address":"null_resource.a","steps":[{"seconds":12,"id":"7"}]},
-              {"address":"null_resource.b","steps":[{"seconds":4,"failed":{"summary":"boom"}}]}]}
+              {"address":"null_resource.b","steps":[{"seconds":4,"after":["null_resource.a"],"failed":{"summary":"boom"}}]}]}
 
 Exit status:
-  0  all messages were written, and no step failed or was halted; or help or the version was asked for
-  1  all messages were written, and some step failed or was halted; with --form terraform also where they tell an error of no step
+  0  all messages were written, and no step failed or was halted; or help or the version was printed
+  1  all messages were written, and a step failed or was halted; with --form terraform also where they report an error of no step
   2  the options, the plan or the script were refused or could not be read: no message was written
-  3  memory or a thread was refused, or the output could not be written: a part of the messages may have been written"#;
+  3  out of memory, no thread, or the output could not be written: some messages may have been written"#;
 
 /// Said behind the fault of a word that is no option: mostly it is the file of a plan.
 const PLAN_TIP: &str =
@@ -142,7 +144,7 @@ fn at<'a>(alloc: Global) -> Arg<'a>
     ensures { (rule_of result ≡ record (said.option_named (codes "at")) { defaults = codes "1970-01-01T00:00:00Z" ∷ [] }) × (result.global ≡ false) }
 {
     let help =
-        "When the first steps begin, in whole seconds: 1970-01-01T00:00:00Z to 8999-12-31T23:59:59Z, with any offset";
+        "When the first steps start, in whole seconds: 1970-01-01T00:00:00Z to 8999-12-31T23:59:59Z, with any offset";
     option_named(alloc, "at", "MOMENT", help).default_value("1970-01-01T00:00:00Z")
 }
 
@@ -150,14 +152,15 @@ fn script<'a>(alloc: Global) -> Arg<'a>
     ensures { (rule_of result ≡ said.option_named (codes "script")) × (result.global ≡ false) }
 {
     let help =
-        "A script in JSON, which says how many seconds each step takes, which fail and what each comes after, with at most 67108864 bytes. Without it each step is done at once";
+        "A JSON file that says how long each step takes, how it ends and what it waits for, at most 64 MiB. Without it every step succeeds at once";
     option_named(alloc, "script", "FILE", help)
 }
 
 fn workers<'a>(alloc: Global) -> Arg<'a>
     ensures { (rule_of result ≡ said.number_named (codes "workers") 8 (codes "1")) × (result.global ≡ false) }
 {
-    let help = "How many workers apply the changes at once, 1 to 8";
+    let help =
+        "How many threads apply the changes, 1 to 8. They race: the order between changes may differ from run to run";
     option_named(alloc, "workers", "N", help)
         .value_parser(value_parser!(u8).range(1..=8))
         .default_value("1")
@@ -178,7 +181,7 @@ fn destroy<'a>(alloc: Global) -> Arg<'a>
     Arg::new(alloc, "destroy")
         .long("destroy")
         .action(ArgAction::SetTrue)
-        .help("Says in the last message that the apply was a destroy")
+        .help("The summary is that of `terraform destroy`")
 }
 
 fn halt_before<'a>(alloc: Global) -> Arg<'a>
@@ -187,7 +190,7 @@ fn halt_before<'a>(alloc: Global) -> Arg<'a>
         × (result.global ≡ false) }
 {
     let help =
-        "Halts each step of this kind before it begins. May be given again: 32 halts at most";
+        "Stops every step of this kind before it starts, with a diagnostic, as a hook of Terraform can: to see how a reader takes a step that never starts. Repeatable, 32 halts at most";
     option_named(alloc, "halt-before", "KIND", help)
         .action(ArgAction::Append)
         .value_parser(KINDS.as_slice())
@@ -197,7 +200,7 @@ fn halt_in<'a>(alloc: Global) -> Arg<'a>
     ensures { (rule_of result ≡ said.list_named (codes "halt-in")) × (result.global ≡ false) }
 {
     let help =
-        "Halts each step whose address begins with PREFIX, as module.a, before it begins. May be given again: 32 halts at most";
+        "Stops every step whose address begins with PREFIX, as module.a, before it starts. Repeatable, 32 halts at most";
     option_named(alloc, "halt-in", "PREFIX", help).action(ArgAction::Append)
 }
 
@@ -205,7 +208,7 @@ fn parallelism<'a>(alloc: Global) -> Arg<'a>
     ensures { (rule_of result ≡ said.parallelism_rule) × (result.global ≡ false) }
 {
     let help =
-        "How many changes are under way at once in the stream's own time, as `terraform apply -parallelism=N` has it: the same input gives the same messages. Not together with --workers or --queue. 1 to 64";
+        "How many changes run at once in the stream's own time, 1 to 64, as with `terraform apply -parallelism=N`. The same input gives the same bytes. Not together with --workers or --queue";
     option_named(alloc, "parallelism", "N", help).value_parser(value_parser!(u8).range(1..=64))
 }
 
@@ -215,7 +218,7 @@ fn form<'a>(alloc: Global) -> Arg<'a>
         × (result.global ≡ false) }
 {
     let help =
-        "In which form the stream is written: applystream, or terraform for the bytes that Terraform 1.11 prints";
+        "The form of the messages: applystream, or terraform for the bytes of Terraform 1.11";
     option_named(alloc, "form", "FORM", help)
         .value_parser(FORMS.as_slice())
         .default_value("applystream")

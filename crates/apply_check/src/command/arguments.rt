@@ -16,17 +16,16 @@ use clap::{ArgMatches, Command};
 use std::alloc::{AllocError, Global};
 
 const ABOUT: &str =
-    "Says whether a stream of `terraform apply -json` is whole: each event of a step once, in its order, and totals that agree.
+    "Reports whether a stream of `terraform apply -json` is whole: each step starts and ends once, in order, and the totals agree.
 
-Standard input: the stream, one JSON object a line, where FILE is `-` or none is named. It is read to its end, so that
-no finding ends whoever writes it.
-Standard output: what was done, where the stream is whole; with --json the verdict, whether it is whole or not.
-Standard error: the first line that shows that it is not, and why; with --json only why there is no verdict.";
+Standard input: the stream, one JSON object a line, unless FILE is named. It is read to its end, so that the program that writes it is never stopped.
+Standard output: the totals of a whole stream; with --json the verdict.
+Standard error: the first line that is wrong, and why; with --json only why there is no verdict.";
 
 const AFTER: &str = r#"Example, while Terraform writes the stream:
   terraform apply -json tfplan | tee stream.jsonl | applystream check
 
-Example of the log of a job:
+Example of a job's log:
   applystream check --find job.log
 
 Example of a stream that was cut off:
@@ -34,18 +33,18 @@ Example of a stream that was cut off:
   applystream: line 4 comes before all has ended and each failure is explained: create of null_resource.a since line 2
 
 Exit status:
-  0  the stream is whole, and tells of no error; or help was asked for
-  1  the stream is whole, and tells of an error
-  2  the stream could not be checked: wrong arguments, or a file or a stream that can't be read
-  3  memory was refused, or the output could not be written
+  0  the stream is whole and reports no error; or help was printed
+  1  the stream is whole and reports an error
+  2  the stream was not checked: wrong options, or a file or a stream that can't be read
+  3  out of memory, or the output could not be written
   4  the stream is not whole"#;
 
-const JSON: &str = "Says the verdict as a JSON object, on standard output";
+const JSON: &str = "Print the verdict as a JSON object, on standard output";
 
-const FIND: &str = "Finds the messages in the lines of a log, and passes other lines over";
+const FIND: &str = "Find the messages in the lines of a log, and ignore the other lines";
 
 const PLAN: &str =
-    "Takes a stream of `terraform plan -json` too, which ends with the plan's summary";
+    "Accept a stream of `terraform plan -json` too, which ends with the plan's summary";
 
 /// The settings that the words behind `check` say. `Err` with `Usage::Help` where they ask for help, with
 /// `Usage::Words` where they are none of this command, and with `Usage::Memory` where memory is refused.

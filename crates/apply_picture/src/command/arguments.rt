@@ -29,22 +29,22 @@ const SVG_ROWS: u32 = 200;
 const WIDTH: u32 = 120;
 
 const ABOUT: &str =
-    "Draws where the time of an apply went: which steps ran when, beside what, and what failed.
+    "Draws where the time of an apply went: which steps ran when, which ran at once, and what failed.
 
-Standard input: the stream of `terraform apply -json`, whole or cut off, where FILE is `-` or none is named. It is read to its end.
-Standard output: the picture, as a text, or with --svg as one SVG.
-Standard error: what went wrong, if anything did.";
+Standard input: the stream of `terraform apply -json`, whole or cut off, unless FILE is named. It is read to its end.
+Standard output: the picture, as text, or as SVG with --svg.
+Standard error: errors.";
 
 const AFTER: &str = r#"Example:
   applystream view stream.jsonl
 
-Example of a picture to keep beside the stream:
+Example of a picture to keep with the stream:
   applystream view --svg stream.jsonl > stream.svg
 
 Exit status:
-  0  the picture was written; or help was asked for
-  2  wrong arguments, a file or a stream that can't be read, or one without a message
-  3  memory was refused, or the output could not be written"#;
+  0  the picture was written; or help was printed
+  2  wrong options, a file or a stream that can't be read, or a stream without a message
+  3  out of memory, or the output could not be written"#;
 
 /// The settings that the words behind `view` say. `Err` with `Usage::Help` where they ask for help, with `Usage::Words` where
 /// they are none of this command, and with `Usage::Memory` where memory is refused.
@@ -125,26 +125,26 @@ fn option<'a>(alloc: Global, name: &'a str, value: &'a str, help: &'a str) -> Ar
 fn svg<'a>(alloc: Global) -> Arg<'a>
     ensures { (rule_of result ≡ flag_rule (codes "svg")) × (result.global ≡ false) }
 {
-    flag(alloc, "svg", "Draws an SVG in place of a text")
+    flag(alloc, "svg", "Draw an SVG in place of text")
 }
 
 fn all<'a>(alloc: Global) -> Arg<'a>
     ensures { (rule_of result ≡ flag_rule (codes "all")) × (result.global ≡ false) }
 {
-    flag(alloc, "all", "Every step gets a row")
+    flag(alloc, "all", "Give every step a row")
 }
 
 fn rows<'a>(alloc: Global) -> Arg<'a>
     ensures { (rule_of result ≡ number_named (codes "rows") 1 100000) × (result.global ≡ false) }
 {
-    let help = "At most so many steps get a row, 1 to 100000; without it 40, with --svg 200";
+    let help = "The most steps that get a row, 1 to 100000 [default: 40, with --svg 200]";
     option(alloc, "rows", "N", help).value_parser(value_parser!(u32).range(1..=100000))
 }
 
 fn width<'a>(alloc: Global) -> Arg<'a>
     ensures { (rule_of result ≡ width_rule) × (result.global ≡ false) }
 {
-    let help = "How many columns the text has, 60 to 400";
+    let help = "The width of the text in columns, 60 to 400";
     option(alloc, "width", "N", help)
         .value_parser(value_parser!(u32).range(60..=400))
         .default_value("120")
@@ -153,8 +153,7 @@ fn width<'a>(alloc: Global) -> Arg<'a>
 fn color<'a>(alloc: Global) -> Arg<'a>
     ensures { (colours : _) × TakesColours colours × (rule_of result ≡ colour_rule colours) × (result.global ≡ false) }
 {
-    let help =
-        "When the text has colours; auto is where it goes to a terminal and NO_COLOR is absent or empty";
+    let help = "When the text has colours; auto: on a terminal, unless NO_COLOR has a value";
     option(alloc, "color", "WHEN", help)
         .value_parser(COLOURS.as_slice())
         .default_value("auto")

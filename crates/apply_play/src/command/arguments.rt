@@ -14,11 +14,11 @@ use clap::{Arg, ArgMatches, Command, value_parser};
 use std::alloc::{AllocError, Global};
 
 const ABOUT: &str =
-    "Writes a stream of `terraform apply -json` line by line as it stands, each line when its time has come.
+    "Writes a stream of `terraform apply -json` line by line, unchanged, each line at its own time.
 
-Standard input: the stream, where FILE is `-` or none is named. It is read to its end, so that no fault ends whoever writes it.
+Standard input: the stream, unless FILE is named. It is read to its end, so that the program that writes it is never stopped.
 Standard output: the same bytes.
-Standard error: what went wrong, if anything did.";
+Standard error: errors.";
 
 const AFTER: &str = r#"Example of a stream in its own time:
   applystream --parallelism 10 --script script.json < plan.json | applystream play | my-dashboard
@@ -27,9 +27,9 @@ Example of an hour in a minute:
   applystream play --speed 60 stream.jsonl | my-dashboard
 
 Exit status:
-  0  the whole stream was written; or help was asked for
-  2  wrong arguments, or a file or a stream that can't be read, or a line that is too long
-  3  memory was refused, or the output could not be written"#;
+  0  the whole stream was written; or help was printed
+  2  wrong options, a file or a stream that can't be read, or a line that is too long
+  3  out of memory, or the output could not be written"#;
 
 /// The settings that the words behind `play` say. `Err` with `Usage::Help` where they ask for help, with `Usage::Words` where
 /// they are none of this command, and with `Usage::Memory` where memory is refused.
@@ -65,7 +65,7 @@ fn speed<'a>(alloc: Global) -> Arg<'a>
         .value_name("N")
         .value_parser(value_parser!(u32).range(1..=86400))
         .default_value("1")
-        .help("So many times as fast, 1 to 86400")
+        .help("How many times as fast, 1 to 86400")
 }
 
 /// What the matches say.

@@ -16,20 +16,20 @@ use std::alloc::{AllocError, Global};
 static FORMS: [&str; 2] = ["applystream", "terraform"];
 
 const ABOUT: &str =
-    "Says every fault of a plan and of a script at once, each with its place as jq takes it.
+    "Lists every error of a plan and a script at once, each with its place in the syntax of jq.
 
 Standard input: the plan, as `terraform show -json` prints it.
-Standard output: the findings, one a line, the first 1,000 of them; or that all is accepted.
+Standard output: the findings, one a line, the first 1,000 of them; or that both are accepted.
 Standard error: why nothing was validated.";
 
 const AFTER: &str = r#"Example:
   applystream validate --script script.json < plan.json
 
 Exit status:
-  0  nothing was found; or help was asked for
-  1  warnings alone: members of the script that no run reads
-  2  a run with these options refuses the plan or the script; or wrong arguments, or a file or a plan that can't be read
-  3  memory was refused, or the output could not be written"#;
+  0  nothing was found; or help was printed
+  1  only warnings: members of the script that no run reads
+  2  a run with these options refuses the plan or the script; or wrong options, or a file or a plan that can't be read
+  3  out of memory, or the output could not be written"#;
 
 /// The settings that the words behind `validate` say. `Err` with `Usage::Help` where they ask for help, with `Usage::Words`
 /// where they are none of this command, and with `Usage::Memory` where memory is refused.
@@ -65,7 +65,7 @@ fn script<'a>(alloc: Global) -> Arg<'a>
     Arg::new(alloc, "script")
         .long("script")
         .value_name("FILE")
-        .help("The script of the run")
+        .help("The script to validate with the plan")
 }
 
 fn parallelism<'a>(alloc: Global) -> Arg<'a>
@@ -76,7 +76,7 @@ fn parallelism<'a>(alloc: Global) -> Arg<'a>
         .value_name("N")
         .value_parser(value_parser!(u8).range(1..=64))
         .help(
-            "The run has so many changes under way at once, 1 to 64; without it no step of a script may wait for others",
+            "Validate for a run with --parallelism N, 1 to 64. Without it no step of a script may wait for others",
         )
 }
 
@@ -89,7 +89,7 @@ fn form<'a>(alloc: Global) -> Arg<'a>
         .value_parser(FORMS.as_slice())
         .default_value("applystream")
         .help(
-            "The form of the run's stream: applystream, or terraform, which reads `outputs` and `diagnostics` at the top of the script too",
+            "Validate for a run with this form: terraform also reads `outputs` and `diagnostics` at the top of the script",
         )
 }
 
