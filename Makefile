@@ -1,8 +1,8 @@
 # Proves and builds the program out of the crates that crates.txt lists, each over what those below it state.
-#   make                          the program with its tools, out/applystream; after a failure it goes on with what is left
-#   make out/applystream_alone    the same without the tools, which needs fewer crates: what ./applystream builds first, by Rattle's own compiler, the quicker one
-#   make install PREFIX=/usr/local    the program, its man pages and completions
-#   make static · make deb        it without need of a C library; a Debian package
+#   make                          out/applystream; after a failure it goes on with what is left
+#   make install PREFIX=/usr/local    the program, its man pages, completions, and the stand-in for Terraform
+#   make static                   out/applystream-static, which needs no C library
+#   make deb · make dist          a Debian package; an archive to publish, with SHA256SUMS
 #   make check                    the gate: every proof, edit, test and script
 #   make clean                    forgets all of it
 SHELL := bash
@@ -18,14 +18,16 @@ uses = $(shell sed -n 's/^$(1)\( [^:]*\)\{0,1\}: *//p' crates.txt)
 below = $(filter $(OWN),$(call uses,$(1)))
 needs = $(sort $(1) $(foreach crate,$(call below,$(1)),$(call needs,$(crate))))
 files = $(shell find crates/$(1)/src crates/$(1)/specs crates/$(1)/proofs -type f ! -path '*/src/tests*' 2>/dev/null)
-CRATES := $(call needs,applystream) applystream_alone
-# What the longest chain of crates does not wait for is proved beside it, and what only tools are made of steps back.
+CRATES := $(call needs,applystream)
+# What the longest chain of crates does not wait for is proved next to it, and what only tools are made of steps back.
 BESIDE := apply_json apply_trees apply_beginning apply_objects apply_outputs apply_bus apply_settings apply_writer apply_collector
 ASIDE := apply_shown apply_fitting apply_lines apply_words apply_check apply_play apply_view apply_picture apply_validate apply_validate_command
 above = $(foreach it,$(CRATES),$(if $(filter $(1),$(call needs,$(it))),$(it)))
-left = $$(for crate in $(if $(filter %_alone,$(MAKECMDGOALS)),$(filter-out $(ASIDE) applystream,$(CRATES)),$(filter-out %_alone,$(CRATES))); do [ -e $(LIBS)/$$crate.stamp ] || echo $$crate; done)
+left = $$(for crate in $(CRATES); do [ -e $(LIBS)/$$crate.stamp ] || echo $$crate; done)
+# A prover ends with the make that started it.
+ends_with_make = trap 'kill -- -$$! 2>/dev/null' INT TERM HUP; setsid $(1) & wait $$!
 
-out/applystream out/applystream_alone: out/%: $(LIBS)/%.stamp
+out/applystream: out/%: $(LIBS)/%.stamp
 	@$(KIT)/bin/rattle-link --target x86_64-unknown-linux-gnu --toolchain $(KIT)/toolchain -o $@.new \
 	  $@.o $(KIT)/c/libos_c.a $(KIT)/c/liblibc_c.a >$@.link.log 2>&1 || { cat $@.link.log >&2; false; }
 	@mv $@.new $@
@@ -33,25 +35,25 @@ out/applystream out/applystream_alone: out/%: $(LIBS)/%.stamp
 $(LIBS)/%.stamp: out/toolchain
 	@mkdir -p $(LIBS) out; rm -f $(patsubst %,$(LIBS)/%.stamp,$(call above,$*))
 	@echo "applystream: proving $*; left:" $(left) >&2
-	@cd crates/$* && nice -n $(if $(filter $*,$(ASIDE)),19,$(if $(filter $*,$(BESIDE)),5,0)) $(KIT)/bin/rattle build --crate-name $* --jobs $(if $(filter $*,$(BESIDE)),$$((($(JOBS) + 1) / 2)),$(JOBS)) -L dependency=$(KIT)/rlibs -L dependency=$(LIBS) \
+	@cd crates/$* && { $(call ends_with_make,nice -n $(if $(filter $*,$(ASIDE)),19,$(if $(filter $*,$(BESIDE)),5,0)) $(KIT)/bin/rattle build --crate-name $* --jobs $(if $(filter $*,$(BESIDE)),$$((($(JOBS) + 1) / 2)),$(JOBS)) -L dependency=$(KIT)/rlibs -L dependency=$(LIBS) \
 	  --antt-project $(KIT)/rattle/logic/antt-project.json --logic-built $(KIT)/logic_built \
 	  $(foreach it,std $(call uses,$*),--extern $(it)=$(if $(filter $(it),$(OWN)),$(LIBS),$(KIT)/rlibs)/$(it).rlib) \
-	  $(if $(filter applystream%,$*),src/main.rt --toolchain $(KIT)/toolchain --backend $(if $(filter %_alone,$*),rattle,llvm) -o $(CURDIR)/out/$*.o,src/lib.rt --statements -o $(LIBS)/$*.rlib) \
-	  </dev/null >$(CURDIR)/out/$*.log 2>&1 || { echo "applystream: $* was not proved or not built; out/$*.log says why" >&2; false; }
+	  $(if $(filter applystream,$*),src/main.rt --toolchain $(KIT)/toolchain --backend llvm -o $(CURDIR)/out/$*.o,src/lib.rt --statements -o $(LIBS)/$*.rlib) \
+	  </dev/null >$(CURDIR)/out/$*.log 2>&1); } || { echo "applystream: $* was not proved or not built; out/$*.log says why" >&2; false; }
 	@touch $@
 $(foreach crate,$(CRATES),$(eval $(LIBS)/$(crate).stamp: $(call files,$(crate)) $(patsubst %,$(LIBS)/%.stamp,$(call below,$(crate)))))
 
-# What another toolchain made is made anew.
+# Two makes never build over each other, and what another toolchain made is made anew.
 out/toolchain: FORCE
-	@mkdir -p out; version=$$(rt version) && { [ "$$version" = "$$(cat $@ 2>/dev/null)" ] || { rm -f $(LIBS)/*.stamp; echo "$$version" >$@; }; }
-install: out/applystream
-	packaging/install $(DESTDIR)$(PREFIX)
-static: out/applystream
-	cc -static -o out/applystream-static out/applystream.o $(KIT)/c/libos_c.a $(KIT)/c/liblibc_c.a
-deb: out/applystream
-	packaging/deb
+	@mkdir -p out; other=$$(cat out/make.pid 2>/dev/null); [ "$$(cat /proc/$$other/comm 2>/dev/null)" != make ] || [ $$other = $$PPID ] || { echo "applystream: make is at work here already, as process $$other" >&2; false; }
+	@echo $$PPID >out/make.pid
+	@version=$$(rt version) && { [ "$$version" = "$$(cat $@ 2>/dev/null)" ] || { rm -f $(LIBS)/*.stamp; echo "$$version" >$@; }; }
+install: out/applystream; packaging/install $(DESTDIR)$(PREFIX)
+static: out/applystream; cc -static -o out/applystream-static out/applystream.o $(KIT)/c/libos_c.a $(KIT)/c/liblibc_c.a
+deb: out/applystream; packaging/deb
+dist: static deb; packaging/dist
 check:; ./check
 clean:; rm -rf out crates/*/out
 FORCE:
-.PHONY: FORCE install static deb check clean
+.PHONY: FORCE install static deb dist check clean
 .DELETE_ON_ERROR:
