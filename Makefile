@@ -25,7 +25,7 @@ ASIDE := apply_shown apply_fitting apply_lines apply_words apply_check apply_pla
 above = $(foreach it,$(CRATES),$(if $(filter $(1),$(call needs,$(it))),$(it)))
 left = $$(for crate in $(CRATES); do [ -e $(LIBS)/$$crate.stamp ] || echo $$crate; done)
 # A prover ends with the make that started it.
-ends_with_make = set -m; trap 'kill -- -$$! 2>/dev/null' INT TERM HUP; $(1) & wait $$!
+ends_with_make = set -m; trap 'kill -- -$$! 2>/dev/null' INT TERM HUP; $(1) & set +m; wait $$!
 
 out/applystream: out/%: $(LIBS)/%.stamp
 	@$(KIT)/bin/rattle-link --target x86_64-unknown-linux-gnu --toolchain $(KIT)/toolchain -o $@.new \
