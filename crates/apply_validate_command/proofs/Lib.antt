@@ -1,1 +1,4 @@
+pub mod LineCounts
+pub mod Outcomes
 pub mod Parsed
+pub mod Written

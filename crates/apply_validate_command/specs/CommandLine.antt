@@ -1,5 +1,5 @@
 -- What the words behind `validate` say: the options that there are, as `clap` takes them, and which of them gives which setting.
-use Rattle.std.specs.Prelude.{◌≡◌, ◌⊎◌, List, [], ◌∷◌, Option, Some, true, codes, if◌then◌else◌, is_some, option_map, pos, string_bytes}
+use Rattle.std.specs.Prelude.{◌≡◌, ◌⊎◌, List, [], ◌∷◌, Option, Some, true, codes, if◌then◌else◌, IsSome, is_some, option_map, pos, string_bytes}
 use Rattle.std.specs.Borrow.{Bor}
 use Rattle.std.specs.Option.{option_map_or}
 use Rattle.std.specs.Str.{bytes_eq}
@@ -60,6 +60,10 @@ command_line forms = record {
 abbrev pub ByCommand : (App → Type 0) → Type 0
 ByCommand IsSo = (forms : ValueParser) × TakesForms forms × IsSo (command_line forms)
 
+-- so it is by the command, whatever holds the words for forms that its option takes
+abbrev pub ByEachCommand : (App → Type 0) → Type 0
+ByEachCommand IsSo = (forms : ValueParser) → TakesForms forms → IsSo (command_line forms)
+
 -- ---- what they say
 
 abbrev pub form_of_word : Text → Form
@@ -81,6 +85,12 @@ pub record HaveSaid (words : List Text) (settings : Settings) : Type 0 where
   pub are_forms : TakesForms forms
   pub taken : fault_of (command_line forms) words ≡ []
   pub said : AreSaid (matches_of (command_line forms) words) settings
+
+-- they name a script
+pub record NameAScript (words : List Text) : Type 0 where
+  pub settings : Settings
+  pub said : HaveSaid words settings
+  pub named : IsSome settings.script
 
 -- ---- why they are refused
 

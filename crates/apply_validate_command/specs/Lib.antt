@@ -1,3 +1,5 @@
+pub mod Causes
 pub mod CommandLine
+pub mod Lines
 pub mod Statuses
 pub mod Validated

@@ -2,7 +2,13 @@
 
 pub mod arguments;
 pub mod entry_points;
+pub mod failed_read;
+pub mod followed;
 pub mod inputs;
+pub mod outcome;
 pub mod read_input;
+pub mod refusals;
 pub mod settings;
 pub mod telling;
+pub mod validate_fault;
+pub mod writing;

@@ -7,6 +7,10 @@ mod texts;
 
 pub use command::arguments::read_words;
 pub use command::entry_points::{follow, validate};
+pub use command::failed_read::FailedRead;
+pub use command::followed::Followed;
+pub use command::outcome::Outcome;
 pub use command::settings::Settings;
 pub use command::telling::found_text;
+pub use command::validate_fault::ValidateFault;
 pub use lens::Lens;

@@ -1,5 +1,8 @@
-//! What no clause says: that each call answers, and which exit status follows. Rows over the built program have the texts
-//! (`examples/findings`).
+//! What no clause says: that each call answers, and which exit status follows; readers and writers that fail. Rows over the
+//! built program have the texts (`examples/findings`).
+
+mod failing;
+mod streams;
 
 use apply_validate::{
     Form, Name, findings_of, findings_of_plan, findings_of_script, known_names, nearest,
@@ -59,7 +62,7 @@ fn ends_with(rt: &impl Abort, alloc: Global, plan: &str, script: Option<&str>, s
     let mut out = Vec::new(alloc);
     let mut faults = Vec::new(alloc);
     let plan = plan.as_bytes();
-    let found = validate(
+    let outcome = validate(
         alloc,
         Form::Applystream,
         false,
@@ -69,7 +72,7 @@ fn ends_with(rt: &impl Abort, alloc: Global, plan: &str, script: Option<&str>, s
         &mut out,
         &mut faults,
     );
-    assert_eq!(rt; found, status);
+    assert_eq!(rt; outcome.status, status);
     assert!(rt; faults.is_empty());
 }
 

@@ -116,14 +116,15 @@ fn view_stream(rt: &HostRuntime, words: &[String]) -> u8 {
 fn validate(rt: &HostRuntime, words: &[String]) -> u8 {
     let words = words.get(2..).unwrap_or(&[]);
     let text = rt.stdin().is_terminal().then_some(NO_PLAN);
-    apply_validate_command::follow(
+    let followed = apply_validate_command::follow(
         rt,
         rt.alloc(),
         words,
         &mut Awaited::new(rt.reader(), rt.stderr(), text),
         &mut rt.stdout(),
         &mut rt.stderr(),
-    )
+    );
+    followed.status
 }
 
 /// Whether `NO_COLOR` is absent or empty.

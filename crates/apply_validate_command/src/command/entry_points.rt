@@ -1,21 +1,31 @@
 //! The command `validate`, from its arguments to its exit status, over any files and streams.
 
-ghost use Rattle.std.specs.Prelude.{◌≡◌, ◌≤◌, ◌⊎◌, IfOk, OnOk, map, option_map, string_bytes};
-ghost use Rattle.std.specs.Io.KnownBytes.{Appends};
+ghost use Rattle.std.specs.Prelude.{◌≡◌, ◌≤◌, ◌⊎◌, ◌∷◌, [], Err, IfOk, IfSome, IsSome, None, Ok, OnErr, Some, map, option_map, string_bytes};
+ghost use Rattle.std.specs.Io.KnownBytes.{Keeps};
 ghost use Rattle.std.specs.Option.{option_copied};
-ghost use Rattle.apply_validate_command.specs.Statuses.{status_by, status_for};
-ghost use Rattle.apply_validate_command.specs.Validated.{IsScriptOf, IsToldOf, WasNotValidated, WasValidated};
+ghost use Rattle.clap.specs.Faults.{fault_of};
+ghost use Rattle.clap.specs.declared.error.kind.ErrorKind.TheVariants.{DisplayHelp};
+ghost use Rattle.apply_validate_command.specs.CommandLine.{ByEachCommand};
+ghost use Rattle.apply_validate_command.specs.Statuses.{status_by};
+ghost use Rattle.apply_validate_command.specs.Validated.{HasCome, HasOutcome, IsScriptOf, IsScriptRefused, WasNotValidated, WasTold, WasValidated};
+ghost use Rattle.apply_validate_command.specs.declared.command.validate_fault.ValidateFault.TheVariants.{Gone};
 
 use crate::command::arguments::read_words;
-use crate::command::inputs::{InputFault, read_all, read_script_file};
+use crate::command::followed::Followed;
+use crate::command::inputs::{ScriptFault, read_all};
+use crate::command::outcome::Outcome;
 use crate::command::read_input::ReadInput;
+use crate::command::refusals::refuse;
 use crate::command::settings::Settings;
 use crate::command::telling::found_text;
+use crate::command::validate_fault::ValidateFault;
+use crate::command::writing::write_whole;
 use crate::lens::Lens;
 use apply_validate::{Form, Found, findings_of};
-use apply_words::{FAILED, REFUSED, answer_usage, refuse_memory, report};
+use apply_words::{REFUSED, answer_usage, report};
 use std::alloc::Global;
-use std::io::{self, ErrorKind, Read, Write};
+use std::fs;
+use std::io::{Read, Write};
 use std::rt::Files;
 
 /// The exit status where something is found, but nothing for which a run refuses.
@@ -24,7 +34,7 @@ const WARNED: u8 = 1;
 /// Does what the words behind `validate` say, and answers the exit status: 0 where nothing was found, or help was asked for, 1
 /// where no run reads some member of the script and that is all, 2 where a run with these options refuses the plan or the
 /// script, and where the words are none of the command or an input could not be read, and 3 where memory was refused or `out`
-/// could not be written, which is said unless its reader is gone.
+/// could not be written, which is said unless its reader is gone. A text for `faults` that cannot be written is dropped.
 pub fn follow<F: Files, R: Read, W: Write, E: Write>(
     files: &F,
     alloc: Global,
@@ -32,24 +42,51 @@ pub fn follow<F: Files, R: Read, W: Write, E: Write>(
     input: &mut R,
     out: &mut W,
     faults: &mut E,
-) -> u8
-    ensures validated { WasValidated F.File.remaining (map string_bytes words.now) (R.remaining input.old) (W.contents out.old) (W.contents out.new) result
-        ⊎ WasNotValidated (map string_bytes words.now) (W.contents out.old) (W.contents out.new) result }
-    ensures statuses { result ≤ 3 }
+) -> Followed
+    ensures validated { IfSome result.answer (WasValidated F.File.remaining (map string_bytes words.now) (R.remaining input.old)
+        (W.contents out.old) (W.contents out.new) result.status) }
+    ensures unvalidated { result.answer ≡ None
+        → WasNotValidated (map string_bytes words.now) (W.contents out.old) (W.contents out.new) result.status }
+    ensures help { ByEachCommand (λ app. fault_of app (map string_bytes words.now) ≡ DisplayHelp ∷ [])
+        → (result.status ≡ 0) ⊎ (result.status ≡ 3) }
+    ensures quiet { result.status ≤ 1 → Keeps (E.contents faults.old) (E.contents faults.new) }
+    ensures found { result.answer ≡ Some (Ok tt) → Keeps (E.contents faults.old) (E.contents faults.new) }
+    ensures gone { result.answer ≡ Some (Err Gone) → Keeps (E.contents faults.old) (E.contents faults.new) }
+    ensures statuses { result.status ≤ 3 }
 {
-    let settings = match read_words(alloc, words) {
-        Ok(settings) => settings,
-        Err(usage) => return answer_usage(&usage, out, faults),
-    };
-    let script = match read_script(files, alloc, &settings) {
+    match read_words(alloc, words) {
+        Ok(settings) => follow_settings(files, alloc, &settings, input, out, faults),
+        Err(usage) => Followed::without_answer(answer_usage(&usage, out, faults)),
+    }
+}
+
+/// The same where the words say these settings.
+fn follow_settings<F: Files, R: Read, W: Write, E: Write>(
+    files: &F,
+    alloc: Global,
+    settings: &Settings,
+    input: &mut R,
+    out: &mut W,
+    faults: &mut E,
+) -> Followed
+    ensures came { IfSome result.answer (HasCome F.File.remaining settings.now (R.remaining input.old)
+        (W.contents out.old) (W.contents out.new) result.status) }
+    ensures unopened { result.answer ≡ None → IsSome settings.now.script × (result.status ≡ 2)
+        × Keeps (W.contents out.old) (W.contents out.new) }
+    ensures quiet { result.status ≤ 1 → Keeps (E.contents faults.old) (E.contents faults.new) }
+    ensures found { result.answer ≡ Some (Ok tt) → Keeps (E.contents faults.old) (E.contents faults.new) }
+    ensures gone { result.answer ≡ Some (Err Gone) → Keeps (E.contents faults.old) (E.contents faults.new) }
+    ensures statuses { result.status ≤ 3 }
+{
+    let script = match read_script(files, alloc, settings) {
         Ok(script) => script,
-        Err(fault) => return refuse(faults, fault),
+        Err(fault) => return refuse_script(faults, fault),
     };
-    match read_all(alloc, input, InputFault::Plan) {
+    match read_all(alloc, input) {
         Ok(plan) => {
             let lens = lens_of(&plan, &script);
             let script = bytes_of(&script);
-            validate(
+            let outcome = validate(
                 alloc,
                 settings.form,
                 settings.lanes,
@@ -58,9 +95,16 @@ pub fn follow<F: Files, R: Read, W: Write, E: Write>(
                 lens,
                 out,
                 faults,
-            )
+            );
+            Followed::with_answer(outcome)
         }
-        Err(fault) => refuse(faults, fault),
+        Err(fault) => {
+            let fault = ValidateFault::of_plan(fault);
+            Followed::with_answer(Outcome {
+                status: refuse(faults, fault),
+                answer: Err(fault),
+            })
+        }
     }
 }
 
@@ -69,12 +113,38 @@ fn read_script<F: Files>(
     files: &F,
     alloc: Global,
     settings: &Settings,
-) -> Result<Option<ReadInput>, InputFault>
-    ensures { IfOk result (λ script. IsScriptOf F.File.remaining settings.now.script (option_map (λ read. read.bytes.items) script)) }
+) -> Result<Option<ReadInput>, ScriptFault>
+    ensures read { IfOk result (λ script. IsScriptOf F.File.remaining settings.now.script (option_map (λ read. read.bytes.items) script)) }
+    ensures named { OnErr result (IsSome settings.now.script) }
 {
-    match &settings.script {
-        Some(name) => Ok(Some(read_script_file(files, alloc, name.as_str())?)),
-        None => Ok(None),
+    let Some(name) = &settings.script else {
+        return Ok(None);
+    };
+    match fs::open(files, name.as_str()) {
+        Ok(mut file) => match read_all(alloc, &mut file) {
+            Ok(script) => Ok(Some(script)),
+            Err(fault) => Err(ScriptFault::Unread(fault)),
+        },
+        Err(_) => Err(ScriptFault::Unopened),
+    }
+}
+
+/// Says why the script was not read, and answers so.
+fn refuse_script<E: Write>(faults: &mut E, fault: ScriptFault) -> Followed
+    ensures { IsScriptRefused fault result }
+{
+    match fault {
+        ScriptFault::Unread(fault) => {
+            let fault = ValidateFault::of_script(fault);
+            Followed::with_answer(Outcome {
+                status: refuse(faults, fault),
+                answer: Err(fault),
+            })
+        }
+        ScriptFault::Unopened => {
+            report(faults, "the script file could not be read");
+            Followed::without_answer(REFUSED)
+        }
     }
 }
 
@@ -100,21 +170,10 @@ fn lens_of(plan: &ReadInput, script: &Option<ReadInput>) -> Lens {
     }
 }
 
-/// Says why nothing was validated, and answers the exit status.
-fn refuse<E: Write>(faults: &mut E, fault: InputFault) -> u8
-    ensures { (result ≡ 2) ⊎ (result ≡ 3) }
-{
-    report(faults, fault);
-    match fault {
-        InputFault::Memory => FAILED,
-        _ => REFUSED,
-    }
-}
-
 /// Says what is found in the bytes of a plan, and in those of a script for it, where one is given, and answers the exit status: 2
 /// where something is found for which a run refuses, 1 where only warnings are, 0 where nothing is; but 3 where memory was refused
-/// or `out` could not be written. The run writes its stream in that form; `lanes` says that it has `--parallelism`. The inputs have
-/// `lens` bytes, of which what is given is all, or more than they may have.
+/// or `out` could not be written, which is said unless its reader is gone. The run writes its stream in that form; `lanes` says that
+/// it has `--parallelism`. The inputs have `lens` bytes, of which what is given is all, or more than they may have.
 pub fn validate<W: Write, E: Write>(
     alloc: Global,
     form: Form,
@@ -124,30 +183,48 @@ pub fn validate<W: Write, E: Write>(
     lens: Lens,
     out: &mut W,
     faults: &mut E,
-) -> u8
-    ensures { (IsToldOf form lanes plan.now (option_copied script.entry) (W.contents out.old) (W.contents out.new)
-        × (result ≡ status_for form lanes plan.now (option_copied script.entry))) ⊎ (result ≡ 3) }
+) -> Outcome
+    ensures came { HasOutcome form lanes plan.now (option_copied script.entry) (W.contents out.old) (W.contents out.new) result.status result.answer }
+    ensures quiet { result.status ≤ 1 → Keeps (E.contents faults.old) (E.contents faults.new) }
+    ensures found { result.answer ≡ Ok tt → Keeps (E.contents faults.old) (E.contents faults.new) }
+    ensures gone { result.answer ≡ Err Gone → Keeps (E.contents faults.old) (E.contents faults.new) }
+    ensures statuses { result.status ≤ 3 }
 {
-    let Ok(found) = findings_of(alloc, plan, script, lanes, form) else {
-        return refuse_memory(faults);
-    };
-    let Ok(text) = found_text(alloc, &found, plan, script, lens) else {
-        return refuse_memory(faults);
-    };
-    match write_whole(out, text.as_str()) {
-        Ok(()) => status_of(&found),
-        Err(error) => {
-            if error.kind() != ErrorKind::BrokenPipe {
-                report(faults, "the output could not be written");
-            }
-            FAILED
-        }
+    match tell(alloc, form, lanes, plan, script, lens, out) {
+        Ok(status) => Outcome {
+            status,
+            answer: Ok(()),
+        },
+        Err(fault) => Outcome {
+            status: refuse(faults, fault),
+            answer: Err(fault),
+        },
     }
+}
+
+/// Writes what is found, and answers the exit status for it.
+fn tell<W: Write>(
+    alloc: Global,
+    form: Form,
+    lanes: bool,
+    plan: &[u8],
+    script: Option<&[u8]>,
+    lens: Lens,
+    out: &mut W,
+) -> Result<u8, ValidateFault>
+    ensures told { WasTold form lanes plan.now (option_copied script.entry) (W.contents out.old) (W.contents out.new) result }
+    ensures statuses { IfOk result (λ status. status ≤ 2) }
+{
+    let found = findings_of(alloc, plan, script, lanes, form)?;
+    let text = found_text(alloc, &found, plan, script, lens)?;
+    write_whole(out, text.as_str().as_bytes())?;
+    Ok(status_of(&found))
 }
 
 /// The exit status for what is found.
 fn status_of(found: &Found) -> u8
-    ensures { result ≡ status_by found.now.plan found.now.script }
+    ensures by_findings { result ≡ status_by found.now.plan found.now.script }
+    ensures statuses { result ≤ 2 }
 {
     if found.plan.refuses() || found.script.refuses() {
         REFUSED
@@ -156,12 +233,4 @@ fn status_of(found: &Found) -> u8
     } else {
         0
     }
-}
-
-/// Writes the text, and flushes.
-fn write_whole<W: Write>(out: &mut W, text: &str) -> io::Result<()>
-    ensures { OnOk result (Appends (W.contents out.old) (W.contents out.new) text.now) }
-{
-    out.write_all(text.as_bytes())?;
-    out.flush()
 }

@@ -4,13 +4,11 @@ ghost use Rattle.std.specs.Prelude.{◌≡◌, ◌<◌, ◌≤◌, ◌+◌, ◌+
 ghost use Rattle.std.specs.Io.KnownBytes.{Consumes, IsAtEnd};
 ghost use Rattle.apply_validate_command.specs.Validated.{IsReadOf};
 
+use crate::command::failed_read::{FailedRead, read_once};
 use crate::command::read_input::ReadInput;
 use apply_plan::MAX_BYTES;
 use std::alloc::{AllocError, AllocFailed, Global};
-use std::fs;
 use std::io::Read;
-use std::rt::Files;
-use thiserror::Error;
 
 /// One byte more than an input may have, so that a longer one is seen to be too long.
 const MAX_READ: usize = MAX_BYTES + 1;
@@ -19,75 +17,62 @@ const MAX_READ: usize = MAX_BYTES + 1;
 const BUFFER_LEN: usize = 65_536;
 
 /// Why an input was not read.
-#[derive(Clone, Copy, Debug, Drop, Error)]
-pub enum InputFault {
-    /// A read of the plan failed.
-    #[error("the plan could not be read")]
-    Plan,
-    /// The file of the script could not be opened or read.
-    #[error("the script file could not be read")]
-    Script,
+#[derive(Clone, Copy)]
+pub enum ReadFault {
+    /// A read failed.
+    Unread(FailedRead),
     /// Memory was refused.
-    #[error("out of memory")]
     Memory,
 }
 
-impl From<AllocError> for InputFault {
-    fn from(_refused: AllocError) -> InputFault {
-        InputFault::Memory
+impl From<FailedRead> for ReadFault {
+    fn from(failed: FailedRead) -> ReadFault {
+        ReadFault::Unread(failed)
     }
 }
 
-impl<T: Drop> From<AllocFailed<T>> for InputFault {
-    fn from(_refused: AllocFailed<T>) -> InputFault {
-        InputFault::Memory
+impl From<AllocError> for ReadFault {
+    fn from(_refused: AllocError) -> ReadFault {
+        ReadFault::Memory
     }
 }
 
-/// What is read of a script's file.
-pub fn read_script_file<F: Files>(
-    files: &F,
-    alloc: Global,
-    name: &str,
-) -> Result<ReadInput, InputFault>
-    ensures { IfOk result (λ read. (file : _) × IsReadOf (F.File.remaining file) read.bytes.items) }
-{
-    match fs::open(files, name) {
-        Ok(mut file) => read_all(alloc, &mut file, InputFault::Script),
-        Err(_) => Err(InputFault::Script),
+impl<T: Drop> From<AllocFailed<T>> for ReadFault {
+    fn from(_refused: AllocFailed<T>) -> ReadFault {
+        ReadFault::Memory
     }
 }
 
-/// The bytes of an input up to its end, and no more than one more than it may have. `Err` with that fault where a read fails, and
-/// with `InputFault::Memory` where memory is refused.
-pub fn read_all<R: Read>(
-    alloc: Global,
-    input: &mut R,
-    fault: InputFault,
-) -> Result<ReadInput, InputFault>
+/// Why the script was not read.
+#[derive(Clone, Copy)]
+pub enum ScriptFault {
+    /// Its file could not be opened.
+    Unopened,
+    /// It could not be read.
+    Unread(ReadFault),
+}
+
+/// The bytes of an input up to its end, and no more than one more than it may have. `Err` with `ReadFault::Unread` where a read
+/// fails, and with `ReadFault::Memory` where memory is refused.
+pub fn read_all<R: Read>(alloc: Global, input: &mut R) -> Result<ReadInput, ReadFault>
     ensures { IfOk result (λ read. IsReadOf (R.remaining input.old) read.bytes.items) }
 {
     let mut buffer = zeros(alloc, BUFFER_LEN)?;
-    let bytes = read_front(alloc, input, &mut buffer, MAX_READ, fault)?;
+    let bytes = read_front(alloc, input, &mut buffer, MAX_READ)?;
     let mut len = bytes.len() as u64;
     if bytes.len() == MAX_READ {
-        len = len.saturating_add(count_rest(input, &mut buffer, fault)?);
+        len = len.saturating_add(count_rest(input, &mut buffer)?);
     }
     Ok(ReadInput { bytes, len })
 }
 
 /// How many bytes an input has left, which are read through the buffer.
-fn count_rest<R: Read>(
-    input: &mut R,
-    buffer: &mut [u8],
-    fault: InputFault,
-) -> Result<u64, InputFault> {
+fn count_rest<R: Read>(input: &mut R, buffer: &mut [u8]) -> Result<u64, FailedRead> {
     let mut len = 0u64;
     for _ in 0..u64::MAX {
-        match input.read(buffer) {
-            Ok(0) => return Ok(len),
-            Ok(count) => len = len.saturating_add(count as u64),
-            Err(_) => return Err(fault),
+        match read_once(input, buffer)? {
+            0 => return Ok(len),
+            count => len = len.saturating_add(count as u64),
         }
     }
     Ok(len)
@@ -106,15 +91,14 @@ fn read_front<R: Read>(
     input: &mut R,
     buffer: &mut [u8],
     limit: usize,
-    fault: InputFault,
-) -> Result<Vec<u8>, InputFault>
+) -> Result<Vec<u8>, ReadFault>
     requires { 0 < length buffer.old }
     ensures { IfOk result (λ bytes. IfSome (R.remaining input.old) (λ all. bytes.items ≡ take limit all)) }
 {
     let mut bytes = Vec::new(alloc);
     while bytes.len() < limit {
         let room = buffer.len().min(limit - bytes.len());
-        if read_some(input, &mut buffer[..room], &mut bytes, fault)? == 0 {
+        if read_some(input, &mut buffer[..room], &mut bytes)? == 0 {
             break;
         }
     }
@@ -126,8 +110,7 @@ fn read_some<R: Read>(
     input: &mut R,
     buffer: &mut [u8],
     bytes: &mut Vec<u8>,
-    fault: InputFault,
-) -> Result<usize, InputFault>
+) -> Result<usize, ReadFault>
     requires { 0 < length buffer.old }
     ensures { IfOk result (λ count. (piece : List ℕ)
         × (bytes.new.items ≡ bytes.old.items ++ piece)
@@ -136,11 +119,7 @@ fn read_some<R: Read>(
         × Consumes (R.remaining input.old) (R.remaining input.new) piece
         × (count ≡ 0 → IsAtEnd (R.remaining input.new))) }
 {
-    match input.read(buffer) {
-        Ok(count) => {
-            bytes.extend_from_slice(&buffer[..count])?;
-            Ok(count)
-        }
-        Err(_) => Err(fault),
-    }
+    let count = read_once(input, buffer)?;
+    bytes.extend_from_slice(&buffer[..count])?;
+    Ok(count)
 }

@@ -1,6 +1,9 @@
 //! Findings that go out.
 
-ghost use Rattle.std.specs.Prelude.{◌≡◌, ◌<◌, [], IfOk, OnOk, is_some, length, string_bytes};
+ghost use Rattle.std.specs.Prelude.{◌≡◌, ◌≢◌, ◌<◌, ◌+◌, ◌-◌, [], List, IfOk, OnOk, false, if◌then◌else◌, is_some, length, min, nat_lt, string_bytes, take};
+ghost use Rattle.apply_validate.specs.Findings.{told};
+ghost use Rattle.apply_validate.specs.declared.findings.finding.Finding.{Finding as finding_type};
+ghost use Rattle.apply_validate_command.specs.Lines.{line_count, lines_for, lines_of, most_told};
 ghost use Rattle.apply_validate_command.specs.Validated.{TellsOf, accepted, nothing};
 
 use crate::lens::Lens;
@@ -9,8 +12,9 @@ use crate::texts::finding::{Input, bytes_text, finding_text};
 use crate::texts::plan_names::PlanNames;
 use apply_json::JsonFault;
 use apply_plan::MAX_BYTES;
+use apply_shown::{nothing_hidden_is_shown, push_shown};
 use apply_trees::parse;
-use apply_validate::{Findings, Found, What};
+use apply_validate::{Finding, Findings, Found, What};
 use serde_json::Value;
 use std::alloc::{AllocError, Global};
 
@@ -28,7 +32,9 @@ pub fn found_text(
     script: Option<&[u8]>,
     lens: Lens,
 ) -> Result<String, AllocError>
-    ensures { IfOk result (λ text. TellsOf found.now.plan found.now.script (is_some script.entry) (string_bytes text)) }
+    ensures tells { IfOk result (λ text. TellsOf found.now.plan found.now.script (is_some script.entry) (string_bytes text)) }
+    ensures lines { (all more : List finding_type) → found.now.plan ≡ told all → found.now.script ≡ told more → (is_some script.entry ≡ false → more ≡ [])
+        → IfOk result (λ text. line_count (string_bytes text) ≡ lines_for (length all + length more)) }
 {
     let text = lines_text(alloc, found, plan, script, lens)?;
     or_accepted(text, script.is_some())
@@ -38,6 +44,7 @@ pub fn found_text(
 fn or_accepted(mut text: String, has_script: bool) -> Result<String, AllocError>
     ensures some { IfOk result (λ all. 0 < length (string_bytes all)) }
     ensures accepted { string_bytes text ≡ [] → IfOk result (λ all. string_bytes all ≡ accepted has_script) }
+    ensures same { string_bytes text ≢ [] → IfOk result (λ all. string_bytes all ≡ string_bytes text) }
 {
     if text.is_empty() {
         text.push_str(accepted(has_script))?;
@@ -53,7 +60,8 @@ fn lines_text(
     script: Option<&[u8]>,
     lens: Lens,
 ) -> Result<String, AllocError>
-    ensures { found.now.plan ≡ nothing → found.now.script ≡ nothing → IfOk result (λ text. string_bytes text ≡ []) }
+    ensures none { found.now.plan ≡ nothing → found.now.script ≡ nothing → IfOk result (λ text. string_bytes text ≡ []) }
+    ensures lines { IfOk result (λ text. line_count (string_bytes text) ≡ lines_of found.now.plan found.now.script (is_some script.entry)) }
 {
     let mut text = String::new(alloc);
     let tree = tree_of(alloc, plan)?;
@@ -85,7 +93,9 @@ fn push_script(
     len: u64,
     names: &PlanNames<'_>,
 ) -> Result<(), AllocError>
-    ensures { found.now.script.kept ≡ [] → OnOk result (string_bytes text.new ≡ string_bytes text.old) }
+    ensures none { found.now.script.kept ≡ [] → OnOk result (string_bytes text.new ≡ string_bytes text.old) }
+    ensures lines { OnOk result (line_count (string_bytes text.new) ≡ line_count (string_bytes text.old)
+        + (if is_some script.entry then min (most_told - length found.now.plan.kept) (length found.now.script.kept) else 0)) }
 {
     let Some(script) = script else {
         return Ok(());
@@ -104,13 +114,14 @@ fn push_script(
 
 /// Adds how many more findings there are than are told.
 fn push_more(alloc: Global, text: &mut String, count: usize) -> Result<(), AllocError>
-    ensures { count ≡ 0 → OnOk result (string_bytes text.new ≡ string_bytes text.old) }
+    ensures none { count ≡ 0 → OnOk result (string_bytes text.new ≡ string_bytes text.old) }
+    ensures lines { OnOk result (line_count (string_bytes text.new) ≡ line_count (string_bytes text.old) + (if nat_lt most_told count then 1 else 0)) }
 {
     if count <= MOST_TOLD {
         return Ok(());
     }
     let more = Count((count - MOST_TOLD) as u64);
-    text.push_str(format!(in alloc; "and {more} more\n")?.as_str())
+    push_line(text, format!(in alloc; "and {more} more")?.as_str())
 }
 
 /// What is told where nothing is found.
@@ -133,7 +144,7 @@ fn tree_of(alloc: Global, bytes: &[u8]) -> Result<Option<Value>, AllocError> {
     }
 }
 
-/// Adds the first findings of one input.
+/// Adds the first findings of one input, so many at most.
 fn push_findings(
     alloc: Global,
     text: &mut String,
@@ -143,37 +154,50 @@ fn push_findings(
     names: &PlanNames<'_>,
     most: usize,
 ) -> Result<(), AllocError>
-    ensures { findings.now.kept ≡ [] → OnOk result (string_bytes text.new ≡ string_bytes text.old) }
+    ensures none { findings.now.kept ≡ [] → OnOk result (string_bytes text.new ≡ string_bytes text.old) }
+    ensures lines { OnOk result (line_count (string_bytes text.new) ≡ line_count (string_bytes text.old) + min most (length findings.now.kept)) }
 {
-    if findings.kept().is_empty() {
+    let first = first_of(findings.kept(), most);
+    if first.is_empty() {
         return Ok(());
     }
     match tree_of(alloc, bytes)? {
-        Some(tree) => push_tree(alloc, text, input, findings, &tree, names, most),
-        None => push_no_tree(alloc, text, input, findings),
+        Some(tree) => push_tree(alloc, text, input, first, &tree, names),
+        None => push_no_tree(alloc, text, input, first),
     }
 }
 
-/// Adds the first findings in a tree.
+/// The first findings, so many at most.
+fn first_of(findings: &[Finding], most: usize) -> &[Finding]
+    ensures { result.now ≡ take most findings.now }
+{
+    match findings.get(..most) {
+        Some(first) => first,
+        None => findings,
+    }
+}
+
+/// Adds findings in a tree, a line each.
 fn push_tree(
     alloc: Global,
     text: &mut String,
     input: Input,
-    findings: &Findings,
+    findings: &[Finding],
     tree: &Value,
     names: &PlanNames<'_>,
-    most: usize,
-) -> Result<(), AllocError> {
+) -> Result<(), AllocError>
+    ensures { OnOk result (line_count (string_bytes text.new) ≡ line_count (string_bytes text.old) + length findings.now) }
+{
     let mut addresses = 0usize;
     let mut outputs = 0usize;
-    for finding in findings.kept().iter().take(most) {
+    for finding in findings {
         let has_near = match finding.what {
             What::UnknownAddress => is_sought(&mut addresses),
             What::UnknownOutput => is_sought(&mut outputs),
             _ => false,
         };
-        text.push_str(finding_text(alloc, input, tree, finding, names, has_near)?.as_str())?;
-        text.push('\n')?;
+        let line = finding_text(alloc, input, tree, finding, names, has_near)?;
+        push_line(text, line.as_str())?;
     }
     Ok(())
 }
@@ -185,16 +209,28 @@ fn is_sought(count: &mut usize) -> bool {
     before < MOST_SOUGHT
 }
 
-/// Adds what is found in bytes that are no tree.
+/// Adds what is found in bytes that are no tree, a line each.
 fn push_no_tree(
     alloc: Global,
     text: &mut String,
     input: Input,
-    findings: &Findings,
-) -> Result<(), AllocError> {
-    for finding in findings.kept() {
-        text.push_str(bytes_text(alloc, input, finding.what)?.as_str())?;
-        text.push('\n')?;
+    findings: &[Finding],
+) -> Result<(), AllocError>
+    ensures { OnOk result (line_count (string_bytes text.new) ≡ line_count (string_bytes text.old) + length findings.now) }
+{
+    for finding in findings {
+        let line = bytes_text(alloc, input, finding.what)?;
+        push_line(text, line.as_str())?;
     }
     Ok(())
+}
+
+/// Adds a line. It is shown once more, though all that a line has from outside is shown in it: that leaves it as it is
+/// (`apply_shown::text_stands_as_it_is`), and says for whatever line that it is one line and steers no terminal.
+fn push_line(text: &mut String, line: &str) -> Result<(), AllocError>
+    ensures { OnOk result (line_count (string_bytes text.new) ≡ line_count (string_bytes text.old) + 1) }
+{
+    nothing_hidden_is_shown();
+    push_shown(text, line.as_bytes())?;
+    text.push('\n')
 }

@@ -1,0 +1,66 @@
+//! Readers and writers that fail.
+
+use std::alloc::Global;
+use std::io::{self, ErrorKind, Read, Write};
+
+/// A reader that gives a front of a plan, and then fails.
+#[derive(Drop)]
+pub(super) struct Broken {
+    front: &'static [u8],
+}
+
+impl Broken {
+    pub fn new() -> Broken {
+        Broken { front: b"{" }
+    }
+}
+
+impl Read for Broken {
+    fn read(&mut self, buf: &mut [u8]) -> io::Result<usize> {
+        let count = self.front.len().min(buf.len());
+        if count == 0 {
+            return Err(io::Error::from_raw_os_error(5));
+        }
+        buf[..count].copy_from_slice(&self.front[..count]);
+        self.front = &self.front[count..];
+        Ok(count)
+    }
+}
+
+/// A writer that takes one byte at once, and fails so behind so many, in a write as in a flush.
+#[derive(Drop)]
+pub(super) struct Taken {
+    pub bytes: Vec<u8>,
+    room: usize,
+    kind: ErrorKind,
+}
+
+impl Taken {
+    /// One that has taken nothing.
+    pub fn new(alloc: Global, room: usize, kind: ErrorKind) -> Taken {
+        Taken {
+            bytes: Vec::new(alloc),
+            room,
+            kind,
+        }
+    }
+}
+
+impl Write for Taken {
+    fn write(&mut self, buf: &[u8]) -> io::Result<usize> {
+        let left = self.room.saturating_sub(self.bytes.len());
+        let count = left.min(buf.len()).min(1);
+        if count == 0 && !buf.is_empty() {
+            return Err(io::Error::from(self.kind));
+        }
+        self.bytes.extend_from_slice(&buf[..count])?;
+        Ok(count)
+    }
+
+    fn flush(&mut self) -> io::Result<()> {
+        if self.bytes.len() >= self.room {
+            return Err(io::Error::from(self.kind));
+        }
+        Ok(())
+    }
+}
