@@ -98,7 +98,7 @@ change_said d planned e =
     some : Items → Option Items
     some ds = Some ds
 
-element_said : (d : Data) (e : Element) → element_of d ≡ Some e → actions_in (member_of (codes "change") d) ≡ Some e.actions
+pub element_said : (d : Data) (e : Element) → element_of d ≡ Some e → actions_in (member_of (codes "change") d) ≡ Some e.actions
 unfolding element_of
 element_said d e is =
     let address = step (text_of (codes "address") d) _ e is in
@@ -187,7 +187,7 @@ counted p (x ∷ xs) =
 -- ---- the bytes of a plan
 
 -- the elements at the top level
-elements_are : (d : Data) (header : Header) → header_of d ≡ Some header → elements_of d ≡ list_of header.elements
+pub elements_are : (d : Data) (header : Header) → header_of d ≡ Some header → elements_of d ≡ list_of header.elements
 unfolding header_of
 elements_are d header e =
     let format = step (text_of (codes "format_version") d) _ header e in
@@ -201,11 +201,11 @@ elements_are d header e =
     of_member (Some value) elements e = ap (λ (o : Option Items). option_map_or list_of o []) e
 
 -- the tree of bytes is that of their value
-tree_is : (bytes : List ℕ) → tree_of bytes ≡ option_and_then of_json (json_of bytes)
+pub tree_is : (bytes : List ℕ) → tree_of bytes ≡ option_and_then of_json (json_of bytes)
 tree_is bytes = ⊎_elim (λ (yes : is_utf8 bytes ≡ true). rw yes refl) (λ (no : is_utf8 bytes ≡ false). rw no refl) (cases_Bool (is_utf8 bytes))
 
 -- what is said for the form is said by the elements of the tree
-details_are : (bytes : List ℕ) (tree : Data) (details : DetailsOfPlan) → tree_of bytes ≡ Some tree → details_of bytes ≡ Some details → details.changes ≡ map element_details (elements_of tree)
+pub details_are : (bytes : List ℕ) (tree : Data) (details : DetailsOfPlan) → tree_of bytes ≡ Some tree → details_of bytes ≡ Some details → details.changes ≡ map element_details (elements_of tree)
 details_are bytes tree details is e =
     let value = step (json_of bytes) _ details e in
     let whole = step (of_json value.0) _ details value.2 in

@@ -1,7 +1,11 @@
 pub mod ChangesUnderWay
 pub mod LaneLines
+pub mod LastMembers
 pub mod PlannedChanges
+pub mod PlannedWords
 pub mod Plans
+pub mod Sensitive
+pub mod SensitiveChanges
 pub mod Sharing
 pub mod StepTimes
 pub mod Waits

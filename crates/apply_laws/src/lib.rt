@@ -7,8 +7,10 @@ mod events;
 mod forms;
 mod hooks;
 mod lines;
+mod planned;
 mod plans;
 mod runs;
+mod sensitive;
 mod time_lines;
 mod waits;
 
@@ -35,6 +37,9 @@ pub use lines::{
     moments_of_lines_never_fall, the_order_of_writing_loses_nothing,
     the_summary_counts_the_lines_of_completion, whole_units_are_told_with_zeros,
 };
+pub use planned::{
+    only_planned_changes_have_that_type, planned_changes_are_told_in_the_plans_words,
+};
 pub use plans::{
     each_object_is_named_once, other_members_are_ignored, relative_addresses_join_their_module,
 };
@@ -42,6 +47,7 @@ pub use runs::{
     a_time_line_is_applied_by_workers, between_the_lines_of_a_step_lie_its_seconds,
     what_lanes_stream_is_a_run_of_workers,
 };
+pub use sensitive::{no_run_tells_a_sensitive_value, no_stream_tells_a_sensitive_value};
 pub use time_lines::{
     a_step_takes_the_seconds_that_it_tells, a_time_line_ends_by_the_sum_of_all_spans,
     lanes_deal_out_the_changes, moments_of_a_time_line_never_fall, no_end_comes_before_the_mean,
