@@ -78,7 +78,7 @@ IsStatusOf name (Err fault) status = IsFaultStatus name fault status
 
 -- A stream was played as the words say: that of the input where they name no file, else that of a file. What such a file has
 -- to give, `remaining` says. Where the input was not played to its end, it was read to its end: `left` is what it has left.
--- Beside a file nothing of the input was read.
+-- Where a file was opened, nothing of the input was read.
 pub record WasPlayed {File : Type 0} (remaining : File → Option (List ℕ)) (words : List Text)
     (input left before after : Option (List ℕ)) (followed : Followed) : Type 0 where
   pub settings : Settings

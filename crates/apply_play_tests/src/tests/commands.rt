@@ -194,7 +194,7 @@ fn input_that_is_left_alone(rt: HostRuntime) {
     word_leaves(&rt, alloc, ".", false, 2, folder, 2);
 }
 
-/// Beside a file nothing of the input is read, also where the file is played to its end.
+/// Where a file was opened, nothing of the input is read, also behind a file that is played to its end.
 #[test]
 fn file_alone_is_read(rt: HostRuntime) {
     let alloc = rt.alloc();
