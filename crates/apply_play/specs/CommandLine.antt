@@ -66,13 +66,19 @@ fault_status_of play.Memory = 3
 fault_status_of play.Gone = 3
 fault_status_of play.Unwritten = 3
 
--- 0 where all was played, and flushed; else that of the fault, or 3 where memory was refused to tell it
-abbrev pub IsStatusOf : Result Unit PlayFault → ℕ → Type 0
-IsStatusOf (Ok done) status = status ≡ 0
-IsStatusOf (Err fault) status = (status ≡ 3) ⊎ (status ≡ fault_status_of fault)
+-- that of the fault; of a file that could not be read it is 3 where memory was refused to show its name
+abbrev pub IsFaultStatus : {A : Type 0} → (name : Option A) → PlayFault → ℕ → Type 0
+IsFaultStatus name (play.Unread failed) status = (status ≡ 2) ⊎ ((status ≡ 3) × IsSome name)
+IsFaultStatus name fault status = status ≡ fault_status_of fault
+
+-- 0 where all was played, and flushed; else that of the fault, of a file where it has a name
+abbrev pub IsStatusOf : {A : Type 0} → (name : Option A) → Result Unit PlayFault → ℕ → Type 0
+IsStatusOf name (Ok done) status = status ≡ 0
+IsStatusOf name (Err fault) status = IsFaultStatus name fault status
 
 -- A stream was played as the words say: that of the input where they name no file, else that of a file. What such a file has
 -- to give, `remaining` says. Where the input was not played to its end, it was read to its end: `left` is what it has left.
+-- Where a file was opened, nothing of the input was read.
 pub record WasPlayed {File : Type 0} (remaining : File → Option (List ℕ)) (words : List Text)
     (input left before after : Option (List ℕ)) (followed : Followed) : Type 0 where
   pub settings : Settings
@@ -82,8 +88,9 @@ pub record WasPlayed {File : Type 0} (remaining : File → Option (List ℕ)) (w
   pub answer : Result Unit PlayFault
   pub answered : followed.answer ≡ Some answer
   pub played : IfSome bytes (λ bytes. IsPlayed bytes before after answer)
-  pub told : IsStatusOf answer followed.status
+  pub told : IsStatusOf settings.file answer followed.status
   pub read : settings.file ≡ None → IfErr answer (λ fault. OnOk followed.rest (IsAtEnd left))
+  pub unread : IsSome settings.file → left ≡ input
 
 -- no stream was played
 abbrev pub WasNotPlayed : (words : List Text) → (before after : Option (List ℕ)) → (status : ℕ) → Type 0

@@ -94,7 +94,7 @@ pub fn play_input<R: Read, W: Write, E: Write, C: Clock>(
 ) -> Outcome
     ensures played { IfSome (R.remaining input.old)
         (λ bytes. IsPlayed bytes (W.contents out.old) (W.contents out.new) result.answer) }
-    ensures status { IsStatusOf result.answer result.status }
+    ensures status { IsStatusOf name.entry result.answer result.status }
     ensures quiet { result.status ≡ 0 → Keeps (E.contents faults.old) (E.contents faults.new) }
     ensures gone { result.answer ≡ Err Gone → Keeps (E.contents faults.old) (E.contents faults.new) }
     ensures statuses { result.status ≤ 3 }
@@ -138,7 +138,7 @@ pub fn play_command<R: Read, W: Write, E: Write, C: Clock>(
 ) -> Outcome
     ensures played { IfSome (reader_remaining R.remaining reader.old)
         (λ bytes. IsPlayed bytes (W.contents out.old) (W.contents out.new) result.answer) }
-    ensures status { IsStatusOf result.answer result.status }
+    ensures status { IsStatusOf name.entry result.answer result.status }
     ensures quiet { result.status ≡ 0 → Keeps (E.contents faults.old) (E.contents faults.new) }
     ensures gone { result.answer ≡ Err Gone → Keeps (E.contents faults.old) (E.contents faults.new) }
     ensures statuses { result.status ≤ 3 }
@@ -161,7 +161,7 @@ fn play_reader<R: Read, W: Write, E: Write, C: Clock>(
 ) -> Outcome
     ensures played { IfSome (reader_remaining R.remaining reader.old)
         (λ bytes. IsPlayed bytes (W.contents out.old) (W.contents out.new) result.answer) }
-    ensures status { IsStatusOf result.answer result.status }
+    ensures status { IsStatusOf name.entry result.answer result.status }
     ensures quiet { result.status ≡ 0 → Keeps (E.contents faults.old) (E.contents faults.new) }
     ensures gone { result.answer ≡ Err Gone → Keeps (E.contents faults.old) (E.contents faults.new) }
     ensures statuses { result.status ≤ 3 }

@@ -1,8 +1,8 @@
 //! Why a stream was not played to its end.
 
-ghost use Rattle.std.specs.Prelude.{◌≡◌, ◌⊎◌};
+ghost use Rattle.std.specs.Prelude.{◌≡◌};
 ghost use Rattle.std.specs.Io.KnownBytes.{Keeps};
-ghost use Rattle.apply_play.specs.CommandLine.{fault_status_of};
+ghost use Rattle.apply_play.specs.CommandLine.{IsFaultStatus, fault_status_of};
 ghost use Rattle.apply_play.specs.declared.play_fault.PlayFault.TheVariants.{Gone};
 
 use crate::play_fault::PlayFault;
@@ -13,7 +13,7 @@ use std::io::Write;
 /// Says why the stream was not played to its end, of a file where it has a name, and answers the exit status. Nothing is said
 /// where the reader of the output is gone: whoever ended it, as `head` ends, knows that.
 pub fn refuse<E: Write>(alloc: Global, faults: &mut E, name: Option<&str>, fault: PlayFault) -> u8
-    ensures status { (result ≡ 3) ⊎ (result ≡ fault_status_of fault) }
+    ensures status { IsFaultStatus name.entry fault result }
     ensures gone { fault ≡ Gone → Keeps (E.contents faults.old) (E.contents faults.new) }
 {
     match (fault, name) {

@@ -1,7 +1,7 @@
 //! The command, from its words to its exit status.
 
 use super::*;
-use std::array;
+use std::{array, fs};
 
 /// Bytes of which there are none yet.
 fn no_bytes(rt: &impl Abort, alloc: Global) -> &'static mut Vec<u8> {
@@ -192,4 +192,14 @@ fn input_that_is_left_alone(rt: HostRuntime) {
     words_are_refused(&rt, alloc, true, AT_A_TERMINAL, 2);
     let folder = "applystream: the file . could not be read: ";
     word_leaves(&rt, alloc, ".", false, 2, folder, 2);
+}
+
+/// Where a file was opened, nothing of the input is read, also behind a file that is played to its end.
+#[test]
+fn file_alone_is_read(rt: HostRuntime) {
+    let alloc = rt.alloc();
+    let name = "played.jsonl";
+    fs::write(&rt, name, "b\nc").expect(&rt, "a file");
+    word_leaves(&rt, alloc, name, false, 0, "b\nc", 2);
+    fs::remove_file(&rt, name).expect(&rt, "the file");
 }

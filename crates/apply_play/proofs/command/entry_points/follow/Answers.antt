@@ -1,6 +1,6 @@
 -- What was played, by what the words name.
 use Rattle.std.proofs.Common.{◌≡◌, ℕ, List, Option, None, Some, inl, refl, subst, sym, ◌∙◌}
-use Rattle.std.specs.Prelude.{IfErr, IfSome, OnOk}
+use Rattle.std.specs.Prelude.{IfErr, IfSome, IsSome, OnOk}
 use Rattle.std.specs.Io.KnownBytes.{IsAtEnd}
 use Rattle.clap.specs.Walk.{Text}
 use Rattle.apply_words.specs.Words.{IsGivenBy}
@@ -16,10 +16,10 @@ was_played : {File : Type 0} (remaining : File → Option (List ℕ)) (words : L
     (followed : Followed) (outcome : Outcome) (settings : Settings) (bytes : Option (List ℕ))
     → followed ≡ record { status = outcome.status; answer = Some outcome.answer; rest = outcome.rest }
     → HaveSaid words settings → IsGivenBy remaining input settings.file bytes
-    → IfSome bytes (λ bytes. IsPlayed bytes before after outcome.answer) → IsStatusOf outcome.answer outcome.status
-    → (settings.file ≡ None → IfErr outcome.answer (λ fault. OnOk outcome.rest (IsAtEnd left)))
+    → IfSome bytes (λ bytes. IsPlayed bytes before after outcome.answer) → IsStatusOf settings.file outcome.answer outcome.status
+    → (settings.file ≡ None → IfErr outcome.answer (λ fault. OnOk outcome.rest (IsAtEnd left))) → (IsSome settings.file → left ≡ input)
     → WasPlayed remaining words input left before after followed
-was_played remaining words input left before after followed outcome settings bytes is said given played told read =
+was_played remaining words input left before after followed outcome settings bytes is said given played told read unread =
     subst (λ (f : Followed). WasPlayed remaining words input left before after f) (sym is) (record {
       settings = settings;
       said = said;
@@ -30,14 +30,21 @@ was_played remaining words input left before after followed outcome settings byt
       played = played;
       told = told;
       read = read;
+      unread = unread;
     })
+
+-- what names none is no name
+not_named : {A R : Type 0} (name : Option A) → name ≡ None → IsSome name → R
+not_named None none some = absurd cc
+not_named (Some name) none some = absurd cc
 
 pub returns-in_default-clause-told : goal.returns-in_default-clause-told
 returns-in_default-clause-told g c =
     let input = g.R.Read.remaining c.args.input.now in
     let given = subst (λ o. IsGivenBy g.F.File.Read.remaining input o input) (sym c.in_default.is) refl in
     inl (was_played g.F.File.Read.remaining _ input _ _ _ c.with_answer.result c.play_input-outcome.result c.in-Ok.settings input
-    c.with_answer.ensures c.in-Ok.ensures.said given c.play_input-outcome.ensures.played c.play_input-outcome.ensures.status (λ none. c.play_input-outcome.ensures.read))
+    c.with_answer.ensures c.in-Ok.ensures.said given c.play_input-outcome.ensures.played (rw (c.in_default.is) c.play_input-outcome.ensures.status)
+    (λ none. c.play_input-outcome.ensures.read) (not_named c.in-Ok.settings.file c.in_default.is))
 
 pub returns-in-Ok-open-clause-told : goal.returns-in-Ok-open-clause-told
 returns-in-Ok-open-clause-told g c =
@@ -45,5 +52,5 @@ returns-in-Ok-open-clause-told g c =
     let bytes = g.F.File.Read.remaining c.in-Ok-open.file in
     let given = subst (λ o. IsGivenBy g.F.File.Read.remaining input o bytes) (sym c.in-Some.is) (c.in-Ok-open.file, refl) in
     inl (was_played g.F.File.Read.remaining _ input _ _ _ c.with_answer-in-Ok-open.result c.play_input-outcome-in-Ok-open.result c.in-Ok.settings bytes
-    c.with_answer-in-Ok-open.ensures c.in-Ok.ensures.said given c.play_input-outcome-in-Ok-open.ensures.played c.play_input-outcome-in-Ok-open.ensures.status
-    (λ none. let bad = sym c.in-Some.is ∙ none in cc))
+    c.with_answer-in-Ok-open.ensures c.in-Ok.ensures.said given c.play_input-outcome-in-Ok-open.ensures.played (rw (c.in-Some.is) c.play_input-outcome-in-Ok-open.ensures.status)
+    (λ none. let bad = sym c.in-Some.is ∙ none in cc) (λ named. refl))
