@@ -42,7 +42,6 @@ pub stream_drawn : (given : Option (List ℕ)) (told : Telling) (limit : Option 
     → OnOk answer (IsDrawnOf told limit asked is_wanted a b) → ((why : ViewFault) → answer ≢ Err (fault.Untold why))
     → IfSome given (λ bytes. IsOfStream bytes limit asked is_wanted a b answer)
 stream_drawn None told limit asked is_wanted a b answer is drawn never = tt
-stream_drawn (Some bytes) told limit asked is_wanted a b (Ok done) is drawn never =
-    subst (λ (t : Telling). IsDrawnOf t limit asked is_wanted a b) is drawn
+stream_drawn (Some bytes) told limit asked is_wanted a b (Ok done) is drawn never = (told, is, drawn)
 stream_drawn (Some bytes) told limit asked is_wanted a b (Err (fault.Untold why)) is drawn never = absurd (never why refl)
 stream_drawn (Some bytes) told limit asked is_wanted a b (Err (fault.Undrawn why)) is drawn never = tt

@@ -1,5 +1,5 @@
 -- What came of the words behind `view`.
-use Rattle.std.specs.Prelude.{◌≡◌, ◌⊎◌, ⊤, ℕ, List, Bool, true, false, Option, None, IfErr, IfSome, OnOk, Result, Ok, Err, pos, unwrap_or}
+use Rattle.std.specs.Prelude.{◌≡◌, ◌⊎◌, ⊤, ℕ, List, Bool, true, false, Option, Some, None, IfErr, IfSome, IsSome, OnOk, Result, Ok, Err, pos, unwrap_or}
 use Rattle.std.specs.Io.KnownBytes.{IsAtEnd, Keeps}
 use Rattle.apply_lines.specs.Cut.{cut_lines}
 use Rattle.apply_words.specs.Words.{IsGivenBy}
@@ -60,10 +60,11 @@ pub record IsDrawnOf (told : Telling) (limit : Option ℕ) (form : Form) (is_wan
   pub rows : AreRowsOf (moments_of told) told.steps limit picture.rows
   pub drawn : IsDrawn form is_wanted picture before after
 
--- what was written, or why nothing was, is of what the lines of these bytes tell
+-- what was written, or why nothing was, is of what the lines of these bytes tell, within the limits
 abbrev pub IsOfStream : List ℕ → (limit : Option ℕ) → Form → (is_wanted : Bool) → (before after : Option (List ℕ))
     → Result (Unit {0}) PictureFault → Type 0
-IsOfStream bytes limit form is_wanted before after (Ok done) = IsDrawnOf (told_of (cut_lines bytes)) limit form is_wanted before after
+IsOfStream bytes limit form is_wanted before after (Ok done) =
+    (told : Telling) × IsToldOf bytes (Ok told) × IsDrawnOf told limit form is_wanted before after
 IsOfStream bytes limit form is_wanted before after (Err (fault.Untold why)) = IsToldOf bytes (Err why)
 IsOfStream bytes limit form is_wanted before after (Err (fault.Undrawn why)) = ⊤
 
@@ -79,13 +80,19 @@ abbrev pub fault_status_of : PictureFault → ℕ
 fault_status_of (fault.Untold why) = told_status_of why
 fault_status_of (fault.Undrawn why) = 3
 
--- 0 where the picture was written; else that of the fault, or 3 where memory was refused to tell it
-abbrev pub IsStatusOf : Result (Unit {0}) PictureFault → ℕ → Type 0
-IsStatusOf (Ok done) status = status ≡ 0
-IsStatusOf (Err fault) status = (status ≡ 3) ⊎ (status ≡ fault_status_of fault)
+-- a stream that has a name, which that of a file has, could not be read
+abbrev pub IsUnreadFile : {A : Type 0} → (name : Option A) → PictureFault → Type 0
+IsUnreadFile (Some name) (fault.Untold (told.Unread failed)) = ⊤
+IsUnreadFile name fault = ⊥
+
+-- 0 where the picture was written; else that of the fault, or 3 where memory was refused to name a file that could not be read
+abbrev pub IsStatusOf : {A : Type 0} → (name : Option A) → Result (Unit {0}) PictureFault → ℕ → Type 0
+IsStatusOf name (Ok done) status = status ≡ 0
+IsStatusOf name (Err fault) status = (status ≡ fault_status_of fault) ⊎ ((status ≡ 3) × IsUnreadFile name fault)
 
 -- A stream was viewed as the words say: that of the input where they name no file, else that of a file. What such a file has to
--- give, `remaining` says. Where the input was not drawn, it was read to its end: `left` is what it has left.
+-- give, `remaining` says. Where the input was not drawn, it was read to its end: `left` is what it has left. Where a file was
+-- opened, the input was left as it was.
 pub record WasViewed {File : Type 0} (remaining : File → Option (List ℕ)) (words : List (List ℕ)) (input left : Option (List ℕ)) (is_wanted : Bool)
     (before after : Option (List ℕ)) (followed : Followed) (answer : Result (Unit {0}) PictureFault) : Type 0 where
   pub settings : Settings
@@ -94,5 +101,6 @@ pub record WasViewed {File : Type 0} (remaining : File → Option (List ℕ)) (w
   pub given : IsGivenBy remaining input settings.file bytes
   pub drawn : WasDrawn settings.form is_wanted before after answer
   pub stream : IfSome bytes (λ bytes. IsOfStream bytes settings.rows settings.form is_wanted before after answer)
-  pub told : IsStatusOf answer followed.status
+  pub told : IsStatusOf settings.file answer followed.status
   pub read : settings.file ≡ None → IfErr answer (λ fault. OnOk followed.rest (IsAtEnd left))
+  pub left_alone : IsSome settings.file → left ≡ input

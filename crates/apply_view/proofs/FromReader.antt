@@ -1,9 +1,9 @@
 -- A stream that is read line by line.
-use Rattle.std.proofs.Common.{◌≡◌, ◌≢◌, ◌<◌, ◌≤◌, ℕ, suc, ◌+◌, ◌-◌, List, [], ◌∷◌, length, get_or, take, drop, eqb, Bool, true, false, Option, Some, None, Result, Ok, Err, refl, sym, ap, ◌∙◌, subst, ⊎_elim, arith}
+use Rattle.std.proofs.Common.{◌≡◌, ◌≢◌, ◌<◌, ◌≤◌, ℕ, suc, ◌+◌, ◌-◌, List, [], ◌∷◌, length, get_or, take, drop, eqb, Bool, true, false, Option, Some, None, Result, Ok, Err, refl, sym, ap, ◌∙◌, subst, ⊎_elim, arith, below_more}
 use Rattle.std.specs.Prelude.{IfErr, IfOk, IfSome}
 use Rattle.std.specs.Io.BufRead.{drop_through}
 use Rattle.std.proofs.lemmas.Bool.{cases_Bool, cases_lt}
-use Rattle.std.proofs.lemmas.List.{drop_more, length-drop, length-take-le, take_all}
+use Rattle.std.proofs.lemmas.List.{drop_more, get_or_default, length-drop, length-take-le, take_all}
 use Rattle.apply_lines.specs.Cut.{behind_lines, cut_lines, first_line, line_at, onto_first}
 use Rattle.apply_lines.specs.Limits.{max_bytes}
 use Rattle.apply_lines.specs.Reading.{Gives}
@@ -12,7 +12,7 @@ use Rattle.apply_lines.specs.declared.line_end.LineEnd.TheVariants as next
 use Rattle.apply_view.specs.declared.told.view_fault.ViewFault.{ViewFault}
 use Rattle.apply_view.specs.declared.told.view_fault.ViewFault.TheVariants as fault
 use Rattle.apply_view.specs.declared.told.viewer.Viewer.{Viewer}
-use Rattle.apply_view.specs.Lines.{IsToldOf}
+use Rattle.apply_view.specs.Lines.{AreTold, IsToldOf}
 use Rattle.apply_view.specs.Telling.{Telling, max_lines, max_steps, told_of, with_line}
 use Rattle.apply_view.specs.Viewing.{Goes, HasTold}
 use Rattle.apply_view.proofs.Counted.{lines_told, told_more}
@@ -28,10 +28,11 @@ cut_first x (y ∷ ys) =
     rw no put)
     (cases_Bool (eqb x 10))
 
--- so many lines of the bytes were told, and the rest is to come
+-- so many lines of the bytes were told, of which none is too long, and the rest is to come
 pub record Follows (bytes rest : List ℕ) (viewer : Viewer) (n : ℕ) : Type 0 where
   pub told : HasTold viewer (told_of (take n (cut_lines bytes)))
   pub within : n ≤ length (cut_lines bytes)
+  pub short : (k : ℕ) → k < n → length (get_or (cut_lines bytes) k []) ≤ max_bytes
   pub left : drop n (cut_lines bytes) ≡ cut_lines rest
   pub place : rest ≡ behind_lines n bytes
 
@@ -42,7 +43,7 @@ Leads all left viewer n = IfSome all (λ bytes. (rest : List ℕ) × (left ≡ S
 -- at the start
 pub starts : (all : Option (List ℕ)) (viewer : Viewer) → HasTold viewer (told_of []) → Leads all all viewer 0
 starts None viewer h = tt
-starts (Some bytes) viewer h = (bytes, refl, record { told = h; within = omega arith; left = refl; place = refl })
+starts (Some bytes) viewer h = (bytes, refl, record { told = h; within = omega arith; short = λ k l. absurd (omega arith); left = refl; place = refl })
 
 -- what the reader gives of what is left
 given : (left rest : Option (List ℕ)) (which : LineEnd) (line xs : List ℕ) → left ≡ Some xs → IfSome left (Gives which line rest) → Gives which line rest xs
@@ -82,6 +83,7 @@ leads_on (Some bytes) left rest old new n line feed h gives more =
       record {
         told = subst (λ (t : Telling). HasTold new t) is (more (told_of (take n (cut_lines bytes))) h.2.told);
         within = let room = at.room in omega arith;
+        short = below_more _ _ h.2.short (subst (λ (l : List ℕ). length l ≤ max_bytes) (k.1 ∙ sym at.line) k.4);
         left = at.left;
         place = ap (drop_through 10) h.2.place ∙ ap (λ (m : ℕ). behind_lines m bytes) (let e : suc n ≡ n + 1 = omega arith in e);
       },
@@ -131,22 +133,34 @@ leads_nowhere (Some bytes) left viewer n r h many =
     let few : (told_of (take n (cut_lines bytes))).lines ≤ max_lines = h.2.told.lines in
     absurd (omega (arith, lines, told, few, many))
 
+-- where all lines are told, they are within the limits
+all_told : (lines : List (List ℕ)) (viewer : Viewer) → HasTold viewer (told_of lines) → ((k : ℕ) → k < length lines → length (get_or lines k []) ≤ max_bytes)
+    → AreTold lines viewer.told
+all_told lines viewer h short = record {
+  is = h.is;
+  begun = subst (λ (t : Telling). t.begun ≤ max_steps) (sym h.is) h.begun;
+  number = let told = h.lines in omega (arith, told, lines_told lines);
+  lengths = λ k d l. subst (λ (line : List ℕ). length line ≤ max_bytes) (get_or_default lines k [] d l) (short k l);
+}
+
 -- at the end
 pub leads_out : (all left rest : Option (List ℕ)) (viewer : Viewer) (n : ℕ) (line : List ℕ) → Leads all left viewer n → IfSome left (Gives next.End line rest)
-    → IfSome all (λ bytes. viewer.told ≡ told_of (cut_lines bytes))
+    → IfSome all (λ bytes. AreTold (cut_lines bytes) viewer.told)
 leads_out None left rest viewer n line h gives = tt
 leads_out (Some bytes) left rest viewer n line h gives =
     let none : h.0 ≡ [] = (given left rest next.End line h.0 h.1 gives).0 in
     let left_none : drop n (cut_lines bytes) ≡ [] = h.2.left ∙ ap cut_lines none in
     let count : length (cut_lines bytes) - n ≡ 0 = sym (length-drop n (cut_lines bytes)) ∙ ap length left_none in
-    h.2.told.is ∙ ap told_of (take_all n (cut_lines bytes) (omega (arith, count)))
+    let most : length (cut_lines bytes) ≤ n = omega (arith, count) in
+    let told : HasTold viewer (told_of (cut_lines bytes)) = subst (λ (lines : List (List ℕ)). HasTold viewer (told_of lines)) (take_all n (cut_lines bytes) most) h.2.told in
+    all_told (cut_lines bytes) viewer told (λ k l. h.2.short k (omega arith))
 
 -- what a viewer gives at the end
 pub as_ended : (all : Option (List ℕ)) (told : Telling) (r : Result Telling ViewFault) → IfOk r (λ t. t ≡ told) → IfErr r (λ why. (why ≡ fault.NoMessage) × (told.moments ≡ None))
-    → IfSome all (λ bytes. told ≡ told_of (cut_lines bytes)) → IfSome all (λ bytes. IsToldOf bytes r)
+    → IfSome all (λ bytes. AreTold (cut_lines bytes) told) → IfSome all (λ bytes. IsToldOf bytes r)
 as_ended None told r ok err h = tt
-as_ended (Some bytes) told (Ok t) ok err h = ok ∙ h
-as_ended (Some bytes) told (Err why) ok err h = subst (λ (f : ViewFault). IsToldOf bytes (Err f)) (sym err.0) (ap (λ (t : Telling). t.moments) (sym h) ∙ err.1)
+as_ended (Some bytes) told (Ok t) ok err h = subst (λ (t : Telling). AreTold (cut_lines bytes) t) (sym ok) h
+as_ended (Some bytes) told (Err why) ok err h = subst (λ (f : ViewFault). IsToldOf bytes (Err f)) (sym err.0) (ap (λ (t : Telling). t.moments) (sym h.is) ∙ err.1)
 
 -- why a line is not taken
 pub as_refused : (all left rest : Option (List ℕ)) (viewer new : Viewer) (n : ℕ) (line taken : List ℕ) (feed : Bool) (why : ViewFault) → Leads all left viewer n → IfSome left (Gives (next.Line feed) line rest)

@@ -33,6 +33,7 @@ counted_takes old new t h is room at =
     record {
       is = is ∙ ap (λ (x : Telling). record x { lines = x.lines + 1 }) h.is;
       opened = subst (λ (o : OpenPlaces). HoldsPlaces o t.steps) (sym at) h.opened;
+      begun = h.begun;
       lines = omega (arith, lines, room);
       passed = omega (arith, h.passed);
       errors = omega (arith, h.errors);
@@ -50,6 +51,7 @@ seen_alone counted new t line moment takes is at other found =
     let held : HasTold new (record t { moments = Some (with_moment moment t.moments) }) = record {
       is = is ∙ ap (λ (x : Telling). record x { moments = Some (with_moment moment x.moments) }) takes.is;
       opened = subst (λ (o : OpenPlaces). HoldsPlaces o t.steps) (sym at) takes.opened;
+      begun = takes.begun;
       lines = takes.lines;
       passed = omega (arith, takes.passed);
       errors = omega (arith, takes.errors);

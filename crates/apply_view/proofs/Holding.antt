@@ -1,8 +1,8 @@
 -- What is known of a viewer, one thing told after another.
 use Rattle.std.proofs.Common.{◌≡◌, ℕ, ◌+◌, ◌<◌, ◌≤◌, ℤ, List, [], ◌∷◌, ◌++◌, Bool, true, false, cond, length, min, Some, suc, zero, refl, sym, ap, ap₂, ◌∙◌, subst, ⊎_elim, arith}
-use Rattle.std.specs.Prelude.{◌&&◌, not, is_none}
+use Rattle.std.specs.Prelude.{◌&&◌, nat_le, not, is_none}
 use Rattle.std.specs.Str.{bytes_eq}
-use Rattle.std.proofs.lemmas.Bool.{cases_Bool, and_parts}
+use Rattle.std.proofs.lemmas.Bool.{cases_Bool, and_parts, leb-false}
 use Rattle.std.proofs.lemmas.List.{append-nil}
 use Rattle.std.proofs.lemmas.List.Sums.{sum_by-cons, sum_by_push}
 use Rattle.std.proofs.lemmas.Slice.Eq.{bytes_eq-Decides}
@@ -11,7 +11,7 @@ use Rattle.apply_view.specs.declared.told.viewer.Viewer.{Viewer}
 use Rattle.apply_view.specs.Details.{ToldDiagnostic}
 use Rattle.apply_view.specs.OpenPlaces.{AreFilled, HoldsPlaces, index_bytes, places_at, places_bytes, text_bytes, without}
 use Rattle.apply_view.specs.Steps.{ToldStep, at_place, begun_step, ended, first_of, is_open_at, is_open_with, last_of, passes_at, places, places_from, provisions, with_provisioner, with_provisioner_ended}
-use Rattle.apply_view.specs.Telling.{KeptDiagnostics, Telling, max_lines, with_begin, with_diagnostic, with_end, with_provisioner_begin, with_provisioner_end}
+use Rattle.apply_view.specs.Telling.{KeptDiagnostics, Telling, max_lines, max_steps, with_begin, with_diagnostic, with_end, with_provisioner_begin, with_provisioner_end}
 use Rattle.apply_view.specs.Viewing.{HasTold, Takes, added}
 use Rattle.apply_view.proofs.Places.{places_apart, places_kept, places_left, places_push}
 
@@ -38,11 +38,12 @@ placed_index (suc k) f (s ∷ ss) same =
 
 -- ---- what is told is known, and so are the places
 
-pub held : (old new : Viewer) (t u : Telling) → Takes old t → new.told ≡ u → HoldsPlaces new.opened u.steps
+pub held : (old new : Viewer) (t u : Telling) → Takes old t → new.told ≡ u → HoldsPlaces new.opened u.steps → u.begun ≤ max_steps
     → u.lines ≡ t.lines → u.passed ≤ t.lines → u.errors.count ≤ t.lines → u.warnings.count ≤ t.lines → HasTold new u
-held old new t u h is at lines passed errors warnings = record {
+held old new t u h is at begun lines passed errors warnings = record {
   is = is;
   opened = at;
+  begun = begun;
   lines = rw lines h.lines;
   passed = rw lines passed;
   errors = rw lines errors;
@@ -51,6 +52,13 @@ held old new t u h is at lines passed errors warnings = record {
 
 pub less : (n m : ℕ) → n < m → n ≤ m
 less n m l = omega arith
+
+-- where not as many have begun as may, one more may
+pub below_full : (begun : ℕ) (full : Bool) → full ≡ nat_le max_steps begun → full ≡ false → begun < max_steps
+below_full begun full is room = leb-false max_steps begun (sym is ∙ room)
+
+begun_more : (old : Viewer) (t : Telling) → Takes old t → old.told.begun < max_steps → t.begun + 1 ≤ max_steps
+begun_more old t h room = let same : old.told.begun ≡ t.begun = ap (λ (x : Telling). x.begun) h.is in omega (arith, same, room)
 
 -- the steps change, and neither the places of the open ones nor the addresses
 pub kept_places : (opened : OpenPlaces) (before after : List ToldStep) → ((a : List ℕ) → places (is_open_at a) after ≡ places (is_open_at a) before)
@@ -63,11 +71,11 @@ kept_places opened before after same bytes h = record {
 
 -- what is told changes neither the steps nor the counts
 pub kept_held : (old new : Viewer) (t u : Telling) → Takes old t → new.told ≡ u → new.opened ≡ old.opened
-    → ((a : List ℕ) → places (is_open_at a) u.steps ≡ places (is_open_at a) t.steps) → index_bytes u.steps ≡ index_bytes t.steps → u.lines ≡ t.lines → u.passed ≡ t.passed → u.errors.count ≤ t.lines → u.warnings.count ≤ t.lines
+    → ((a : List ℕ) → places (is_open_at a) u.steps ≡ places (is_open_at a) t.steps) → index_bytes u.steps ≡ index_bytes t.steps → u.begun ≤ max_steps → u.lines ≡ t.lines → u.passed ≡ t.passed → u.errors.count ≤ t.lines → u.warnings.count ≤ t.lines
     → HasTold new u
-kept_held old new t u h is at same bytes lines passed errors warnings =
+kept_held old new t u h is at same bytes begun lines passed errors warnings =
     held old new t u h is (subst (λ (o : OpenPlaces). HoldsPlaces o u.steps) (sym at) (kept_places old.opened t.steps u.steps same bytes h.opened))
-    lines (rw passed (less _ _ h.passed)) errors warnings
+    begun lines (rw passed (less _ _ h.passed)) errors warnings
 
 -- ---- a step begins
 
@@ -84,11 +92,11 @@ begun_places address action line m steps a =
     places_push (is_open_at a) 0 steps (begun_step line address action m)
     ∙ (ap (λ (n : ℕ). places (is_open_at a) steps ++ cond (bytes_eq address a) (n ∷ []) []) (add_zero (length steps)) ∙ by_case (bytes_eq address a) (places (is_open_at a) steps) (length steps))
 
-pub begun_held : (old new : Viewer) (t : Telling) (address action : List ℕ) (m : ℤ) → Takes old t → new.told ≡ with_begin address action m old.told
+pub begun_held : (old new : Viewer) (t : Telling) (address action : List ℕ) (m : ℤ) → Takes old t → old.told.begun < max_steps → new.told ≡ with_begin address action m old.told
     → ((a : List ℕ) → places_at new.opened a ≡ cond (bytes_eq address a) (places_at old.opened a ++ length old.told.steps ∷ []) (places_at old.opened a))
     → (AreFilled old.opened → AreFilled new.opened) → places_bytes new.opened ≤ places_bytes old.opened + (text_bytes address + 32)
     → HasTold new (with_begin address action m t)
-begun_held old new t address action m h is at filled bytes =
+begun_held old new t address action m h room is at filled bytes =
     held old new t (with_begin address action m t) h (is ∙ ap (with_begin address action m) h.is)
     (record {
       places = λ a. at a
@@ -97,7 +105,7 @@ begun_held old new t address action m h is at filled bytes =
       filled = filled h.opened.filled;
       bytes = let before = h.opened.bytes in omega (arith, before, bytes, sum_by_push indexed t.steps (begun_step t.lines address action m));
     })
-    refl (less _ _ h.passed) (less _ _ h.errors) (less _ _ h.warnings)
+    (begun_more old t h room) refl (less _ _ h.passed) (less _ _ h.errors) (less _ _ h.warnings)
 
 -- ---- a step ends
 
@@ -161,19 +169,19 @@ end_held old new t address action failed m k h e is at filled bytes =
       filled = filled h.opened.filled;
       bytes = let before = h.opened.bytes in omega (arith, before, bytes, placed_index k (ended m failed) t.steps (λ s. refl));
     })
-    refl (less _ _ h.passed) (less _ _ h.errors) (less _ _ h.warnings))
+    h.begun refl (less _ _ h.passed) (less _ _ h.errors) (less _ _ h.warnings))
 
 -- ---- provisioners
 
 pub provisioner_begun_held : (old new : Viewer) (t : Telling) (address name : List ℕ) (m : ℤ) (k : ℕ) → Takes old t
-    → last_of (places (is_open_at address) t.steps) ≡ Some k
+    → last_of (places (is_open_at address) t.steps) ≡ Some k → old.told.begun < max_steps
     → new.told ≡ record old.told { steps = at_place k (with_provisioner name m) old.told.steps; begun = old.told.begun + 1 }
     → new.opened ≡ old.opened → HasTold new (with_provisioner_begin address name m t)
-provisioner_begun_held old new t address name m k h e is at =
+provisioner_begun_held old new t address name m k h e room is at =
     rw e
     (kept_held old new t (record t { steps = at_place k (with_provisioner name m) t.steps; begun = t.begun + 1 }) h
     (is ∙ ap (λ (x : Telling). record x { steps = at_place k (with_provisioner name m) x.steps; begun = x.begun + 1 }) h.is) at
-    (λ a. places_kept (is_open_at a) (with_provisioner name m) (λ s. refl) 0 k t.steps) (placed_index k (with_provisioner name m) t.steps (λ s. refl)) refl refl (less _ _ h.errors) (less _ _ h.warnings))
+    (λ a. places_kept (is_open_at a) (with_provisioner name m) (λ s. refl) 0 k t.steps) (placed_index k (with_provisioner name m) t.steps (λ s. refl)) (begun_more old t h room) refl refl (less _ _ h.errors) (less _ _ h.warnings))
 
 pub provisioner_ended_held : (old new : Viewer) (t : Telling) (address : List ℕ) (failed : Bool) (m : ℤ) (k : ℕ) → Takes old t
     → last_of (places (is_open_at address) t.steps) ≡ Some k → passes_at k provisions old.told.steps ≡ true
@@ -184,4 +192,4 @@ provisioner_ended_held old new t address failed m k h e passes is at =
     rw (e, there)
     (kept_held old new t (record t { steps = at_place k (with_provisioner_ended m failed) t.steps }) h
     (is ∙ ap (λ (x : Telling). record x { steps = at_place k (with_provisioner_ended m failed) x.steps }) h.is) at
-    (λ a. places_kept (is_open_at a) (with_provisioner_ended m failed) (λ s. refl) 0 k t.steps) (placed_index k (with_provisioner_ended m failed) t.steps (λ s. refl)) refl refl (less _ _ h.errors) (less _ _ h.warnings))
+    (λ a. places_kept (is_open_at a) (with_provisioner_ended m failed) (λ s. refl) 0 k t.steps) (placed_index k (with_provisioner_ended m failed) t.steps (λ s. refl)) h.begun refl refl (less _ _ h.errors) (less _ _ h.warnings))

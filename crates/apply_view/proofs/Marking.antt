@@ -74,7 +74,7 @@ error_held old new t address d h is at =
     (subst (λ (o : OpenPlaces). HoldsPlaces o (map (marked_by_error address) t.steps)) (sym at)
     (kept_places old.opened t.steps (map (marked_by_error address) t.steps)
     (λ a. places_mapped (is_open_at a) (marked_by_error address) (still_open address a) 0 t.steps) (marked_index address t.steps) h.opened))
-    refl (less _ _ h.passed) (omega (arith, h.errors)) (less _ _ h.warnings)
+    h.begun refl (less _ _ h.passed) (omega (arith, h.errors)) (less _ _ h.warnings)
 
 pub error_at_held : (old new : Viewer) (t : Telling) (a : List ℕ) (d : ToldDiagnostic) → Takes old t
     → new.told ≡ record old.told { errors = added d old.told.errors; steps = marked_at (places_at old.opened a) old.told.steps }

@@ -20,11 +20,12 @@ abbrev pub marked_at : List ℕ → List ToldStep → List ToldStep
 marked_at [] steps = steps
 marked_at (place ∷ places) steps = marked_at places (at_place place marked steps)
 
--- the viewer has taken lines that tell this: it keeps what they tell and the places of the steps that are open, and no
--- count is greater than that of the lines
+-- the viewer has taken lines that tell this: it keeps what they tell and the places of the steps that are open, no more steps
+-- and provisioners have begun than may, and no count is greater than that of the lines
 pub record HasTold (viewer : Viewer) (told : Telling) : Type 0 where
   pub is : viewer.told ≡ told
   pub opened : HoldsPlaces viewer.opened told.steps
+  pub begun : told.begun ≤ max_steps
   pub lines : told.lines ≤ max_lines
   pub passed : told.passed ≤ told.lines
   pub errors : told.errors.count ≤ told.lines
@@ -34,6 +35,7 @@ pub record HasTold (viewer : Viewer) (told : Telling) : Type 0 where
 pub record Takes (viewer : Viewer) (told : Telling) : Type 0 where
   pub is : viewer.told ≡ told
   pub opened : HoldsPlaces viewer.opened told.steps
+  pub begun : told.begun ≤ max_steps
   pub lines : told.lines ≤ max_lines
   pub passed : told.passed < told.lines
   pub errors : told.errors.count < told.lines

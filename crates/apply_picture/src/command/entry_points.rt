@@ -34,7 +34,8 @@ const BUFFER_LEN: usize = 65_536;
 /// is too long or there are too many steps, and 3 where memory was refused or `out` could not be written, which is said unless
 /// its reader is gone. Everything is read before anything is written. Whatever ends it early, the input or the file is read to
 /// its end then; behind words that are refused, and a file that can't be opened, the input, unless it is a terminal, at which
-/// nobody waits. `is_colour_wanted` says whether `out` is a terminal on which colours are wanted.
+/// nobody waits. Where a file was opened, the input is left as it is. `is_colour_wanted` says whether `out` is a terminal on
+/// which colours are wanted.
 pub fn follow<F: Files, R: Read, W: Write, E: Write>(
     files: &F,
     alloc: Global,
@@ -110,7 +111,7 @@ pub fn view_input<R: Read, W: Write, E: Write>(
     ensures drawn { WasDrawn form is_colour_wanted (W.contents out.old) (W.contents out.new) result.answer }
     ensures stream { IfSome (R.remaining input.old) (λ bytes. IsOfStream bytes rows form is_colour_wanted
         (W.contents out.old) (W.contents out.new) result.answer) }
-    ensures status { IsStatusOf result.answer result.status }
+    ensures status { IsStatusOf name.entry result.answer result.status }
     ensures quiet { result.status ≡ 0 → Keeps (E.contents faults.old) (E.contents faults.new) }
     ensures gone { result.answer ≡ Err (Undrawn Gone) → Keeps (E.contents faults.old) (E.contents faults.new) }
     ensures statuses { result.status ≤ 3 }

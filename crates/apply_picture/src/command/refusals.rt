@@ -2,7 +2,7 @@
 
 ghost use Rattle.std.specs.Prelude.{◌≡◌, ◌⊎◌};
 ghost use Rattle.std.specs.Io.KnownBytes.{Keeps};
-ghost use Rattle.apply_picture.specs.Viewed.{fault_status_of};
+ghost use Rattle.apply_picture.specs.Viewed.{IsUnreadFile, fault_status_of};
 ghost use Rattle.apply_picture.specs.declared.command.picture_fault.PictureFault.TheVariants.{Undrawn};
 ghost use Rattle.apply_picture.specs.declared.draw_fault.DrawFault.TheVariants.{Gone};
 
@@ -21,7 +21,7 @@ pub fn refuse<E: Write>(
     name: Option<&str>,
     fault: PictureFault,
 ) -> u8
-    ensures status { (result ≡ 3) ⊎ (result ≡ fault_status_of fault) }
+    ensures status { (result ≡ fault_status_of fault) ⊎ ((result ≡ 3) × IsUnreadFile name.entry fault) }
     ensures gone { fault ≡ Undrawn Gone → Keeps (E.contents faults.old) (E.contents faults.new) }
 {
     match (fault, name) {

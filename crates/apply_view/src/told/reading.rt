@@ -1,9 +1,9 @@
 //! Reading a whole stream.
 
-ghost use Rattle.std.specs.Prelude.{◌≡◌, Err, IfErr, IfSome, OnOk};
+ghost use Rattle.std.specs.Prelude.{Err, IfErr, IfSome, OnOk};
 ghost use Rattle.apply_lines.specs.Cut.{cut_lines};
-ghost use Rattle.apply_view.specs.Lines.{IsToldOf};
-ghost use Rattle.apply_view.specs.Telling.{nothing_told, told_of};
+ghost use Rattle.apply_view.specs.Lines.{AreTold, IsToldOf};
+ghost use Rattle.apply_view.specs.Telling.{nothing_told};
 ghost use Rattle.apply_view.specs.Viewing.{HasTold};
 
 use crate::told::stream_told::Told;
@@ -41,8 +41,7 @@ fn take_lines<R: BufRead>(
     viewer: &mut Viewer,
 ) -> Result<(), ViewFault>
     requires { HasTold viewer.old nothing_told }
-    ensures told { OnOk result (IfSome (R.remaining reader.old)
-        (λ bytes. viewer.new.told ≡ told_of (cut_lines bytes))) }
+    ensures told { OnOk result (IfSome (R.remaining reader.old) (λ bytes. AreTold (cut_lines bytes) viewer.new.told)) }
     ensures fault { IfErr result (λ fault. IfSome (R.remaining reader.old) (λ bytes. IsToldOf bytes (Err fault))) }
 {
     'lines: for before in 0..u64::MAX {

@@ -16,12 +16,22 @@ was_viewed : {File : Type 0} (remaining : File → Option (List ℕ)) (words : L
     → HaveSaid words settings → followed ≡ record { status = outcome.status; answer = Some outcome.answer; rest = outcome.rest }
     → IsGivenBy remaining input settings.file bytes → WasDrawn settings.form is_wanted before after outcome.answer
     → IfSome bytes (λ bytes. IsOfStream bytes settings.rows settings.form is_wanted before after outcome.answer)
-    → IsStatusOf outcome.answer outcome.status
-    → (settings.file ≡ None → IfErr outcome.answer (λ fault. OnOk outcome.rest (IsAtEnd left)))
+    → IsStatusOf settings.file outcome.answer outcome.status
+    → (settings.file ≡ None → IfErr outcome.answer (λ fault. OnOk outcome.rest (IsAtEnd left))) → (IsSome settings.file → left ≡ input)
     → IfSome followed.answer (WasViewed remaining words input left is_wanted before after followed)
-was_viewed remaining words input left is_wanted before after followed outcome settings bytes said is given drawn stream told read =
+was_viewed remaining words input left is_wanted before after followed outcome settings bytes said is given drawn stream told read left_alone =
     subst (λ (f : Followed). IfSome f.answer (WasViewed remaining words input left is_wanted before after f)) (sym is)
-    (record { settings = settings; said = said; bytes = bytes; given = given; drawn = drawn; stream = stream; told = told; read = read })
+    (record {
+      settings = settings;
+      said = said;
+      bytes = bytes;
+      given = given;
+      drawn = drawn;
+      stream = stream;
+      told = told;
+      read = read;
+      left_alone = left_alone;
+    })
 
 pub returns-in_default-clause-viewed : goal.returns-in_default-clause-viewed
 returns-in_default-clause-viewed g c =

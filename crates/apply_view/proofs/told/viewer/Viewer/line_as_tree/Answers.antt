@@ -15,7 +15,7 @@ returns-in-Ok c =
     goes_from (Takes old) (Takes read) c.tree.new.self (with_tree (view c.in-Ok.tree)) (with_message_or_passed (message_of line)) c.tree.result
     (λ t takes. (
       t,
-      record { is = takes.is; opened = takes.opened; lines = takes.lines; passed = takes.passed; errors = takes.errors; warnings = takes.warnings },
+      record { is = takes.is; opened = takes.opened; begun = takes.begun; lines = takes.lines; passed = takes.passed; errors = takes.errors; warnings = takes.warnings },
       of_trimmed line (view c.in-Ok.tree) t c.in-Ok.ensures.ok.1,
     ))
     c.tree.ensures
