@@ -217,8 +217,10 @@ fn tell<W: Write>(
 {
     let found = findings_of(alloc, plan, script, lanes, form)?;
     let text = found_text(alloc, &found, plan, script, lens)?;
-    write_whole(out, text.as_str().as_bytes())?;
-    Ok(status_of(&found))
+    match write_whole(out, text.as_str().as_bytes()) {
+        Ok(()) => Ok(status_of(&found)),
+        Err(fault) => Err(fault),
+    }
 }
 
 /// The exit status for what is found.
