@@ -2,6 +2,8 @@ pub mod ChangesUnderWay
 pub mod LaneLines
 pub mod PlannedChanges
 pub mod Plans
+pub mod ReadScripts
 pub mod Sharing
 pub mod StepTimes
+pub mod StepsUnderWay
 pub mod Waits
