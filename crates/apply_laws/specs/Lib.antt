@@ -4,8 +4,10 @@ pub mod LastMembers
 pub mod PlannedChanges
 pub mod PlannedWords
 pub mod Plans
+pub mod ReadScripts
 pub mod Sensitive
 pub mod SensitiveChanges
 pub mod Sharing
 pub mod StepTimes
+pub mod StepsUnderWay
 pub mod Waits

@@ -9,9 +9,11 @@ mod hooks;
 mod lines;
 mod planned;
 mod plans;
+mod read_scripts;
 mod runs;
 mod sensitive;
 mod time_lines;
+mod under_way;
 mod waits;
 
 pub use dealing::{
@@ -43,6 +45,10 @@ pub use planned::{
 pub use plans::{
     each_object_is_named_once, other_members_are_ignored, relative_addresses_join_their_module,
 };
+pub use read_scripts::{
+    what_lanes_stream_leaves_out_what_waits_in_vain, what_was_read_can_begin,
+    what_was_read_is_within_limits, what_was_read_leaves_out_what_waits_in_vain,
+};
 pub use runs::{
     a_time_line_is_applied_by_workers, between_the_lines_of_a_step_lie_its_seconds,
     what_lanes_stream_is_a_run_of_workers,
@@ -54,4 +60,5 @@ pub use time_lines::{
     no_lane_is_idle_while_a_change_waits, no_more_changes_are_under_way_than_lanes,
     one_lane_has_all_changes_in_order, two_time_lines_are_equal,
 };
+pub use under_way::no_more_steps_are_under_way_than_lanes;
 pub use waits::steps_that_could_begin_are_the_least_set;

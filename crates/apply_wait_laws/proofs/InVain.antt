@@ -1,6 +1,6 @@
 -- What waits in vain has no events, and no other step that could begin has none.
 use Rattle.std.proofs.Common.{◌≡◌, ◌⊎◌, ℕ, zero, suc, ◌*◌, ◌<◌, ◌≤◌, Bool, true, false, ◌&&◌, List, [], ◌∷◌, length, refl, sym, ap, ◌∙◌, subst, ⊎_elim, inl, inr, arith}
-use Rattle.std.specs.Prelude.{not}
+use Rattle.std.specs.Prelude.{◌↔◌, not}
 use Rattle.std.specs.List.{Contains, list_all}
 use Rattle.std.proofs.lemmas.Bool.{cases_Bool, cases_lt, true≢false}
 use Rattle.apply_model.specs.declared.script.wait.Wait.{Wait}
@@ -137,14 +137,20 @@ module _ (w : Work) (events : List Event) (few : HasFewSteps w) (exact : BeginWh
       (cases_lt name.step (length (kinds_applied w.plan w.script name.change)))))
       (cases_Bool (skips w.script name))
 
-  pub leave_out : LeaveOutWhatWaitsInVain w events
-  leave_out c k has begins = (
-    λ none. in_vain (2 * length w.script) (record { change = c; step = k }) begins has none,
+  -- a step that begins within some rounds
+  pub leave_out_within : (rounds c k : ℕ) → HasStep w.plan c k → begins_within w.script rounds c k ≡ true
+      → (has_events events (record { change = c; step = k }) ≡ false
+      ↔ ((skips w.script (record { change = c; step = k }) ≡ true) ⊎ WaitsInVain w events (record { change = c; step = k })))
+  leave_out_within rounds c k has begins = (
+    λ none. in_vain rounds (record { change = c; step = k }) begins has none,
     λ why. ⊎_elim
         (λ (skipped : skips w.script (record { change = c; step = k }) ≡ true). none_if_skipped (record { change = c; step = k }) has skipped)
         (λ (vain : WaitsInVain w events (record { change = c; step = k })). none_in_vain (record { change = c; step = k }) vain has)
         why,
   )
+
+  pub leave_out : LeaveOutWhatWaitsInVain w events
+  leave_out c k has begins = leave_out_within (2 * length w.script) c k has begins
 
   -- the step for which it waits in vain at last
   some_stopped : (name : Wait) → WaitsInVain w events name → (at_last : Wait) × ((has_stopped w events at_last ≡ true) ⊎ (skips w.script at_last ≡ true))
