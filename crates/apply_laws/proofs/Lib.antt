@@ -11,6 +11,7 @@ mod Latest
 mod LeastSet
 mod LineTypes
 mod NoneSkipped
+mod PlainSteps
 mod PlannedElements
 mod PlannedLines
 mod ProvisionsFit
