@@ -14,6 +14,7 @@ mod LeftOutInVain
 mod LineTypes
 mod NoneSkipped
 mod OpenInLanes
+mod PlainSteps
 mod PlannedElements
 mod PlannedLines
 mod ProvisionsFit

@@ -1,5 +1,5 @@
 -- Which lines of a stream in Terraform's form have the type `planned_change`, by how they end.
-use Rattle.std.proofs.Common.{◌≡◌, ◌⊎◌, inl, inr, ℕ, ◌+◌, ◌<◌, ◌≤◌, List, [], ◌∷◌, ◌++◌, append-nil, append_assoc, codes, cond, decimal, length, map, nat_eq, Bool, true, false, Option, Some, None, refl, sym, ap, ap₂, ◌∙◌, subst, slice_get, arith}
+use Rattle.std.proofs.Common.{◌≡◌, inl, inr, ℕ, ◌+◌, List, [], ◌∷◌, ◌++◌, append-nil, append_assoc, codes, cond, decimal, length, map, nat_eq, Bool, true, false, Option, Some, None, refl, sym, ap, ap₂, ◌∙◌, subst, slice_get, arith}
 use Rattle.std.specs.Prelude.{flat_map, reverse}
 use Rattle.std.specs.List.{AllByRecursion, concat, enumerate_from, starts_with}
 use Rattle.std.specs.Option.{option_map_or}
@@ -29,12 +29,12 @@ use Rattle.apply_text.specs.Message.{Message}
 use Rattle.apply_text.specs.Order.{as_written}
 use Rattle.apply_form.specs.Escapes.{escaped}
 use Rattle.apply_form.specs.Kept.{kept_members, note_end, note_front, note_with}
-use Rattle.apply_form.specs.Lines.{event_line, line_of_text, message_line, note_text, outputs_text, summary_text, told_line, version_members, version_text}
+use Rattle.apply_form.specs.Lines.{event_line, line_of_text, message_line, note_text, summary_text, told_line, version_members, version_text}
 use Rattle.apply_form.specs.Message.{event_message, is_silent, kept_of, note_message, summary_message}
 use Rattle.apply_form.specs.Moment.{fine_text}
 use Rattle.apply_form.specs.Outputs.{outputs_from, outputs_message}
 use Rattle.apply_form.proofs.Cuts.{Begins, cut}
-use Rattle.apply_writer.specs.Stream.Terraform.{Besides, head_pieces, imported_in, outputs_of_apply, planned_at, planned_id_of, tail_text, tells_error, terraform_form}
+use Rattle.apply_writer.specs.Stream.Terraform.{Besides, imported_in, outputs_of_apply, planned_at, planned_id_of, tail_text, tells_error, terraform_form}
 use Rattle.apply_laws.specs.PlannedChanges.{TellsThatPlanned, planned_in}
 use Rattle.apply_laws.specs.PlannedWords.{IsOtherLine, OnlyPlannedAreTold, is_planned_line, lines_after, lines_of_events, planned_end}
 use Rattle.apply_laws.proofs.PlannedLines.{each_told, pieces}

@@ -1,12 +1,12 @@
 -- Bytes that differ only in what no stream tells are read alike.
-use Rattle.std.proofs.Common.{◌≡◌, ◌⊎◌, ℕ, List, [], ◌∷◌, codes, Bool, true, false, cond, length, ltb, Option, Some, None, Ok, Err, Result, inl, inr, option_map, refl, sym, ap, ap₂, ◌∙◌, subst}
+use Rattle.std.proofs.Common.{◌≡◌, ℕ, List, [], ◌∷◌, codes, Bool, true, false, length, ltb, Option, Some, None, Ok, Err, Result, inl, inr, option_map, refl, sym, ap, ◌∙◌, subst}
 use Rattle.std.specs.Prelude.{◌&&◌, ◌||◌, not, option_and_then}
 use Rattle.std.specs.Option.{is_some}
 use Rattle.std.proofs.lemmas.Option.{same_Some}
 use Rattle.json.specs.Json as json
 use Rattle.json.specs.Print.{print_from}
 use Rattle.serde_json.specs.Data.{Data, Members, no_members, member}
-use Rattle.serde_json.specs.Find.{as_array, as_object, as_str, get}
+use Rattle.serde_json.specs.Find.{as_str, get}
 use Rattle.serde_json.specs.Read.{of_json}
 use Rattle.apply_json.specs.Keeping.{keeping, keeping_member, keeping_tree_of, none_kept}
 use Rattle.apply_json.specs.Tree.{◌>>=◌, member_of, tree_of, unless_null}
@@ -18,20 +18,16 @@ use Rattle.apply_plan.specs.declared.script.script_error.ScriptError.{ScriptErro
 use Rattle.apply_plan.specs.declared.script.script_error.ScriptError.TheVariants as script_error
 use Rattle.apply_plan.specs.Bytes.{max_bytes}
 use Rattle.apply_plan.specs.Plan.SavedPlan.{plan_of, plan_of_tree}
-use Rattle.apply_plan.specs.Results as results
 use Rattle.apply_plan.specs.Results.{or_refuse}
 use Rattle.apply_plan.specs.Script.Entry.{is_kept}
 use Rattle.apply_plan.specs.Script.OutcomeMap.{script_of, script_of_tree}
 use Rattle.apply_plan.proofs.Results.{bind_ok, done, guard_ok, ok_is, or_refuse_ok, unless_refused_ok}
-use Rattle.apply_model.specs.declared.details.change_details.ChangeDetails.{ChangeDetails}
-use Rattle.apply_model.specs.declared.details.note.Note.{Note}
 use Rattle.apply_form_plan.specs.declared.texts.part.Part.{Part}
 use Rattle.apply_form_plan.specs.declared.texts.part.Part.TheVariants.{Plan, State, Values, Script, Diagnostics, Outputs, Output, OutputChanges, OutputChange, Text}
-use Rattle.apply_form_plan.specs.declared.told_of_plan.PlanNote.{PlanNote}
 use Rattle.apply_form_plan.specs.Changes.{changes_of}
 use Rattle.apply_form_plan.specs.Extras.{ExtrasOfScript, extras_of_json, extras_of_script, with_notes}
 use Rattle.apply_form_plan.specs.Notes.{notes_in_script}
-use Rattle.apply_form_plan.specs.Outputs.{OutputsOfPlan, change_of, fault_of, is_gone, is_null, is_that, is_unknown, member_in, members_or_none, outputs_in_script, outputs_of_plan, text_at, text_in, unless_faulty}
+use Rattle.apply_form_plan.specs.Outputs.{OutputsOfPlan, change_of, fault_of, is_null, is_that, member_in, members_or_none, outputs_in_script, outputs_of_plan, text_at, text_in, unless_faulty}
 use Rattle.apply_form_plan.specs.Plan.{note_of}
 use Rattle.apply_form_plan.specs.Texts.{is_text, json_of, members_with_texts, part_named, with_texts}
 use Rattle.apply_form_plan.specs.Told.{DetailsOfPlan, details_of}
@@ -39,7 +35,7 @@ use Rattle.apply_run.specs.Bytes.{Given, given_script}
 use Rattle.apply_run.specs.Read.{IsTold, Told, given_extras}
 use Rattle.apply_laws.specs.LastMembers.{HaveAlike, HaveSame, is_true, last_of}
 use Rattle.apply_laws.specs.Plans.{AreAlike}
-use Rattle.apply_laws.specs.Sensitive.{AreReadAlike, AreSameButSecrets, DifferInSecrets, IsSameButSecret, KnowSameOutputs, SayEachOutput, SaySameInForm, SaySameOutput, SaySameOutputChanges, SaySameOutputs, ScriptsSaySameInForm, is_sensitive}
+use Rattle.apply_laws.specs.Sensitive.{AreReadAlike, AreSameButSecrets, DifferInSecrets, IsSameButSecret, KnowSameOutputs, SayEachOutput, SaySameInForm, SaySameOutput, SaySameOutputChanges, SaySameOutputs, ScriptsSaySameInForm}
 use Rattle.apply_laws.proofs.LastMembers.{found_in, step, text_found, tree_of_value}
 use Rattle.apply_laws.proofs.PlannedElements.{tree_is}
 use Rattle.apply_laws.proofs.SecretChanges.{same_plan, same_said}

@@ -1,11 +1,11 @@
 -- Changes of resources that differ only in what no stream tells are read alike.
-use Rattle.std.proofs.Common.{◌≡◌, ◌⊎◌, ℕ, suc, List, [], ◌∷◌, ◌++◌, codes, Bool, true, false, cond, length, ltb, map, nat_eq, Option, Some, None, Ok, Err, Result, inl, inr, option_map, refl, sym, ap, ap₂, ◌∙◌, subst}
+use Rattle.std.proofs.Common.{◌≡◌, ℕ, suc, List, [], ◌∷◌, ◌++◌, codes, Bool, true, false, cond, ltb, map, nat_eq, Option, Some, None, Ok, Err, Result, inl, inr, option_map, refl, sym, ap, ap₂, ◌∙◌, subst}
 use Rattle.std.specs.Prelude.{◌||◌}
 use Rattle.std.specs.List.{starts_with}
 use Rattle.std.specs.Option.{option_map_or}
 use Rattle.std.proofs.lemmas.Option.{same_Some}
 use Rattle.json.specs.Json as json
-use Rattle.serde_json.specs.Data.{Data, null, boolean, number, string, array, object, Items, no_items, item, Members, no_members}
+use Rattle.serde_json.specs.Data.{Data, null, boolean, number, string, array, object, Items, no_items, item, no_members}
 use Rattle.serde_json.specs.Events.{items_len}
 use Rattle.serde_json.specs.Find.{as_array, as_str, get}
 use Rattle.serde_json.specs.Read.{number_of}
@@ -20,7 +20,7 @@ use Rattle.apply_model.specs.declared.details.reason.Reason.{Reason}
 use Rattle.apply_plan.specs.declared.plan.plan_error.PlanError.{PlanError}
 use Rattle.apply_plan.specs.declared.plan.plan_error.PlanError.TheVariants.{NotAPlan, TooMany}
 use Rattle.apply_plan.specs.ListReading.{made_after}
-use Rattle.apply_plan.specs.Plan.Element.{Element, element_of, hides_id, is_true, planned_change_of, prior_id_of}
+use Rattle.apply_plan.specs.Plan.Element.{element_of, hides_id, is_true, planned_change_of, prior_id_of}
 use Rattle.apply_plan.specs.Plan.Header.{Header, header_of}
 use Rattle.apply_plan.specs.Plan.NextChange.{change_after}
 use Rattle.apply_plan.specs.Plan.SavedPlan as plan

@@ -1,5 +1,5 @@
 -- What is read alike but for values of sensitive outputs is told alike.
-use Rattle.std.proofs.Common.{◌≡◌, ℕ, List, [], ◌∷◌, codes, Bool, true, false, cond, map, Option, Some, None, Ordering, Less, Equal, Greater, refl, sym, ap, ap₂, ◌∙◌}
+use Rattle.std.proofs.Common.{◌≡◌, ℕ, List, ◌∷◌, codes, Bool, true, false, cond, map, Option, Some, Ordering, Less, Equal, Greater, refl, sym, ap, ap₂, ◌∙◌}
 use Rattle.std.specs.Prelude.{◌&&◌, ◌||◌, not}
 use Rattle.std.specs.Cmp.Lexicographic.{slice_cmp}
 use Rattle.std.specs.Option.{is_some}
@@ -8,7 +8,7 @@ use Rattle.serde_json.specs.Data.{Data, Members, no_members, member, put}
 use Rattle.serde_json.specs.Find.{get_member}
 use Rattle.apply_model.specs.declared.details.output.Output.{Output}
 use Rattle.apply_form.specs.Laws.{without_secret}
-use Rattle.apply_form_plan.specs.Outputs.{OutputsOfPlan, as_outputs, beside, change_of, is_gone, is_null, is_that, is_told, is_unknown, or_null, output_of, text_at, told_outputs}
+use Rattle.apply_form_plan.specs.Outputs.{OutputsOfPlan, as_outputs, beside, is_null, is_that, is_told, or_null, output_of, text_at, told_outputs}
 use Rattle.apply_laws.specs.Sensitive.{AreSameButSecrets, IsSameButSecret, KnowSameOutputs}
 
 -- ---- a look-up, and one more output

@@ -1,5 +1,5 @@
 -- A run does not depend on the values of sensitive outputs.
-use Rattle.std.proofs.Common.{◌≡◌, ℕ, List, false, refl, sym, ap, ap₂, ◌∙◌, subst}
+use Rattle.std.proofs.Common.{◌≡◌, ℕ, List, false, sym, ap, ap₂, ◌∙◌, subst}
 use Rattle.apply_hooks.specs.declared.rule.Rule.{Rule}
 use Rattle.apply_model.specs.Plan.SavedPlan.{SavedPlan}
 use Rattle.apply_model.specs.Script.OutcomeMap.{OutcomeMap}
@@ -14,7 +14,7 @@ use Rattle.apply_run.specs.declared.refusal.Refusal.TheVariants as refusal
 use Rattle.apply_run.specs.Bytes.{Given}
 use Rattle.apply_run.specs.InForm.{WasAppliedAsTold, WasAppliedAsToldInLanes, WasNotApplied, WasNotAppliedInLanes, form_of, work_of}
 use Rattle.apply_run.specs.Lanes.{HasFailedInFormAndLanes, HasStreamedInFormAndLanes}
-use Rattle.apply_run.specs.Read.{IsTold, Told, besides_of}
+use Rattle.apply_run.specs.Read.{IsTold, Told}
 use Rattle.apply_run.specs.Run.{HasFailedInForm, HasStreamedInForm, Sight}
 use Rattle.apply_writer.specs.Stream.Form.{StreamForm}
 use Rattle.apply_writer.specs.Stream.Terraform.{tells_error}

@@ -1,16 +1,12 @@
 -- A stream does not depend on the values of sensitive outputs.
-use Rattle.std.proofs.Common.{◌≡◌, ℕ, List, [], ◌++◌, cond, length, map, Option, refl, ap, ap₂, ◌∙◌}
+use Rattle.std.proofs.Common.{◌≡◌, ℕ, List, [], ◌++◌, cond, map, Option, refl, ap, ap₂, ◌∙◌}
 use Rattle.std.proofs.Math.Path.{fun_ext}
 use Rattle.std.specs.Prelude.{flat_map}
 use Rattle.apply_model.specs.Plan.SavedPlan.{SavedPlan}
 use Rattle.apply_model.specs.Script.OutcomeMap.{OutcomeMap}
 use Rattle.apply_events.specs.declared.counts.Counts.{Counts}
-use Rattle.apply_events.specs.declared.event.Event.{Event}
-use Rattle.apply_events.specs.Totals.{totals_of}
 use Rattle.apply_text.specs.declared.operation.Operation.{Operation}
 use Rattle.apply_text.specs.declared.operation.Operation.TheVariants.{Apply, Destroy}
-use Rattle.apply_text.specs.Latest.{latest_of}
-use Rattle.apply_text.specs.Order.{as_written}
 use Rattle.apply_model.specs.declared.details.change_details.ChangeDetails.{ChangeDetails}
 use Rattle.apply_model.specs.declared.details.note.Note.{Note}
 use Rattle.apply_model.specs.declared.details.output.Output.{Output}
@@ -19,11 +15,10 @@ use Rattle.apply_form.specs.Lines.{note_text, summary_text}
 use Rattle.apply_form.proofs.Absent.{secrets}
 use Rattle.apply_form_plan.specs.declared.told_of_plan.PlanNote.{PlanNote}
 use Rattle.apply_form_plan.specs.Notes.{told_notes}
-use Rattle.apply_form_plan.specs.Outputs.{told_outputs}
 use Rattle.apply_run.specs.InForm.{form_of}
 use Rattle.apply_run.specs.Read.{Told, applied_plan, applied_script, besides_of, is_unfinished}
 use Rattle.apply_writer.specs.Stream.Form.{StreamForm, lines_in, stream_in}
-use Rattle.apply_writer.specs.Stream.Terraform.{Besides, imported_in, outputs_of_apply, tail_text, tells_error, terraform_form}
+use Rattle.apply_writer.specs.Stream.Terraform.{imported_in, outputs_of_apply, tail_text, tells_error, terraform_form}
 use Rattle.apply_laws.specs.Sensitive.{AreReadAlike, TellTheSame}
 use Rattle.apply_laws.proofs.SecretOutputs.{outputs_alike}
 

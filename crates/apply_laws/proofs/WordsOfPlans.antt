@@ -1,5 +1,5 @@
 -- Each planned change is told in the word for the actions that the plan has for it.
-use Rattle.std.proofs.Common.{◌≡◌, ℕ, suc, ◌+◌, List, [], ◌∷◌, ◌++◌, append-nil, append_assoc, codes, cond, length, map, Bool, true, false, Option, Some, None, Ok, Err, refl, sym, ap, ap₂, ◌∙◌, subst, arith}
+use Rattle.std.proofs.Common.{◌≡◌, ℕ, suc, ◌+◌, List, [], ◌∷◌, ◌++◌, append-nil, append_assoc, codes, cond, length, map, Bool, true, false, Option, Some, None, Ok, Err, refl, sym, ap, ◌∙◌, subst, arith}
 use Rattle.std.specs.Prelude.{◌&&◌, MatchOption, slice_get}
 use Rattle.std.specs.List.{enumerate_from, list_any}
 use Rattle.std.specs.Option.{option_map_or}
@@ -10,7 +10,6 @@ use Rattle.serde_json.specs.Data.{Data, Items, no_items, item}
 use Rattle.serde_json.specs.Find.{as_str}
 use Rattle.apply_json.specs.Tree.{◌>>=◌, is_word, list_of, member_of, non_empty_text_of, text_of, text_or, tree_of}
 use Rattle.apply_model.specs.declared.details.change_details.ChangeDetails.{ChangeDetails}
-use Rattle.apply_model.specs.declared.details.importing.Importing.{Importing}
 use Rattle.apply_model.specs.declared.details.previous_resource.PreviousResource.{PreviousResource}
 use Rattle.apply_model.specs.declared.plan.step_kind.StepKind.{StepKind}
 use Rattle.apply_model.specs.declared.plan.step_kind.StepKind.TheVariants.{Create, Update, Delete, Read}
@@ -31,7 +30,7 @@ use Rattle.apply_form.specs.Lines.{message_line, planned_text}
 use Rattle.apply_form.specs.Message.{planned_message}
 use Rattle.apply_form.specs.Objects.{change_object}
 use Rattle.apply_form_plan.specs.Changes.{elements_of}
-use Rattle.apply_form_plan.specs.Details.{actions_in, element_details, forgets_in, is_forgetting}
+use Rattle.apply_form_plan.specs.Details.{element_details, forgets_in, is_forgetting}
 use Rattle.apply_form_plan.specs.Told.{DetailsOfPlan, details_of}
 use Rattle.apply_writer.specs.Stream.Terraform as stream
 use Rattle.apply_laws.specs.PlannedWords.{AreToldInTheirWords, IsToldInItsWord, TellsOfPlan, word_for, word_of}

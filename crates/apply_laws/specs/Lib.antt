@@ -1,6 +1,7 @@
 pub mod ChangesUnderWay
 pub mod LaneLines
 pub mod LastMembers
+pub mod PlainSteps
 pub mod PlannedChanges
 pub mod PlannedWords
 pub mod Plans

@@ -1,5 +1,5 @@
 -- Plans and scripts that differ only in what no stream tells. The values of sensitive outputs are part of that.
-use Rattle.std.specs.Prelude.{◌≡◌, ◌⊎◌, ℕ, List, [], ◌∷◌, codes, Bool, false, Option, Some, None, ⊤}
+use Rattle.std.specs.Prelude.{◌≡◌, ◌⊎◌, ℕ, List, [], ◌∷◌, codes, Bool, false, ⊤}
 use Rattle.json.specs.Json as json
 use Rattle.serde_json.specs.Data.{Data, Members, no_members, member}
 use Rattle.apply_events.specs.declared.event.Event.{Event}

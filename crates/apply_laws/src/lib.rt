@@ -7,6 +7,7 @@ mod events;
 mod forms;
 mod hooks;
 mod lines;
+mod plain;
 mod planned;
 mod plans;
 mod read_scripts;
@@ -39,6 +40,7 @@ pub use lines::{
     moments_of_lines_never_fall, the_order_of_writing_loses_nothing,
     the_summary_counts_the_lines_of_completion, whole_units_are_told_with_zeros,
 };
+pub use plain::a_step_without_newer_members_has_plain_events;
 pub use planned::{
     only_planned_changes_have_that_type, planned_changes_are_told_in_the_plans_words,
 };
