@@ -1,29 +1,35 @@
--- The exit statuses: 0 and 1 say that a stream is whole, 2, 3 and 4 that it is not, or that none was looked at.
-use Rattle.std.proofs.Common.{◌≡◌, ◌≤◌, ◌⊎◌, inl, inr, ℕ, List, [], ◌∷◌, Option, Err, refl, subst, ◌∙◌, ⊎_elim, arith}
-use Rattle.std.specs.Io.KnownBytes.{Keeps}
+-- The exit statuses: 0 and 1 say that a stream is whole, 2, 3 and 4 that it is not, or that none was looked at, or that what was
+-- found was not said.
+use Rattle.std.proofs.Common.{◌≡◌, ◌≢◌, ◌≤◌, ◌⊎◌, inl, inr, ℕ, List, [], ◌∷◌, ◌++◌, Bool, true, false, cond, Option, Result, Ok, Err, refl, subst, ◌∙◌, ⊎_elim, arith}
+use Rattle.std.specs.Prelude.{IfErr, IfSome, OnOk}
+use Rattle.std.specs.Io.KnownBytes.{Appends, Keeps}
 use Rattle.std.proofs.KnownBytes.{Keeps-refl, Keeps-trans}
 use Rattle.clap.specs.Faults.{fault_of}
 use Rattle.clap.specs.Kinds.{IsAmong}
 use Rattle.clap.specs.Walk.{Text as Word}
 use Rattle.clap.specs.declared.error.kind.ErrorKind.TheVariants.{DisplayHelp}
+use Rattle.serde_json.specs.Data.{no_members, object}
+use Rattle.serde_json.specs.Written.{compact_text}
 use Rattle.apply_words.specs.Refused.{usage_status_of}
 use Rattle.apply_words.specs.Words.{WereRefused}
 use Rattle.apply_words.specs.declared.usage.Usage.{Usage}
 use Rattle.apply_words.specs.declared.usage.Usage.TheVariants as usage
 use Rattle.apply_check.specs.CommandLine.{HaveSaid, WasNotChecked, command_line}
-use Rattle.apply_check.specs.Telling.{IsFaultSaid, IsTold, fault_status_of}
+use Rattle.apply_check.specs.Telling.{IsFaultSaid, IsTold, IsToldOf, TakesMemory, status_of, whole_said}
+use Rattle.apply_check.specs.ToldObject.{with_told}
 use Rattle.apply_check.specs.declared.command.form.Form.{Form}
 use Rattle.apply_check.specs.declared.command.form.Form.TheVariants.{Json, Text}
 use Rattle.apply_check.specs.declared.command.settings.Settings.{Settings}
+use Rattle.apply_check.specs.declared.command.told.Told.{Told}
+use Rattle.apply_check.specs.declared.command.unsaid.Unsaid.{Unsaid}
+use Rattle.apply_check.specs.declared.command.unsaid.Unsaid.TheVariants as unsaid
 use Rattle.apply_check.specs.declared.rules.mode.Mode.{Mode}
 use Rattle.apply_check.specs.declared.verdict.finding.Finding.{Finding}
 use Rattle.apply_check.specs.declared.verdict.read_fault.ReadFault.{ReadFault}
 use Rattle.apply_check.specs.declared.verdict.read_fault.ReadFault.TheVariants as read
+use Rattle.apply_check.specs.declared.verdict.whole.Whole.{Whole}
 
--- the status of a stream that is not whole, and of one that was not looked at, is none of a whole stream
-pub bad : {R : Type 0} (status : ℕ) → 2 ≤ status → status ≤ 1 → R
-bad status least most = absurd (omega arith)
-
+-- where nothing was looked at
 pub refused : {R : Type 0} (status : ℕ) → (status ≡ 2) ⊎ (status ≡ 3) → status ≤ 1 → R
 refused status (inl two) most = absurd (omega arith)
 refused status (inr three) most = absurd (omega arith)
@@ -32,27 +38,69 @@ pub refused_by : (status : ℕ) → (status ≡ 2) ⊎ (status ≡ 3) → status
 refused_by status (inl two) = omega arith
 refused_by status (inr three) = omega arith
 
-pub whole_by : 0 ≤ 4
-whole_by = omega arith
+-- ---- the status of an answer
 
-pub errors_by : 1 ≤ 4
-errors_by = omega arith
+whole_most : (has_errors : Bool) → cond has_errors 1 0 ≤ 4
+whole_most true = omega arith
+whole_most false = omega arith
 
-pub not_whole_is_bad : (2 ≤ 4) × (4 ≤ 4)
-not_whole_is_bad = (omega arith, omega arith)
+pub status_most : (answer : Result Whole ReadFault) (said : Result (Unit {0}) Unsaid) → status_of answer said ≤ 4
+status_most (Ok whole) (Ok done) = whole_most whole.has_errors
+status_most (Ok whole) (Err why) = omega arith
+status_most (Err (read.Found finding)) (Ok done) = omega arith
+status_most (Err read.TooMany) (Ok done) = omega arith
+status_most (Err (read.Unread number)) (Ok done) = omega arith
+status_most (Err read.Memory) (Ok done) = omega arith
+status_most (Err fault) (Err why) = omega arith
 
-pub memory_is_bad : (status : ℕ) → status ≡ 3 → (2 ≤ status) × (status ≤ 4)
-memory_is_bad status is = (omega arith, omega arith)
+-- a low status is that of a whole stream, and of nothing else
+pub bad : {R : Type 0} (fault : ReadFault) (said : Result (Unit {0}) Unsaid) → status_of (Err fault) said ≤ 1 → R
+bad (read.Found finding) (Ok done) few = absurd (omega arith)
+bad read.TooMany (Ok done) few = absurd (omega arith)
+bad (read.Unread number) (Ok done) few = absurd (omega arith)
+bad read.Memory (Ok done) few = absurd (omega arith)
+bad fault (Err why) few = absurd (omega arith)
 
-pub text_is_bad : (status : ℕ) → (status ≡ 3) ⊎ (status ≡ 4) → (2 ≤ status) × (status ≤ 4)
-text_is_bad status (inl three) = (omega arith, omega arith)
-text_is_bad status (inr four) = (omega arith, omega arith)
+-- and of one that was said
+pub quiet_by : {P : Type 0} (whole : Whole) (said : Result (Unit {0}) Unsaid) → OnOk said P → status_of (Ok whole) said ≤ 1 → P
+quiet_by whole (Ok done) quiet few = quiet
+quiet_by whole (Err why) quiet few = absurd (omega arith)
+
+-- ---- what is said, and what is not
+
+-- for want of memory, before anything was written
+pub memory_told : (is_named : Bool) (mode : Mode) (seen : Option (List ℕ)) (form : Form) (answer : Result Whole ReadFault) (held : Option (List ℕ)) → TakesMemory is_named answer
+    → IsTold is_named mode seen form answer (Err unsaid.Memory) held held
+memory_told is_named mode seen form answer held takes = (takes, Keeps-refl held)
+
+-- a whole stream, by what became of its line
+pub whole_told : (is_named : Bool) (mode : Mode) (seen : Option (List ℕ)) (form : Form) (whole : Whole) (said : Result (Unit {0}) Unsaid) (before after : Option (List ℕ))
+    → OnOk said (Appends before after (whole_said form whole ++ 10 ∷ [])) → IfErr said (λ why. why ≢ unsaid.Memory)
+    → IsTold is_named mode seen form (Ok whole) said before after
+whole_told is_named mode seen form whole (Ok done) before after written unwritten = written
+whole_told is_named mode seen form whole (Err unsaid.Memory) before after written unwritten = absurd (unwritten refl)
+whole_told is_named mode seen form whole (Err unsaid.Gone) before after written unwritten = tt
+whole_told is_named mode seen form whole (Err unsaid.Unwritten) before after written unwritten = tt
+
+-- an object, by what became of its line
+pub object_told : (is_named : Bool) (mode : Mode) (seen : Option (List ℕ)) (told : Told) (said : Result (Unit {0}) Unsaid) (before after : Option (List ℕ))
+    → IfSome seen (λ bytes. IsToldOf mode bytes told) → OnOk said (Appends before after (compact_text (object (with_told told no_members)) ++ 10 ∷ []))
+    → IfErr said (λ why. why ≢ unsaid.Memory) → IsTold is_named mode seen Json (Err (read.Found told.finding)) said before after
+object_told is_named mode seen told (Ok done) before after is written unwritten = (told, refl, is, written)
+object_told is_named mode seen told (Err unsaid.Memory) before after is written unwritten = absurd (unwritten refl)
+object_told is_named mode seen told (Err unsaid.Gone) before after is written unwritten = tt
+object_told is_named mode seen told (Err unsaid.Unwritten) before after is written unwritten = tt
 
 -- people are told on the standard error, so that the output stays as it was
-pub text_told : (mode : Mode) (seen : Option (List ℕ)) (form : Form) (finding : Finding) (status : ℕ) (held : Option (List ℕ)) → form ≡ Text → (status ≡ 3) ⊎ (status ≡ 4)
-    → IsTold mode seen form (Err (read.Found finding)) status held held
-text_told mode seen form finding status held is (inl three) = inl three
-text_told mode seen form finding status held is (inr four) = inr (four, rw is (Keeps-refl held))
+pub text_told : (is_named : Bool) (mode : Mode) (seen : Option (List ℕ)) (form : Form) (finding : Finding) (said : Result (Unit {0}) Unsaid) (held : Option (List ℕ)) → form ≡ Text
+    → IfErr said (λ why. why ≡ unsaid.Memory) → IsTold is_named mode seen form (Err (read.Found finding)) said held held
+text_told is_named mode seen form finding (Ok done) held is refused = rw is (Keeps-refl held)
+text_told is_named mode seen form finding (Err why) held is refused = rw refused (tt, Keeps-refl held)
+
+-- nobody is gone where memory alone may be refused
+pub not_gone : {R : Type 0} (said : Result (Unit {0}) Unsaid) → IfErr said (λ why. why ≡ unsaid.Memory) → said ≡ Err unsaid.Gone → R
+not_gone (Ok done) refused gone = absurd cc
+not_gone (Err why) refused gone = absurd cc
 
 -- ---- faults that are no finding
 
@@ -65,20 +113,14 @@ kept mode seen Json (read.Unread number) held apart = Keeps-refl held
 kept mode seen Text read.Memory held apart = Keeps-refl held
 kept mode seen Json read.Memory held apart = Keeps-refl held
 
-pub fault_told : (mode : Mode) (seen : Option (List ℕ)) (form : Form) (fault : ReadFault) (status : ℕ) (held : Option (List ℕ)) → ((finding : Finding) → fault ≡ read.Found finding → ⊥)
-    → (status ≡ 3) ⊎ (status ≡ fault_status_of fault) → IsTold mode seen form (Err fault) status held held
-fault_told mode seen form fault status held apart (inl three) = inl three
-fault_told mode seen form fault status held apart (inr is) = inr (is, kept mode seen form fault held apart)
+pub fault_told : (is_named : Bool) (mode : Mode) (seen : Option (List ℕ)) (form : Form) (fault : ReadFault) (said : Result (Unit {0}) Unsaid) (held : Option (List ℕ)) → ((finding : Finding) → fault ≡ read.Found finding → ⊥)
+    → IfErr said (λ why. (why ≡ unsaid.Memory) × TakesMemory is_named (Err fault)) → IsTold is_named mode seen form (Err fault) said held held
+fault_told is_named mode seen form fault (Ok done) held apart refused = kept mode seen form fault held apart
+fault_told is_named mode seen form fault (Err why) held apart refused = rw (refused.0) (refused.1, Keeps-refl held)
 
-within : (fault : ReadFault) → (2 ≤ fault_status_of fault) × (fault_status_of fault ≤ 4)
-within (read.Found finding) = (omega arith, omega arith)
-within read.TooMany = (omega arith, omega arith)
-within (read.Unread number) = (omega arith, omega arith)
-within read.Memory = (omega arith, omega arith)
-
-pub fault_is_bad : (fault : ReadFault) (status : ℕ) → (status ≡ 3) ⊎ (status ≡ fault_status_of fault) → (2 ≤ status) × (status ≤ 4)
-fault_is_bad fault status (inl three) = memory_is_bad status three
-fault_is_bad fault status (inr is) = rw is (within fault)
+-- want of memory is no finding
+pub no_finding : (finding : Finding) → read.Memory ≡ read.Found finding → ⊥
+no_finding finding same = cc
 
 -- ---- words that are refused
 

@@ -1,6 +1,6 @@
 -- What the words behind `check` say, and what is done: the options that there are, as `clap` takes them, and which of
 -- them gives which setting.
-use Rattle.std.specs.Prelude.{◌≡◌, ℕ, List, [], ◌∷◌, Option, Some, None, IfErr, IfSome, OnOk, IsSome, Result, true, false, codes, option_map, string_bytes}
+use Rattle.std.specs.Prelude.{◌≡◌, ℕ, List, [], ◌∷◌, Option, Some, None, IfErr, IfSome, OnOk, IsSome, Result, true, false, codes, is_some, option_map, string_bytes}
 use Rattle.std.specs.Io.KnownBytes.{IsAtEnd}
 use Rattle.clap.specs.Faults.{fault_of}
 use Rattle.clap.specs.Simple.{App, matches_of, new_shape}
@@ -8,7 +8,7 @@ use Rattle.clap.specs.Walk.{Row, Text, first_of, one_of}
 use Rattle.apply_lines.specs.Cut.{cut_lines}
 use Rattle.apply_words.specs.Words.{IsGivenBy, WasNotFollowed, file_rule, flag_rule, unless_dash}
 use Rattle.apply_check.specs.Reading.{IsAnswer}
-use Rattle.apply_check.specs.Telling.{IsTold}
+use Rattle.apply_check.specs.Telling.{IsTold, status_of}
 use Rattle.apply_check.specs.declared.command.followed.Followed.{Followed}
 use Rattle.apply_check.specs.declared.command.form.Form.TheVariants as form
 use Rattle.apply_check.specs.declared.verdict.read_fault.ReadFault.{ReadFault}
@@ -48,7 +48,7 @@ pub record HaveSaid (words : List Text) (settings : Settings) : Type 0 where
 
 -- a stream was checked as the words say, and the answer is told: the stream of the input where they name no file, else
 -- that of a file; what such a file has to give, `remaining` says. Behind what is not whole, the input was read to its end:
--- `left` is what it has left
+-- `left` is what it has left. Where a file was opened, nothing of the input was read.
 pub record WasChecked {File : Type 0} (remaining : File → Option (List ℕ)) (words : List Text)
     (input left before after : Option (List ℕ)) (followed : Followed) : Type 0 where
   pub settings : Settings
@@ -58,8 +58,10 @@ pub record WasChecked {File : Type 0} (remaining : File → Option (List ℕ)) (
   pub bytes : Option (List ℕ)
   pub given : IsGivenBy remaining input settings.file bytes
   pub judged : IfSome bytes (λ bytes. IsAnswer settings.mode (cut_lines bytes) answer)
-  pub told : IsTold settings.mode bytes settings.form answer followed.status before after
+  pub told : IsTold (is_some settings.file) settings.mode bytes settings.form answer followed.said before after
+  pub status : followed.status ≡ status_of answer followed.said
   pub read : settings.file ≡ None → IfErr answer (λ fault. OnOk followed.rest (IsAtEnd left))
+  pub unread : IsSome settings.file → left ≡ input
 
 -- they name a file
 pub record NameAFile (words : List Text) : Type 0 where

@@ -1,11 +1,13 @@
 -- What is said of a stream, and with which exit status: for people a line, for programs an object.
-use Rattle.std.specs.Prelude.{◌≡◌, ◌⊎◌, ℕ, List, [], ◌∷◌, ◌++◌, codes, decimal, ◌==◌, Bool, true, false, ◌&&◌, not, if◌then◌else◌, Option, Some, None, IfSome, option_map, Result, Ok, Err}
+use Rattle.std.specs.Prelude.{◌≡◌, ⊤, ℕ, List, [], ◌∷◌, ◌++◌, codes, decimal, ◌==◌, Bool, true, false, ◌&&◌, not, if◌then◌else◌, Option, Some, None, IfSome, option_map, Result, Ok, Err}
 use Rattle.std.specs.Io.KnownBytes.{Appends, Keeps}
 use Rattle.serde_json.specs.Data.{no_members, object}
 use Rattle.serde_json.specs.Written.{compact_text}
 use Rattle.apply_check.specs.declared.command.form.Form.{Form}
 use Rattle.apply_check.specs.declared.command.form.Form.TheVariants as form
 use Rattle.apply_check.specs.declared.command.told.Told.{Told}
+use Rattle.apply_check.specs.declared.command.unsaid.Unsaid.{Unsaid}
+use Rattle.apply_check.specs.declared.command.unsaid.Unsaid.TheVariants as unsaid
 use Rattle.apply_check.specs.declared.messages.totals.Totals.{Totals}
 use Rattle.apply_check.specs.declared.verdict.read_fault.ReadFault.{ReadFault}
 use Rattle.apply_check.specs.declared.verdict.read_fault.ReadFault.TheVariants as read
@@ -61,6 +63,12 @@ fault_status_of read.TooMany = 2
 fault_status_of (read.Unread number) = 2
 fault_status_of read.Memory = 3
 
+-- that of an answer: 3 where it was not said, and else its own
+abbrev pub status_of : Result Whole ReadFault → (said : Result Unit Unsaid) → ℕ
+status_of answer (Err why) = 3
+status_of (Ok whole) (Ok done) = whole_status_of whole
+status_of (Err fault) (Ok done) = fault_status_of fault
+
 -- ---- what is written
 
 -- What is told of a faulty stream is what is so of these bytes: the text of the line of that number, whether it is no JSON
@@ -80,11 +88,36 @@ IsFaultSaid mode input form.Json (read.Found finding) before after =
     × Appends before after (compact_text (object (with_told told no_members)) ++ 10 ∷ [])
 IsFaultSaid mode input form fault before after = Keeps before after
 
--- the answer is said on the output, and the status is its; or it is 3, since the output could not be written or
--- memory was refused
-abbrev pub IsTold : Mode → (input : Option (List ℕ)) → Form → Result Whole ReadFault → (status : ℕ)
+-- what is said of an answer
+abbrev pub IsSaid : Mode → (input : Option (List ℕ)) → Form → Result Whole ReadFault → (before after : Option (List ℕ)) → Type 0
+IsSaid mode input form (Ok whole) before after = Appends before after (whole_said form whole ++ 10 ∷ [])
+IsSaid mode input form (Err fault) before after = IsFaultSaid mode input form fault before after
+
+-- memory is taken to say it: for a line, for an object, or for the name of a file that could not be read
+abbrev pub TakesMemory : (is_named : Bool) → Result Whole ReadFault → Type 0
+TakesMemory is_named (Ok whole) = ⊤
+TakesMemory is_named (Err (read.Found finding)) = ⊤
+TakesMemory is_named (Err read.TooMany) = ⊥
+TakesMemory is_named (Err (read.Unread number)) = is_named ≡ true
+TakesMemory is_named (Err read.Memory) = ⊥
+
+-- it is said on the output
+abbrev pub GoesOut : Form → Result Whole ReadFault → Type 0
+GoesOut form (Ok whole) = ⊤
+GoesOut form.Json (Err (read.Found finding)) = ⊤
+GoesOut form.Text (Err (read.Found finding)) = ⊥
+GoesOut form (Err read.TooMany) = ⊥
+GoesOut form (Err (read.Unread number)) = ⊥
+GoesOut form (Err read.Memory) = ⊥
+
+-- why it is not said: memory was refused for that, and nothing was written; or it could not be written
+abbrev pub IsUnsaid : (is_named : Bool) → Form → Result Whole ReadFault → Unsaid → (before after : Option (List ℕ)) → Type 0
+IsUnsaid is_named form answer unsaid.Memory before after = TakesMemory is_named answer × Keeps before after
+IsUnsaid is_named form answer unsaid.Gone before after = GoesOut form answer
+IsUnsaid is_named form answer unsaid.Unwritten before after = GoesOut form answer
+
+-- the answer is said as it has to be, or it is not said, and why
+abbrev pub IsTold : (is_named : Bool) → Mode → (input : Option (List ℕ)) → Form → Result Whole ReadFault → Result Unit Unsaid
     → (before after : Option (List ℕ)) → Type 0
-IsTold mode input form (Ok whole) status before after =
-    (status ≡ 3) ⊎ ((status ≡ whole_status_of whole) × Appends before after (whole_said form whole ++ 10 ∷ []))
-IsTold mode input form (Err fault) status before after =
-    (status ≡ 3) ⊎ ((status ≡ fault_status_of fault) × IsFaultSaid mode input form fault before after)
+IsTold is_named mode input form answer (Ok done) before after = IsSaid mode input form answer before after
+IsTold is_named mode input form answer (Err why) before after = IsUnsaid is_named form answer why before after

@@ -16,4 +16,5 @@ pub(crate) mod status;
 pub(crate) mod telling;
 pub(crate) mod texts;
 pub(crate) mod told;
+pub(crate) mod unsaid;
 pub(crate) mod writing;

@@ -15,6 +15,7 @@ pub use command::entry_points::{check_command, check_input, follow};
 pub use command::followed::Followed;
 pub use command::form::Form;
 pub use command::settings::Settings;
+pub use command::unsaid::Unsaid;
 pub use messages::action::Action;
 pub use messages::lack::Lack;
 pub use messages::path::Path;

@@ -1,12 +1,14 @@
 //! What neither a clause says nor `checks/verdicts` sees of the built program: what a checker says of itself, findings of lines
-//! that are given, and readers that fail, are interrupted, or give a line in parts.
+//! that are given, and readers that fail, are interrupted, or give a line in parts. Where a FILE is checked, standard input is
+//! left alone; and an object is printed whole, however long it is.
 
+mod files;
 mod given;
 mod reading;
 
 use apply_check::{
     Checker, Fault, Finding, Form, Mode, ReadFault, Totals, Whole, check, check_command,
-    check_input, check_lines,
+    check_input, check_lines, follow,
 };
 use std::alloc::Global;
 use std::io;
@@ -15,6 +17,13 @@ use std::process::Abort;
 
 /// The first line.
 const VERSION: &str = r#"{"type":"version"}"#;
+
+/// A whole stream.
+const WHOLE: &str = r#"{"type":"version"}
+{"type":"apply_start","hook":{"action":"create","resource":{"addr":"a"}}}
+{"type":"apply_complete","hook":{"action":"create","elapsed_seconds":0,"resource":{"addr":"a"}}}
+{"type":"change_summary","changes":{"operation":"apply","add":1,"change":0,"remove":0}}
+"#;
 
 /// An error that explains all.
 const ERROR: &str = r#"{"type":"diagnostic","diagnostic":{"severity":"error"}}"#;

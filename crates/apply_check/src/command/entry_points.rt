@@ -1,6 +1,6 @@
 //! The command `check`, from its arguments to its exit status, over any files and streams.
 
-ghost use Rattle.std.specs.Prelude.{◌≡◌, ◌≤◌, ◌⊎◌, ◌∷◌, [], ℕ, List, IfErr, IfSome, OnOk, OnSome, None, Option, Ok, Err, false, map, string_bytes, true};
+ghost use Rattle.std.specs.Prelude.{◌≡◌, ◌≤◌, ◌⊎◌, ◌∷◌, [], ℕ, Bool, List, IfErr, IfSome, OnOk, OnSome, None, Option, Ok, Err, false, is_some, map, string_bytes, true};
 ghost use Rattle.std.specs.Io.KnownBytes.{IsAtEnd, Keeps};
 ghost use Rattle.clap.specs.Faults.{fault_of};
 ghost use Rattle.clap.specs.declared.error.kind.ErrorKind.TheVariants.{DisplayHelp};
@@ -8,7 +8,8 @@ ghost use Rattle.apply_check.specs.CommandLine.{HaveSaid, WasChecked, WasNotChec
 ghost use Rattle.apply_lines.specs.Cut.{cut_lines};
 ghost use Rattle.apply_check.specs.Judged.{Stops};
 ghost use Rattle.apply_check.specs.Reading.{IsAnswer};
-ghost use Rattle.apply_check.specs.Telling.{IsTold};
+ghost use Rattle.apply_check.specs.Telling.{IsTold, status_of};
+ghost use Rattle.apply_check.specs.declared.command.unsaid.Unsaid.TheVariants.{Gone};
 ghost use Rattle.apply_check.specs.declared.rules.mode.Mode.{Mode as mode_type};
 
 use crate::command::arguments::read_words;
@@ -18,16 +19,16 @@ use crate::command::followed::Followed;
 use crate::command::form::Form;
 use crate::command::refusals::refuse;
 use crate::command::settings::Settings;
-use crate::command::status::ERRORS;
 use crate::command::telling::whole_line;
-use crate::command::writing::write_line;
+use crate::command::unsaid::Unsaid;
+use crate::command::writing::{report_unsaid, write_line};
 use crate::rules::checker::Checker;
 use crate::rules::mode::Mode;
 use crate::verdict::read_fault::ReadFault;
 use crate::verdict::stream_given::check_with;
 use crate::verdict::whole::Whole;
 use apply_lines::Line;
-use apply_words::{FAILED, answer_usage, read_on, refuse_file, refuse_memory};
+use apply_words::{answer_usage, read_on, refuse_file};
 use std::alloc::Global;
 use std::fs;
 use std::io::{BufRead, BufReader, Read, Write};
@@ -53,6 +54,7 @@ pub fn follow<F: Files, R: Read, W: Write, E: Write>(
         ⊎ WasNotChecked (map string_bytes words.now) (W.contents out.old) (W.contents out.new) result.status }
     ensures help { fault_of command_line (map string_bytes words.now) ≡ DisplayHelp ∷ [] → (result.status ≡ 0) ⊎ (result.status ≡ 3) }
     ensures quiet { result.status ≤ 1 → Keeps (E.contents faults.old) (E.contents faults.new) }
+    ensures gone { result.said ≡ Err Gone → Keeps (E.contents faults.old) (E.contents faults.new) }
     ensures statuses { result.status ≤ 4 }
     ensures read { result.answer ≡ None → 1 ≤ result.status → is_terminal ≡ false → OnOk result.rest (IsAtEnd (R.remaining input.new)) }
 {
@@ -80,6 +82,7 @@ fn follow_settings<F: Files, R: Read, W: Write, E: Write>(
         → WasChecked F.File.remaining words (R.remaining input.old) (R.remaining input.new) (W.contents out.old) (W.contents out.new) result
         ⊎ WasNotChecked words (W.contents out.old) (W.contents out.new) result.status }
     ensures quiet { result.status ≤ 1 → Keeps (E.contents faults.old) (E.contents faults.new) }
+    ensures gone { result.said ≡ Err Gone → Keeps (E.contents faults.old) (E.contents faults.new) }
     ensures statuses { result.status ≤ 4 }
     ensures read { result.answer ≡ None → 1 ≤ result.status → is_terminal ≡ false → OnOk result.rest (IsAtEnd (R.remaining input.new)) }
 {
@@ -127,31 +130,27 @@ pub fn check_input<R: Read, W: Write, E: Write>(
     faults: &mut E,
 ) -> Checked
     ensures answer { IfSome (R.remaining input.old) (λ bytes. IsAnswer mode (cut_lines bytes) result.answer) }
-    ensures told { IsTold mode (R.remaining input.old) form result.answer result.status (W.contents out.old) (W.contents out.new) }
+    ensures told { IsTold (is_some name.entry) mode (R.remaining input.old) form result.answer result.said (W.contents out.old) (W.contents out.new) }
+    ensures status { result.status ≡ status_of result.answer result.said }
     ensures quiet { result.status ≤ 1 → Keeps (E.contents faults.old) (E.contents faults.new) }
+    ensures gone { result.said ≡ Err Gone → Keeps (E.contents faults.old) (E.contents faults.new) }
     ensures statuses { result.status ≤ 4 }
     ensures read { IfErr result.answer (λ fault. OnOk result.rest (IsAtEnd (R.remaining input.new))) }
 {
     let Ok(mut reader) = BufReader::with_capacity(alloc, BUFFER_LEN, &mut *input) else {
-        let status = refuse_memory(faults);
-        return Checked {
-            status,
-            answer: Err(ReadFault::Memory),
-            rest: read_on(true, input, faults),
-        };
+        let said = refuse(alloc, faults, name, ReadFault::Memory);
+        return Checked::of(Err(ReadFault::Memory), said, read_on(true, input, faults));
     };
     let checked = check_reader(alloc, mode, form, name, false, &mut reader, out, faults);
     drop(reader);
     // What the buffer held is dropped with it; behind a whole stream nothing is asked for again, for which a terminal
     // would wait.
-    let rest = match checked.answer {
-        Ok(_) => checked.rest,
-        Err(_) => read_on(true, input, faults),
-    };
-    Checked {
-        status: checked.status,
-        answer: checked.answer,
-        rest,
+    match checked.answer {
+        Ok(_) => checked,
+        Err(_) => {
+            let rest = read_on(true, input, faults);
+            Checked { rest, ..checked }
+        }
     }
 }
 
@@ -173,8 +172,10 @@ pub fn check_command<R: BufRead, W: Write, E: Write>(
     faults: &mut E,
 ) -> Checked
     ensures answer { IfSome (R.remaining reader.old) (λ bytes. IsAnswer mode (cut_lines bytes) result.answer) }
-    ensures told { IsTold mode (R.remaining reader.old) form result.answer result.status (W.contents out.old) (W.contents out.new) }
+    ensures told { IsTold (is_some name.entry) mode (R.remaining reader.old) form result.answer result.said (W.contents out.old) (W.contents out.new) }
+    ensures status { result.status ≡ status_of result.answer result.said }
     ensures quiet { result.status ≤ 1 → Keeps (E.contents faults.old) (E.contents faults.new) }
+    ensures gone { result.said ≡ Err Gone → Keeps (E.contents faults.old) (E.contents faults.new) }
     ensures statuses { result.status ≤ 4 }
     ensures read { OnOk result.rest (OnSome (R.remaining reader.old) (IsAtEnd (R.remaining reader.new))) }
 {
@@ -193,31 +194,28 @@ fn check_reader<R: BufRead, W: Write, E: Write>(
     faults: &mut E,
 ) -> Checked
     ensures answer { IfSome (R.remaining reader.old) (λ bytes. IsAnswer mode (cut_lines bytes) result.answer) }
-    ensures told { IsTold mode (R.remaining reader.old) form result.answer result.status (W.contents out.old) (W.contents out.new) }
+    ensures told { IsTold (is_some name.entry) mode (R.remaining reader.old) form result.answer result.said (W.contents out.old) (W.contents out.new) }
+    ensures status { result.status ≡ status_of result.answer result.said }
     ensures quiet { result.status ≤ 1 → Keeps (E.contents faults.old) (E.contents faults.new) }
+    ensures gone { result.said ≡ Err Gone → Keeps (E.contents faults.old) (E.contents faults.new) }
     ensures statuses { result.status ≤ 4 }
     ensures read { reads_on ≡ true → OnOk result.rest (OnSome (R.remaining reader.old) (IsAtEnd (R.remaining reader.new))) }
 {
     let mut checker = Checker::new(alloc);
     let mut line = Line::new(alloc);
     match check_with(alloc, mode, &mut checker, reader, &mut line) {
-        Ok(whole) => Checked {
-            status: tell_whole(alloc, form, &whole, out, faults),
-            answer: Ok(whole),
-            rest: Ok(()),
-        },
+        Ok(whole) => {
+            let said = tell_whole(alloc, form, &whole, out, faults);
+            Checked::of(Ok(whole), said, Ok(()))
+        }
         Err(fault) => {
-            let status = tell_fault(alloc, mode, form, name, &checker, &line, fault, out, faults);
-            Checked {
-                status,
-                answer: Err(fault),
-                rest: read_on(reads_on, reader, faults),
-            }
+            let said = tell_fault(alloc, mode, form, name, &checker, &line, fault, out, faults);
+            Checked::of(Err(fault), said, read_on(reads_on, reader, faults))
         }
     }
 }
 
-/// Says what is wrong, and answers the exit status.
+/// Says what is wrong. `Err` where it is not said, and then why.
 fn tell_fault<W: Write, E: Write>(
     alloc: Global,
     mode: Mode,
@@ -228,36 +226,49 @@ fn tell_fault<W: Write, E: Write>(
     fault: ReadFault,
     out: &mut W,
     faults: &mut E,
-) -> u8
+) -> Result<(), Unsaid>
     ensures told { (seen : Option (List ℕ)) → Stops mode seen checker.now line.now.text.items line.now.has_feed (Err fault)
-        → IsTold mode seen form (Err fault) result (W.contents out.old) (W.contents out.new) }
-    ensures bad { (2 ≤ result) × (result ≤ 4) }
+        → IsTold (is_some name.entry) mode seen form (Err fault) result (W.contents out.old) (W.contents out.new) }
+    ensures gone { result ≡ Err Gone → Keeps (E.contents faults.old) (E.contents faults.new) }
 {
     match fault {
         ReadFault::Found(finding) => {
-            tell_finding(alloc, mode, form, checker, line, &finding, out, faults)
+            let said = tell_finding(alloc, mode, form, checker, line, &finding, out, faults);
+            report_unsaid(faults, said);
+            said
         }
         _ => refuse(alloc, faults, name, fault),
     }
 }
 
-/// Says that the stream is whole, and answers the exit status.
+/// Says that the stream is whole. `Err` where it is not said, and then why.
 fn tell_whole<W: Write, E: Write>(
     alloc: Global,
     form: Form,
     whole: &Whole,
     out: &mut W,
     faults: &mut E,
-) -> u8
-    ensures told { (seen : Option (List ℕ)) (mode : mode_type) → IsTold mode seen form (Ok whole.now) result (W.contents out.old) (W.contents out.new) }
-    ensures quiet { result ≤ 1 → Keeps (E.contents faults.old) (E.contents faults.new) }
-    ensures statuses { result ≤ 4 }
+) -> Result<(), Unsaid>
+    ensures told { (is_named : Bool) (seen : Option (List ℕ)) (mode : mode_type)
+        → IsTold is_named mode seen form (Ok whole.now) result (W.contents out.old) (W.contents out.new) }
+    ensures quiet { OnOk result (Keeps (E.contents faults.old) (E.contents faults.new)) }
+    ensures gone { result ≡ Err Gone → Keeps (E.contents faults.old) (E.contents faults.new) }
 {
-    let Ok(text) = whole_line(alloc, form, whole) else {
-        return refuse_memory(faults);
-    };
-    if !write_line(out, faults, text.as_str()) {
-        return FAILED;
-    }
-    if whole.has_errors { ERRORS } else { 0 }
+    let said = write_whole(alloc, form, whole, out);
+    report_unsaid(faults, said);
+    said
+}
+
+/// Writes that the stream is whole. `Err` where memory was refused, or it could not be written.
+fn write_whole<W: Write>(
+    alloc: Global,
+    form: Form,
+    whole: &Whole,
+    out: &mut W,
+) -> Result<(), Unsaid>
+    ensures { (is_named : Bool) (seen : Option (List ℕ)) (mode : mode_type)
+        → IsTold is_named mode seen form (Ok whole.now) result (W.contents out.old) (W.contents out.new) }
+{
+    let text = whole_line(alloc, form, whole)?;
+    write_line(out, text.as_str())
 }

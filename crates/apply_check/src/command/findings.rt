@@ -1,6 +1,7 @@
 //! Streams that are not whole, as people and programs are told of them.
 
-ghost use Rattle.std.specs.Prelude.{◌≡◌, ◌≤◌, ◌⊎◌, ◌&&◌, not, ℕ, List, IfOk, IfSome, None, Option, Err, if◌then◌else◌, option_map};
+ghost use Rattle.std.specs.Prelude.{◌≡◌, ◌&&◌, not, ℕ, Bool, List, IfErr, IfOk, IfSome, None, Option, Err, if◌then◌else◌, option_map};
+ghost use Rattle.std.specs.Io.KnownBytes.{Keeps};
 ghost use Rattle.apply_check.specs.About.{about_line, object_view};
 ghost use Rattle.apply_check.specs.Checking.{HasRead};
 ghost use Rattle.apply_check.specs.Faults.{is_no_json, tells_object};
@@ -9,15 +10,16 @@ ghost use Rattle.apply_check.specs.Message.{Message};
 ghost use Rattle.apply_check.specs.Telling.{IsTold, IsToldOf};
 ghost use Rattle.apply_check.specs.Unended.{AreAllOpen};
 ghost use Rattle.apply_check.specs.declared.command.form.Form.TheVariants as forms;
+ghost use Rattle.apply_check.specs.declared.command.unsaid.Unsaid.TheVariants.{Gone, Memory};
 ghost use Rattle.apply_check.specs.declared.rules.mode.Mode.{Mode as mode_type};
 ghost use Rattle.apply_check.specs.declared.verdict.read_fault.ReadFault.{ReadFault as fault_type};
 
 use crate::command::form::Form;
 use crate::command::object::{Object, object_in};
-use crate::command::status::NOT_WHOLE;
 use crate::command::telling::told_line;
 use crate::command::texts::finding_line;
 use crate::command::told::Told;
+use crate::command::unsaid::Unsaid;
 use crate::command::writing::write_line;
 use crate::rules::checker::Checker;
 use crate::rules::fault::Fault;
@@ -26,11 +28,11 @@ use crate::rules::open_entry::OpenEntry;
 use crate::verdict::finding::Finding;
 use apply_json::Scratch;
 use apply_lines::Line;
-use apply_words::{FAILED, refuse_memory};
 use std::alloc::{AllocError, Global};
 use std::io::Write;
 
-/// Says what is wrong with the stream, with all that is known of the faulty line, and answers the exit status.
+/// Says what is wrong with the stream, with all that is known of the faulty line. `Err` where it was not said: with
+/// `Unsaid::Memory` where memory was refused, else where an object could not be written.
 pub fn tell_finding<W: Write, E: Write>(
     alloc: Global,
     mode: Mode,
@@ -40,18 +42,14 @@ pub fn tell_finding<W: Write, E: Write>(
     finding: &Finding,
     out: &mut W,
     faults: &mut E,
-) -> u8
+) -> Result<(), Unsaid>
     ensures told { (seen : Option (List ℕ)) → IfSome seen (λ bytes. StopsAt mode bytes finding.now checker.now line.now.text.items line.now.has_feed)
-        → IsTold mode seen form (Err (fault_type.Found finding.now)) result (W.contents out.old) (W.contents out.new) }
-    ensures bad { (2 ≤ result) × (result ≤ 4) }
+        → (is_named : Bool) → IsTold is_named mode seen form (Err (fault_type.Found finding.now)) result (W.contents out.old) (W.contents out.new) }
+    ensures gone { result ≡ Err Gone → Keeps (E.contents faults.old) (E.contents faults.new) }
 {
     let mut scratch = Scratch::new(alloc);
-    let Ok(object) = object_of(alloc, &mut scratch, mode, line, finding.fault) else {
-        return refuse_memory(faults);
-    };
-    let Ok(open) = open_entries(alloc, checker, finding.fault) else {
-        return refuse_memory(faults);
-    };
+    let object = object_of(alloc, &mut scratch, mode, line, finding.fault)?;
+    let open = open_entries(alloc, checker, finding.fault)?;
     let told = Told {
         finding: *finding,
         text: &line.text,
@@ -61,7 +59,7 @@ pub fn tell_finding<W: Write, E: Write>(
     };
     match form {
         Form::Text => tell_text(alloc, &told, faults),
-        Form::Json => tell_object(alloc, &told, out, faults),
+        Form::Json => tell_object(alloc, &told, out),
     }
 }
 
@@ -75,36 +73,22 @@ fn is_cut_off(line: &Line, fault: Fault) -> bool
     }
 }
 
-/// Tells a finding to people.
-fn tell_text<E: Write>(alloc: Global, told: &Told<'_>, faults: &mut E) -> u8
-    ensures { (result ≡ 3) ⊎ (result ≡ 4) }
+/// Tells a finding to people. `Err` where memory was refused.
+fn tell_text<E: Write>(alloc: Global, told: &Told<'_>, faults: &mut E) -> Result<(), Unsaid>
+    ensures { IfErr result (λ unsaid. unsaid ≡ Memory) }
 {
-    let Ok(line) = finding_line(alloc, told) else {
-        return refuse_memory(faults);
-    };
+    let line = finding_line(alloc, told)?;
     let _ = faults.write_all(line.as_str().as_bytes());
-    NOT_WHOLE
+    Ok(())
 }
 
-/// Tells a finding to programs.
-fn tell_object<W: Write, E: Write>(
-    alloc: Global,
-    told: &Told<'_>,
-    out: &mut W,
-    faults: &mut E,
-) -> u8
-    ensures told { (seen : Option (List ℕ)) (mode : mode_type) → IfSome seen (λ bytes. IsToldOf mode bytes told.now)
-        → IsTold mode seen forms.Json (Err (fault_type.Found told.now.finding)) result (W.contents out.old) (W.contents out.new) }
-    ensures bad { (2 ≤ result) × (result ≤ 4) }
+/// Tells a finding to programs. `Err` where memory was refused, or the object could not be written.
+fn tell_object<W: Write>(alloc: Global, told: &Told<'_>, out: &mut W) -> Result<(), Unsaid>
+    ensures { (seen : Option (List ℕ)) (mode : mode_type) → IfSome seen (λ bytes. IsToldOf mode bytes told.now)
+        → (is_named : Bool) → IsTold is_named mode seen forms.Json (Err (fault_type.Found told.now.finding)) result (W.contents out.old) (W.contents out.new) }
 {
-    let Ok(text) = told_line(alloc, told) else {
-        return refuse_memory(faults);
-    };
-    if write_line(out, faults, text.as_str()) {
-        NOT_WHOLE
-    } else {
-        FAILED
-    }
+    let text = told_line(alloc, told)?;
+    write_line(out, text.as_str())
 }
 
 /// What the faulty line is about, where its fault tells that.

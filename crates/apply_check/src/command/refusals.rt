@@ -1,34 +1,36 @@
 //! Why a stream could not be checked.
 
-ghost use Rattle.std.specs.Prelude.{◌≡◌, ◌⊎◌};
-ghost use Rattle.apply_check.specs.Telling.{fault_status_of};
+ghost use Rattle.std.specs.Prelude.{◌≡◌, Err, IfErr, is_some};
+ghost use Rattle.apply_check.specs.Telling.{TakesMemory};
+ghost use Rattle.apply_check.specs.declared.command.unsaid.Unsaid.TheVariants.{Memory};
 
-use crate::command::status::NOT_WHOLE;
+use crate::command::unsaid::Unsaid;
 use crate::verdict::read_fault::ReadFault;
-use apply_words::{FAILED, REFUSED, refuse_unread, report};
+use apply_words::{FAILED, refuse_unread, report};
 use std::alloc::Global;
 use std::io::Write;
 
-/// Says why there is no verdict, and answers the exit status.
-pub fn refuse<E: Write>(alloc: Global, faults: &mut E, name: Option<&str>, fault: ReadFault) -> u8
-    ensures { (result ≡ 3) ⊎ (result ≡ fault_status_of fault) }
+/// Says why there is no verdict. `Err` where memory was refused to show the name of a file that could not be read, which is
+/// said then.
+pub fn refuse<E: Write>(
+    alloc: Global,
+    faults: &mut E,
+    name: Option<&str>,
+    fault: ReadFault,
+) -> Result<(), Unsaid>
+    ensures { IfErr result (λ unsaid. (unsaid ≡ Memory) × TakesMemory (is_some name.entry) (Err fault)) }
 {
     match (fault, name) {
-        (ReadFault::Unread(failed), Some(name)) => refuse_unread(alloc, faults, name, failed),
+        (ReadFault::Unread(failed), Some(name)) => {
+            if refuse_unread(alloc, faults, name, failed) == FAILED {
+                Err(Unsaid::Memory)
+            } else {
+                Ok(())
+            }
+        }
         _ => {
             report(faults, fault);
-            fault_status(fault)
+            Ok(())
         }
-    }
-}
-
-/// The exit status where there is no verdict.
-fn fault_status(fault: ReadFault) -> u8
-    ensures { result ≡ fault_status_of fault }
-{
-    match fault {
-        ReadFault::Found(_) => NOT_WHOLE,
-        ReadFault::TooMany | ReadFault::Unread(_) => REFUSED,
-        ReadFault::Memory => FAILED,
     }
 }

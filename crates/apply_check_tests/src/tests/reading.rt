@@ -2,13 +2,6 @@
 
 use super::*;
 
-/// A whole stream.
-const WHOLE: &str = r#"{"type":"version"}
-{"type":"apply_start","hook":{"action":"create","resource":{"addr":"a"}}}
-{"type":"apply_complete","hook":{"action":"create","elapsed_seconds":0,"resource":{"addr":"a"}}}
-{"type":"change_summary","changes":{"operation":"apply","add":1,"change":0,"remove":0}}
-"#;
-
 /// What it tells.
 const TOLD: Whole = Whole {
     totals: Totals {
@@ -167,4 +160,51 @@ fn rest_of_a_reader_with_a_buffer(rt: HostRuntime) {
     holds(&rt, "no read fails", checked.rest.is_ok());
     holds(&rt, "all of the buffer", reader.buffer().is_empty());
     holds(&rt, "all that there is", reader.get_ref().is_empty());
+}
+
+/// How long the address is of which is told: an object with it is larger than any buffer on its way.
+const LONG: usize = 70_000;
+
+/// The bytes with so many letters between them.
+fn around(rt: &impl Abort, alloc: Global, front: &str, back: &str) -> Vec<u8> {
+    let mut bytes = Vec::new(alloc);
+    bytes
+        .extend_from_slice(front.as_bytes())
+        .expect(rt, "memory");
+    let letters = "a".repeat(alloc, LONG).expect(rt, "memory");
+    bytes
+        .extend_from_slice(letters.as_str().as_bytes())
+        .expect(rt, "memory");
+    bytes
+        .extend_from_slice(back.as_bytes())
+        .expect(rt, "memory");
+    bytes
+}
+
+/// An object is told whole, however long its texts are.
+#[test]
+fn object_of_a_long_address(rt: HostRuntime) {
+    let alloc = rt.alloc();
+    let front =
+        "{\"type\":\"version\"}\n{\"type\":\"apply_start\",\"hook\":{\"action\":\"create\",\"resource\":{\"addr\":\"";
+    let stream = kept(&rt, alloc, around(&rt, alloc, front, "\"}}}\n"));
+    let front = "{\"fault\":\"unended\",\"line\":2,\"open\":[{\"address\":\"";
+    let back = "\",\"kind\":\"create\",\"line\":2}],\"whole\":false}\n";
+    let wanted = kept(&rt, alloc, around(&rt, alloc, front, back));
+    let printed = kept(&rt, alloc, Vec::new(alloc));
+    let faults = kept(&rt, alloc, Vec::new(alloc));
+    let mut input = stream.as_slice();
+    let checked = check_input(
+        alloc,
+        Mode::PLAIN,
+        Form::Json,
+        None,
+        &mut input,
+        printed,
+        faults,
+    );
+    holds(&rt, "status", checked.status == 4);
+    holds(&rt, "said", checked.said == Ok(()));
+    holds(&rt, "the object", printed.as_slice() == wanted.as_slice());
+    holds(&rt, "nothing else", faults.is_empty());
 }

@@ -5,7 +5,9 @@ pub returns : goal.returns
 returns g c = record {
   answer = c.check_reader.ensures.answer;
   told = c.check_reader.ensures.told;
+  status = c.check_reader.ensures.status;
   quiet = c.check_reader.ensures.quiet;
+  gone = c.check_reader.ensures.gone;
   statuses = c.check_reader.ensures.statuses;
   read = c.check_reader.ensures.read refl;
 }

@@ -1,9 +1,9 @@
 -- Words that are taken, and words that are refused.
-use Rattle.std.proofs.Common.{◌≡◌, ◌≤◌, ℕ, List, Option, true, not, map, ap, subst, sym, ◌∙◌, inr, string_bytes, arith}
+use Rattle.std.proofs.Common.{◌≡◌, ◌≤◌, ℕ, List, Ok, Option, true, not, map, ap, subst, sym, ◌∙◌, inr, string_bytes, arith}
 use Rattle.std.specs.Prelude.{OnOk}
 use Rattle.std.specs.Io.KnownBytes.{IsAtEnd}
 use Rattle.apply_check.specs.declared.command.followed.Followed.{Followed}
-use Rattle.apply_check.proofs.Statuses.{help_given, no_help, not_taken, usage_most, usage_quiet}
+use Rattle.apply_check.proofs.Statuses.{help_given, no_help, not_gone, not_taken, usage_most, usage_quiet}
 use Rattle.apply_check.proofs.command.entry_points.follow.Goals as goal
 use Rattle.apply_check.proofs.command.entry_points.follow.Goals.{then-status-gt0, else-status-gt0}
 
@@ -20,6 +20,7 @@ returns-in-Ok g c = record {
   told = c.follow_settings.ensures.told (map string_bytes c.args.words.now) c.in-Ok.ensures.said;
   help = no_help (map string_bytes c.args.words.now) c.in-Ok.settings c.in-Ok.ensures.said;
   quiet = c.follow_settings.ensures.quiet;
+  gone = c.follow_settings.ensures.gone;
   statuses = c.follow_settings.ensures.statuses;
   read = c.follow_settings.ensures.read;
 }
@@ -36,6 +37,7 @@ returns-after-status-gt0 g c =
       told = inr (not_taken why status told is_told is words (g.W.Write.contents c.args.out.now) (g.W.Write.contents c.answer_usage-status.new.out) c.in-Err.ensures.refused c.answer_usage-status.ensures.refused);
       help = help_given why status told is_told is words c.in-Err.ensures.refused;
       quiet = usage_quiet why status told is_told is (g.E.Write.contents c.args.faults.now) (g.E.Write.contents c.answer_usage-status.new.faults) (g.E.Write.contents c.read_on.new.faults) c.answer_usage-status.ensures.quiet c.read_on.ensures.keeps;
+      gone = rw (c.without_answer.ensures) (not_gone (Ok tt) tt);
       statuses = usage_most why status told is_told is;
       read = λ none bad away.
           let some : 1 ≤ status = subst (λ (f : Followed). 1 ≤ f.status) c.without_answer.ensures bad in
