@@ -4,6 +4,7 @@ ghost use Rattle.std.specs.Prelude.{◌≡◌};
 
 mod bus;
 mod drawing;
+mod drawing_in_threads;
 
 use apply_bus::{
     BusError, Claims, Closed, Drawer, Item, Lost, MAX_TAKEN, Rx, Taken, Tx, Undelivered, finish,
@@ -14,8 +15,9 @@ use std::alloc::Global;
 use std::fmt::Display;
 use std::process::Abort;
 use std::sync::Wait;
+use std::sync::atomic::{AtomicU64, Ordering};
 use std::thread;
-use std::thread::Threads;
+use std::thread::{Threads, yield_now};
 
 /// An event that tells its worker and its number.
 fn event(worker: u8, change: u32) -> Event
