@@ -1,5 +1,6 @@
 mod AcceptedPlans
 mod AlikePlans
+mod BothSides
 mod Completions
 mod Durations
 mod Ends
@@ -18,7 +19,6 @@ mod ProvisionsFit
 mod ReadPlans
 mod ReadScripts
 mod RelativeAddresses
-mod StepsAmid
 mod StepsOnce
 mod TimeLineFits
 mod TimeLines
