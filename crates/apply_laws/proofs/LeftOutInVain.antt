@@ -11,7 +11,7 @@ use Rattle.apply_model.specs.Plan.SavedPlan.{SavedPlan}
 use Rattle.apply_model.specs.Script.Outcome.{IsBounded, default_outcome}
 use Rattle.apply_model.specs.Script.OutcomeMap.{IsInRange, OutcomeMap, given_step, outcome_of, said_at}
 use Rattle.apply_model.specs.Script.Step.{after_of, answer_to}
-use Rattle.apply_model.specs.Script.Waits.{begins_within, could_begin, waits_told}
+use Rattle.apply_model.specs.Script.Waits.{begins_within}
 use Rattle.apply_events.specs.declared.event.Event.{Event}
 use Rattle.apply_events.specs.Fits.{HasStep, IsApplied}
 use Rattle.apply_events.specs.Step.{Work}
@@ -24,7 +24,7 @@ use Rattle.apply_plan.specs.Script.OutcomeMap.{script_of}
 use Rattle.apply_run.specs.Bytes.{given_script}
 use Rattle.apply_laws.specs.ReadScripts.{CanAllBegin, LeaveOutJustWhatWaitsInVain, LeaveOutNone}
 use Rattle.apply_laws.proofs.ReadScripts.{read_in_range}
-use Rattle.apply_laws.proofs.StepsAmid.{of_name}
+use Rattle.apply_laws.proofs.BothSides.{of_name}
 
 -- ---- without a script
 

@@ -1,5 +1,6 @@
 mod AcceptedPlans
 mod AlikePlans
+mod BothSides
 mod Completions
 mod Durations
 mod Ends

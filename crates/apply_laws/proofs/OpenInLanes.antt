@@ -1,12 +1,11 @@
--- At no place of a time line where steps wait for others more is under way than there are lanes, be it changes or steps: what of a
--- lane's events has started is over, but for the step at hand.
-use Rattle.std.proofs.Common.{◌≡◌, ◌≢◌, ℕ, zero, suc, ◌+◌, ◌-◌, ◌<◌, ◌≤◌, nat_eq, Bool, true, false, ◌&&◌, List, [], ◌∷◌, ◌++◌, All, cond, drop, length, map, nat_lt, sum_by, take, sym, refl, ap, ◌∙◌, subst, ⊎_elim, arith, ne_eqb, lt-ltb, le-ltb, Option, Some, None}
+-- At each place of a time line where steps wait for others at most as many changes, or steps, are under way as there are lanes: in a
+-- lane all steps that have started are over, except the last.
+use Rattle.std.proofs.Common.{◌≡◌, ℕ, zero, suc, ◌+◌, ◌-◌, ◌<◌, ◌≤◌, nat_eq, Bool, true, false, ◌&&◌, List, [], ◌∷◌, ◌++◌, All, cond, drop, length, map, nat_lt, sum_by, take, sym, refl, ap, ◌∙◌, subst, ⊎_elim, arith, lt-ltb, le-ltb, Option, Some, None}
 use Rattle.std.specs.Prelude.{◌||◌, is_some, not, option_map, option_to_list}
-use Rattle.std.specs.List.{enumerate_from, flat_map, range_with_len}
+use Rattle.std.specs.List.{enumerate_from, range_with_len}
 use Rattle.std.proofs.Math.Bool.{and-false}
 use Rattle.std.proofs.Math.Seq.{take-append-add, take-append_seam}
 use Rattle.std.proofs.lemmas.Bool.{cases_Bool, cases_lt}
-use Rattle.std.proofs.lemmas.Bool.Decides.{eqb_tells}
 use Rattle.std.proofs.lemmas.List.{length-map, take-append-le}
 use Rattle.std.proofs.lemmas.List.Elements.{All-cons, All-head, All-map, All-nil, All-tail, All-take, All-weaker}
 use Rattle.std.proofs.lemmas.List.FromFn.{length-range_with_len}
@@ -289,7 +288,7 @@ module _ {X : Type 0} (at : X → ℕ → ℕ → Bool) (work : Work) where
     one_in_none : OneAtATime []
     one_in_none k = subst (λ es. many es ≤ 1) (sym (take_none k)) nothing_open
 
-    -- what comes behind events that are over
+    -- what comes after events that are over
     open_behind : (es fs : List Event) → ((x : X) → Balanced x es) → many (es ++ fs) ≤ many fs
     open_behind es fs over = sum_by-le-sum_by (λ x. bit (is_open (es ++ fs) x)) (λ x. bit (is_open fs x)) xs (λ x.
         let same = over x in let first = starts-append x es fs in let last = ends-append x es fs in

@@ -1,5 +1,5 @@
 -- A plan that was read has few changes, and each has two steps at most.
-use Rattle.std.proofs.Common.{◌≡◌, ℕ, zero, suc, ◌≤◌, Bool, true, false, List, [], ◌∷◌, codes, cond, length, ltb, map, slice_get, take, Option, Some, None, Result, Ok, Err, ap, ◌∙◌, refl, subst, sym, arith}
+use Rattle.std.proofs.Common.{◌≡◌, ℕ, zero, suc, ◌≤◌, Bool, true, false, List, [], ◌∷◌, codes, cond, length, ltb, map, slice_get, take, Option, Some, None, Result, Ok, Err, ap, ◌∙◌, subst, sym, arith}
 use Rattle.std.specs.Prelude.{◌&&◌, IfSome}
 use Rattle.std.specs.List.{AllByRecursion, enumerate_from, list_any}
 use Rattle.std.specs.Option.{option_map_or}
@@ -19,7 +19,7 @@ use Rattle.apply_plan.specs.Plan.Element.{element_of}
 use Rattle.apply_plan.specs.Plan.Header.{header_of}
 use Rattle.apply_plan.specs.Plan.SavedPlan.{change_at, change_of, changes_of, names_object_of, plan_of, plan_of_tree, planned_at}
 use Rattle.apply_plan.specs.Plan.Steps.{steps_alone, steps_of_actions, steps_together}
-use Rattle.apply_plan.specs.Results.{◌>>=◌, all_or_first, each_with_earlier, or_refuse}
+use Rattle.apply_plan.specs.Results.{◌>>=◌, all_or_first, or_refuse}
 use Rattle.apply_plan.proofs.ListReading.{items_len-list_of}
 use Rattle.apply_plan.proofs.Results.{bind_ok, done, guard_ok, ok_is, or_refuse_ok}
 

@@ -1,5 +1,5 @@
 -- Of a script that was read each step that is named is the plan's, and each step of the plan could begin.
-use Rattle.std.proofs.Common.{◌≡◌, ◌≢◌, ℕ, zero, suc, ◌+◌, ◌*◌, ◌<◌, ◌≤◌, ◌==◌, All, Bool, true, false, List, [], ◌∷◌, cond, find, length, map, slice_get, take, unwrap_or, Option, Some, None, option_map, Result, Ok, Err, refl, sym, ap, ◌∙◌, subst, ⊎_elim, arith}
+use Rattle.std.proofs.Common.{◌≡◌, ◌≢◌, ℕ, zero, suc, ◌+◌, ◌<◌, ◌≤◌, ◌==◌, All, Bool, true, false, List, [], ◌∷◌, cond, find, length, map, slice_get, take, unwrap_or, Option, Some, None, option_map, Ok, refl, sym, ap, ◌∙◌, subst, ⊎_elim, arith}
 use Rattle.std.specs.Prelude.{IfSome, get_or, is_some, nat_lt, not, option_and_then, sum_by}
 use Rattle.std.specs.List.{AllByRecursion, cons_option, enumerate_from, filter_map, list_any, position_from, range_with_len}
 use Rattle.std.specs.Option.{option_map_or}
@@ -10,10 +10,9 @@ use Rattle.std.proofs.lemmas.List.Elements.{All-cons, All-nil}
 use Rattle.std.proofs.lemmas.List.Folds.{list_any_at}
 use Rattle.std.proofs.lemmas.List.FromFn.{get_or-range_with_len, length-range_with_len}
 use Rattle.std.proofs.lemmas.Option.{get_or_from_slice_get, same_Some, slice_get_past, slice_get_within}
-use Rattle.serde_json.specs.Data.{Data, Items}
+use Rattle.serde_json.specs.Data.{Data}
 use Rattle.apply_json.specs.Keeping.{keeping_tree_of}
 use Rattle.apply_json.specs.Tree.{list_of}
-use Rattle.apply_model.specs.declared.plan.step_kind.StepKind.{StepKind}
 use Rattle.apply_model.specs.declared.script.outcome.Outcome.{Outcome}
 use Rattle.apply_model.specs.declared.script.script_step.ScriptStep.{ScriptStep}
 use Rattle.apply_model.specs.declared.script.script_step.ScriptStep.TheVariants.{Answered, Skipped}
@@ -23,17 +22,16 @@ use Rattle.apply_model.specs.Plan.SavedPlan.{SavedPlan}
 use Rattle.apply_model.specs.Script.Outcome.{default_outcome}
 use Rattle.apply_model.specs.Script.OutcomeMap.{IsInRange, OutcomeMap, given_step, outcome_of}
 use Rattle.apply_model.specs.Script.Step.{after_of, answer_to}
-use Rattle.apply_model.specs.Script.Waits.{begins_within, could_begin, named_for, waits_told}
-use Rattle.apply_plan.specs.declared.script.script_error.ScriptError.{ScriptError}
+use Rattle.apply_model.specs.Script.Waits.{could_begin, named_for, waits_told}
 use Rattle.apply_plan.specs.declared.script.script_error.ScriptError.TheVariants.{TooLarge, NotJson, BadShape, UnknownChange, Duplicate, TooManySteps, NeverBegins}
 use Rattle.apply_plan.specs.Bytes.{max_bytes}
-use Rattle.apply_plan.specs.Results.{◌>>=◌, all_or_first, each_with_earlier, or_refuse, unless_refused}
+use Rattle.apply_plan.specs.Results.{all_or_first, each_with_earlier, or_refuse}
 use Rattle.apply_plan.specs.Script.EntriesView.{IsWithin, Says}
 use Rattle.apply_plan.specs.Script.Entry.{Entry, EntryStep, WaitName, entry_of, is_kept}
-use Rattle.apply_plan.specs.Script.OutcomeMap.{Said, by_number, change_of_entry, count_in, elements_of, entry_at, is_stuck, names_change, said_by, said_of, script_of, script_of_entries, script_of_tree, unless_stuck}
+use Rattle.apply_plan.specs.Script.OutcomeMap.{Said, by_number, change_of_entry, count_in, elements_of, entry_at, is_stuck, names_change, said_by, said_of, script_of, script_of_entries, script_of_tree}
 use Rattle.apply_plan.specs.Script.Refusals.{fault_of_entry, fault_of_steps, fault_of_waits}
 use Rattle.apply_plan.specs.Script.WaitedStep.{change_waited, number_waited, step_of_change, step_said, step_waited, with_waits}
-use Rattle.apply_plan.proofs.Results.{bind_ok, guard_ok, ok_is, or_refuse_ok, unless_refused_ok}
+use Rattle.apply_plan.proofs.Results.{bind_ok, guard_ok, or_refuse_ok, unless_refused_ok}
 use Rattle.apply_plan.proofs.Scripts.Entries.{at_number, change_is, is_in_range, length-by_number}
 use Rattle.apply_plan.proofs.Scripts.Limits.{both_none, not_refused, said_is_within}
 use Rattle.apply_laws.specs.Waits.{CouldBegin, WaitsWithin, could_begin as begins_where}

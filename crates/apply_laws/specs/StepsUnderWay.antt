@@ -17,7 +17,7 @@ steps_of_change plan c = map (λ k. record { change = c; step = k }) (range_with
 abbrev pub steps_of_plan : SavedPlan → List Wait
 steps_of_plan plan = flat_map (steps_of_change plan) (range_with_len 0 (length plan.changes))
 
--- ---- at a place: behind some events, and before all others
+-- ---- at a place: after some events, and before all others
 
 -- how often the step has started
 abbrev pub starts_of_step : Wait → List Event → ℕ
@@ -35,22 +35,22 @@ is_step_open_after work events name = nat_lt (ends_of_step work name events) (st
 abbrev pub open_steps_after : Work → List Event → ℕ
 open_steps_after work events = count_by (is_step_open_after work events) (steps_of_plan work.plan)
 
--- the step has an event among the first, and one among the others
-abbrev pub is_amid : (before behind : List Event) → Wait → Bool
-is_amid before behind name = has_events before name && has_events behind name
+-- the step has an event before the place, and one after it
+abbrev pub is_on_both_sides : (before behind : List Event) → Wait → Bool
+is_on_both_sides before behind name = has_events before name && has_events behind name
 
--- how many of the plan's steps have
-abbrev pub steps_amid : Work → (before behind : List Event) → ℕ
-steps_amid work before behind = count_by (is_amid before behind) (steps_of_plan work.plan)
+-- how many of the plan's steps have both
+abbrev pub steps_on_both_sides : Work → (before behind : List Event) → ℕ
+steps_on_both_sides work before behind = count_by (is_on_both_sides before behind) (steps_of_plan work.plan)
 
 -- ---- at a moment
 
--- the step has an event by the moment, and one later
+-- the step has an event by the moment, and a later one
 abbrev pub is_step_under_way_at : (moment : ℕ) → List Event → Wait → Bool
 is_step_under_way_at moment events name =
     list_any (λ event. is_of_step name event && nat_le event.at moment) events
     && list_any (λ event. is_of_step name event && nat_lt moment event.at) events
 
--- how many of the plan's steps have
+-- how many of the plan's steps have both
 abbrev pub steps_under_way_at : Work → (moment : ℕ) → List Event → ℕ
 steps_under_way_at work moment events = count_by (is_step_under_way_at moment events) (steps_of_plan work.plan)

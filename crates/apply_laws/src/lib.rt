@@ -48,8 +48,8 @@ pub use plans::{
     each_object_is_named_once, other_members_are_ignored, relative_addresses_join_their_module,
 };
 pub use read_scripts::{
-    what_lanes_stream_leaves_out_what_waits_in_vain, what_was_read_can_begin,
-    what_was_read_is_within_limits, what_was_read_leaves_out_what_waits_in_vain,
+    a_script_that_was_read_leaves_out_what_waits_in_vain, lanes_leave_out_what_waits_in_vain,
+    steps_that_were_read_could_begin, what_was_read_is_within_limits,
 };
 pub use runs::{
     a_time_line_is_applied_by_workers, between_the_lines_of_a_step_lie_its_seconds,

@@ -81,9 +81,11 @@ pub fn a_step_that_only_warns_is_done()
         → is_done_along work events name ≡ has_events events name }
 {}
 
-/// Of a script that was read, a step has no events exactly where it is skipped, or waits, directly or through others, for a
-/// step that has failed, was halted or is skipped; so that no step is left out where none has failed, was halted or is
-/// skipped.
+/// Where a script names steps of its plan alone, a step that could begin has no events exactly where it is skipped or waits in
+/// vain. It waits in vain for a step that has failed, was halted or is skipped, directly or through others. So where no step has
+/// failed, was halted or is skipped, each step that could begin has events.
+///
+/// `apply_laws` says the same of a script that was read, without these premises.
 pub fn what_waits_in_vain_is_left_out()
     ensures in_vain { (work : Work) (n : ℕ) (events : List Event) → 0 < n → HasFewSteps work → NamesSteps work
         → IsTimeLine work n events → LeaveOutWhatWaitsInVain work events }

@@ -5,6 +5,6 @@ use Rattle.apply_laws.proofs.read_scripts.what_was_read_is_within_limits.Goals a
 pub returns : goal.returns
 returns c given work read = record {
   few_changes = few_changes_read given.plan work.plan read.plan_is;
-  few_steps = c.what_was_read_can_begin.ensures.few_steps work given.plan read.plan_is;
+  few_steps = c.steps_that_were_read_could_begin.ensures.few_steps work given.plan read.plan_is;
   short_steps = given_in_range work.plan work.script given.script read.script_is;
 }

@@ -15,8 +15,8 @@ pub returns-clause-steps_at_a_place : goal.returns-clause-steps_at_a_place
 returns-clause-steps_at_a_place c work n front rest line =
     few_open_at_once is_step work (steps_of_plan work.plan) (λ change step. each_step_once work.plan change step) n (schedule work n) front rest line.interleaved
 
-pub returns-clause-amid_events : goal.returns-clause-amid_events
-returns-clause-amid_events c work n front rest line = few_between work n front rest line.interleaved
+pub returns-clause-on_both_sides : goal.returns-clause-on_both_sides
+returns-clause-on_both_sides c work n front rest line = few_between work n front rest line.interleaved
 
 pub returns-clause-at_a_moment : goal.returns-clause-at_a_moment
 returns-clause-at_a_moment c work n moment events line = few_at_a_moment work n moment events line

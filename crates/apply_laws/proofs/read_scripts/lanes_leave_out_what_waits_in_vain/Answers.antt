@@ -1,11 +1,11 @@
-use Rattle.std.proofs.Common.{◌≡◌, ℕ, zero, suc, ◌<◌, ◌≤◌, Bool, true, false, List, [], cond, arith}
+use Rattle.std.proofs.Common.{ℕ, zero, suc, ◌<◌, Bool, true, false, List, [], cond, arith}
 use Rattle.apply_events.specs.declared.event.Event.{Event}
 use Rattle.apply_events.specs.Step.{Work}
 use Rattle.apply_events.specs.Waits.TimeLine.{IsTimeLine}
 use Rattle.apply_run.specs.Bytes.{Given, IsRead}
 use Rattle.apply_run.specs.Read.{IsTold, Told, is_unfinished}
 use Rattle.apply_laws.specs.ReadScripts.{LeaveOutJustWhatWaitsInVain}
-use Rattle.apply_laws.proofs.read_scripts.what_lanes_stream_leaves_out_what_waits_in_vain.Goals as goal
+use Rattle.apply_laws.proofs.read_scripts.lanes_leave_out_what_waits_in_vain.Goals as goal
 
 -- what is applied of what was told: nothing of a plan whose making ended with an error
 abbrev applied : Given → Told → (unfinished : Bool) → Work
@@ -25,10 +25,10 @@ of_told given told n events false is law line c k has = law (applied given told 
 pub returns-clause-default_form : goal.returns-clause-default_form
 returns-clause-default_form c given lanes start operation report before after run =
     let some : 0 < lanes = (let low = run.sizes.some in omega arith) in
-    c.what_was_read_leaves_out_what_waits_in_vain.ensures.in_vain given (record { plan = run.plan; script = run.script; hooks = given.hooks }) lanes run.streamed.events some run.read run.streamed.time_line
+    c.a_script_that_was_read_leaves_out_what_waits_in_vain.ensures.in_vain given (record { plan = run.plan; script = run.script; hooks = given.hooks }) lanes run.streamed.events some run.read run.streamed.time_line
 
 pub returns-clause-terraforms_form : goal.returns-clause-terraforms_form
 returns-clause-terraforms_form c given lanes start operation report before after run =
     let some : 0 < lanes = (let low = run.sizes.some in omega arith) in
     of_told given run.told lanes run.streamed.events (is_unfinished run.told.details.note) run.read
-    (λ work read line. c.what_was_read_leaves_out_what_waits_in_vain.ensures.in_vain given work lanes run.streamed.events some read line) run.streamed.time_line
+    (λ work read line. c.a_script_that_was_read_leaves_out_what_waits_in_vain.ensures.in_vain given work lanes run.streamed.events some read line) run.streamed.time_line

@@ -1,9 +1,8 @@
--- At no place of a time line where steps wait for others more steps have an event before it and one behind it than there are lanes:
--- a lane has all events of a step in a row, and each step in one lane.
-use Rattle.std.proofs.Common.{◌≡◌, ◌≢◌, ◌⊎◌, ℕ, zero, suc, ◌+◌, ◌<◌, ◌≤◌, nat_eq, Bool, true, false, ◌&&◌, List, [], ◌∷◌, ◌++◌, All, cond, get_or, length, nat_le, nat_lt, sum_by, sym, refl, ap, ap₂, ◌∙◌, subst, ⊎_elim, inl, inr, arith, eq-eqb, ne_eqb}
+-- At each place of a time line where steps wait for others at most as many steps have an event before it and one after it as there are
+-- lanes: a step is in one lane, which has all its events in a row.
+use Rattle.std.proofs.Common.{◌≡◌, ◌≢◌, ◌⊎◌, ℕ, ◌+◌, ◌<◌, ◌≤◌, nat_eq, Bool, true, false, ◌&&◌, List, [], ◌∷◌, ◌++◌, All, cond, get_or, nat_le, nat_lt, sum_by, sym, refl, ap, ap₂, ◌∙◌, subst, ⊎_elim, inl, inr, arith, eq-eqb, ne_eqb}
 use Rattle.std.specs.Prelude.{◌||◌}
 use Rattle.std.specs.List.{Contains, list_any, range_with_len}
-use Rattle.std.proofs.Math.Bool.{and-false}
 use Rattle.std.proofs.lemmas.Bool.{and_parts, cases_Bool, cases_lt, leb-true, ltb-true, true≢false}
 use Rattle.std.proofs.lemmas.Bool.Decides.{eqb_tells}
 use Rattle.std.proofs.lemmas.List.Elements.{Contains-append_cases, Contains-append_left, Contains-append_right}
@@ -12,14 +11,12 @@ use Rattle.std.proofs.lemmas.List.FromFn.{get_or-range_with_len, length-range_wi
 use Rattle.std.proofs.lemmas.List.Sums.{get_or-le-sum_by, sum_by-cons, sum_by-le, sum_by-le-sum_by}
 use Rattle.apply_model.specs.declared.script.wait.Wait.{Wait}
 use Rattle.apply_events.specs.declared.event.Event.{Event}
-use Rattle.apply_events.specs.declared.lanes.moment.Moment.{Moment}
 use Rattle.apply_events.specs.declared.lanes.taken.Taken.{Taken}
 use Rattle.apply_events.specs.ChangeEvents.{in_turn}
 use Rattle.apply_events.specs.Interleaving.{IsInterleaving}
 use Rattle.apply_events.specs.OfWorker.{of_worker}
 use Rattle.apply_events.specs.Step.{Step, Work}
 use Rattle.apply_events.specs.StepEvents.{step_events, step_time}
-use Rattle.apply_events.specs.Waits.Schedule.{is_taken}
 use Rattle.apply_events.specs.Waits.TimeLine.{InOrder, Precedes, lane_turns, moment_of, turn_events}
 use Rattle.apply_events.specs.Waits.Turn.{begun_steps}
 use Rattle.apply_events.proofs.Joined.{of_worker-append}
@@ -31,7 +28,7 @@ use Rattle.apply_events.proofs.Waits.TurnEvents.{of_step, of_turn, step_of_event
 use Rattle.apply_events.proofs.Waits.TurnSteps.{all_at, begun_numbered, numbered_in}
 use Rattle.apply_wait_laws.specs.Laws.{has_events, is_of_step}
 use Rattle.apply_wait_laws.proofs.Along.{no_later}
-use Rattle.apply_laws.specs.StepsUnderWay.{is_amid, is_step_under_way_at}
+use Rattle.apply_laws.specs.StepsUnderWay.{is_on_both_sides, is_step_under_way_at}
 use Rattle.apply_laws.proofs.OpenInLanes.{all_range, bit, bit_le, sum_none, sum_plus}
 use Rattle.apply_laws.proofs.StepsOnce.{is_step}
 
@@ -112,16 +109,16 @@ cut (x ∷ es) fs (y ∷ front) rest e =
 -- ---- how many of some steps
 
 module _ (xs : List Wait) (each : (c k : ℕ) → sum_by (λ x. bit (is_step x c k)) xs ≤ 1) where
-  abbrev amid : (front rest : List Event) → ℕ
-  amid front rest = sum_by (λ x. bit (is_amid front rest x)) xs
+  abbrev on_both_sides : (front rest : List Event) → ℕ
+  on_both_sides front rest = sum_by (λ x. bit (is_on_both_sides front rest x)) xs
 
   -- at each place of these events one step at most has events on both sides
   abbrev OneAtATime : List Event → Type 0
-  OneAtATime es = (front rest : List Event) → es ≡ front ++ rest → amid front rest ≤ 1
+  OneAtATime es = (front rest : List Event) → es ≡ front ++ rest → on_both_sides front rest ≤ 1
 
   one_of_step : (c k : ℕ) (es : List Event) → ((e : Event) → Contains es e → (e.change ≡ c) × (e.step ≡ k)) → OneAtATime es
   one_of_step c k es of front rest is =
-      let less = sum_by-le-sum_by (λ x. bit (is_amid front rest x)) (λ x. bit (is_step x c k)) xs (λ x.
+      let less = sum_by-le-sum_by (λ x. bit (is_on_both_sides front rest x)) (λ x. bit (is_step x c k)) xs (λ x.
       no_more (has_events front x) (has_events rest x) (nat_eq c x.change) (nat_eq k x.step) (λ first second. named x first)) in
       let one = each c k in
       omega arith
@@ -136,21 +133,21 @@ module _ (xs : List Wait) (each : (c k : ℕ) → sum_by (λ x. bit (is_step x c
   one_in_none : OneAtATime []
   one_in_none front rest is = of_front front is
     where
-      of_front : (front : List Event) → [] ≡ front ++ rest → amid front rest ≤ 1
-      of_front [] is = let none = sum_none (λ x. bit (is_amid [] rest x)) xs (λ x. refl) in omega arith
+      of_front : (front : List Event) → [] ≡ front ++ rest → on_both_sides front rest ≤ 1
+      of_front [] is = let none = sum_none (λ x. bit (is_on_both_sides [] rest x)) xs (λ x. refl) in omega arith
       of_front (e ∷ front) is = absurd cc
 
   one_in_both : (es fs : List Event) → AreApart es fs → OneAtATime es → OneAtATime fs → OneAtATime (es ++ fs)
   one_in_both es fs apart first second front rest is = ⊎_elim
       (λ (c : CutBehind es fs front rest).
       let m = c.middle in
-      let less = sum_by-le-sum_by (λ x. bit (is_amid front rest x)) (λ x. bit (is_amid m rest x)) xs (λ x.
+      let less = sum_by-le-sum_by (λ x. bit (is_on_both_sides front rest x)) (λ x. bit (is_on_both_sides m rest x)) xs (λ x.
       no_more (has_events front x) (has_events rest x) (has_events m x) (has_events rest x) (λ before behind. behind_first x m before behind c.front_is c.rest_is)) in
       let one = second m rest c.rest_is in
       omega arith)
       (λ (c : CutBefore es fs front rest).
       let m = c.middle in
-      let less = sum_by-le-sum_by (λ x. bit (is_amid front rest x)) (λ x. bit (is_amid front m x)) xs (λ x.
+      let less = sum_by-le-sum_by (λ x. bit (is_on_both_sides front rest x)) (λ x. bit (is_on_both_sides front m x)) xs (λ x.
       no_more (has_events front x) (has_events rest x) (has_events front x) (has_events m x) (λ before behind. before_second x m before behind c.front_is c.rest_is)) in
       let one = first front m c.front_is in
       omega arith)
@@ -211,7 +208,7 @@ module _ (xs : List Wait) (each : (c k : ℕ) → sum_by (λ x. bit (is_step x c
 
     module _ (n : ℕ) (taken : List Taken) (front rest : List Event) (line : IsInterleaving n (lane_turns w taken) (front ++ rest)) (ok : AreTurns w taken) where
       -- a step that has events on both sides has them in a lane
-      some_lane : (x : Wait) → has_events front x ≡ true → has_events rest x ≡ true → (lane : ℕ) × (lane < n) × (is_amid (of_worker lane front) (of_worker lane rest) x ≡ true)
+      some_lane : (x : Wait) → has_events front x ≡ true → has_events rest x ≡ true → (lane : ℕ) × (lane < n) × (is_on_both_sides (of_worker lane front) (of_worker lane rest) x ≡ true)
       some_lane x before behind =
           let events = front ++ rest in
           let e = in_any (is_of_step x) front before in
@@ -230,39 +227,39 @@ module _ (xs : List Wait) (each : (c k : ℕ) → sum_by (λ x. bit (is_step x c
                 (any_in (is_of_step x) (of_worker lane rest) f.0 (in_filter (λ (g : Event). nat_eq g.worker lane) rest f.0 f.1 (eq-eqb f.0.worker lane alike)) f.2),
           )
 
-      in_lanes : (x : Wait) → bit (is_amid front rest x) ≤ sum_by (λ lane. bit (is_amid (of_worker lane front) (of_worker lane rest) x)) (range_with_len 0 n)
+      in_lanes : (x : Wait) → bit (is_on_both_sides front rest x) ≤ sum_by (λ lane. bit (is_on_both_sides (of_worker lane front) (of_worker lane rest) x)) (range_with_len 0 n)
       in_lanes x = ⊎_elim
-          (λ (yes : is_amid front rest x ≡ true).
+          (λ (yes : is_on_both_sides front rest x ≡ true).
           let parts = and_parts (has_events front x) (has_events rest x) yes in
           let there = some_lane x parts.0 parts.1 in
           let lane = there.0 in let below = there.1 in
           let size = length-range_with_len 0 n in
           let number : get_or (range_with_len 0 n) lane 0 ≡ lane = get_or-range_with_len 0 n lane 0 below ∙ omega arith in
-          let one : bit (is_amid (of_worker (get_or (range_with_len 0 n) lane 0) front) (of_worker (get_or (range_with_len 0 n) lane 0) rest) x) ≡ 1 =
-          ap (λ l. bit (is_amid (of_worker l front) (of_worker l rest) x)) number ∙ ap bit there.2 in
-          let all = get_or-le-sum_by (λ l. bit (is_amid (of_worker l front) (of_worker l rest) x)) (range_with_len 0 n) lane 0 (omega arith) in
-          let few = bit_le (is_amid front rest x) in
+          let one : bit (is_on_both_sides (of_worker (get_or (range_with_len 0 n) lane 0) front) (of_worker (get_or (range_with_len 0 n) lane 0) rest) x) ≡ 1 =
+          ap (λ l. bit (is_on_both_sides (of_worker l front) (of_worker l rest) x)) number ∙ ap bit there.2 in
+          let all = get_or-le-sum_by (λ l. bit (is_on_both_sides (of_worker l front) (of_worker l rest) x)) (range_with_len 0 n) lane 0 (omega arith) in
+          let few = bit_le (is_on_both_sides front rest x) in
           omega arith)
-          (λ (no : is_amid front rest x ≡ false). let none : bit (is_amid front rest x) ≡ 0 = ap bit no in omega arith)
-          (cases_Bool (is_amid front rest x))
+          (λ (no : is_on_both_sides front rest x ≡ false). let none : bit (is_on_both_sides front rest x) ≡ 0 = ap bit no in omega arith)
+          (cases_Bool (is_on_both_sides front rest x))
 
-      all_in_lanes : (ys : List Wait) → sum_by (λ x. bit (is_amid front rest x)) ys ≤ sum_by (λ lane. sum_by (λ x. bit (is_amid (of_worker lane front) (of_worker lane rest) x)) ys) (range_with_len 0 n)
+      all_in_lanes : (ys : List Wait) → sum_by (λ x. bit (is_on_both_sides front rest x)) ys ≤ sum_by (λ lane. sum_by (λ x. bit (is_on_both_sides (of_worker lane front) (of_worker lane rest) x)) ys) (range_with_len 0 n)
       all_in_lanes [] = omega arith
       all_in_lanes (x ∷ ys) =
-          let part = λ (lane : ℕ) (y : Wait). bit (is_amid (of_worker lane front) (of_worker lane rest) y) in
-          let mine = sum_by-cons (λ y. bit (is_amid front rest y)) x ys in
+          let part = λ (lane : ℕ) (y : Wait). bit (is_on_both_sides (of_worker lane front) (of_worker lane rest) y) in
+          let mine = sum_by-cons (λ y. bit (is_on_both_sides front rest y)) x ys in
           let one = in_lanes x in
           let others = all_in_lanes ys in
           let sum = sum_plus (λ lane. sum_by (part lane) (x ∷ ys)) (λ lane. part lane x) (λ lane. sum_by (part lane) ys) (range_with_len 0 n) (λ lane. sum_by-cons (part lane) x ys) in
           omega arith
 
-      pub few_amid : amid front rest ≤ n
-      few_amid =
+      pub few_on_both_sides : on_both_sides front rest ≤ n
+      few_on_both_sides =
           let some = all_in_lanes xs in
-          let one : All (λ lane. amid (of_worker lane front) (of_worker lane rest) ≤ 1) (range_with_len 0 n) =
-          all_range (λ lane. amid (of_worker lane front) (of_worker lane rest) ≤ 1) 0 n (λ lane lt.
+          let one : All (λ lane. on_both_sides (of_worker lane front) (of_worker lane rest) ≤ 1) (range_with_len 0 n) =
+          all_range (λ lane. on_both_sides (of_worker lane front) (of_worker lane rest) ≤ 1) 0 n (λ lane lt.
           one_in_lane taken lane ok (of_worker lane front) (of_worker lane rest) (sym (line.parts lane (omega arith)) ∙ of_worker-append lane front rest)) in
-          let all = sum_by-le (λ lane. amid (of_worker lane front) (of_worker lane rest)) 1 (range_with_len 0 n) one in
+          let all = sum_by-le (λ lane. on_both_sides (of_worker lane front) (of_worker lane rest)) 1 (range_with_len 0 n) one in
           let size = length-range_with_len 0 n in
           omega arith
 
@@ -314,8 +311,8 @@ cut_at taken moment (x ∷ events) order = ⊎_elim
         (in_cases x events e there)
 
 -- a step with an event by the moment, and one later, has events on both sides
-pub amid_at : (moment : ℕ) (events : List Event) (its : IsCutAt moment events) (x : Wait) → bit (is_step_under_way_at moment events x) ≤ bit (is_amid its.front its.rest x)
-amid_at moment events its x =
+pub both_sides_at : (moment : ℕ) (events : List Event) (its : IsCutAt moment events) (x : Wait) → bit (is_step_under_way_at moment events x) ≤ bit (is_on_both_sides its.front its.rest x)
+both_sides_at moment events its x =
     no_more (list_any by_then events) (list_any later events) (has_events its.front x) (has_events its.rest x) (λ first second.
     both (has_events its.front x) (has_events its.rest x) (before first) (behind second))
   where

@@ -1,6 +1,6 @@
 use Rattle.apply_laws.proofs.ReadPlans.{few_steps_read}
 use Rattle.apply_laws.proofs.ReadScripts.{read_begins, read_names_steps}
-use Rattle.apply_laws.proofs.read_scripts.what_was_read_can_begin.Goals as goal
+use Rattle.apply_laws.proofs.read_scripts.steps_that_were_read_could_begin.Goals as goal
 
 pub returns-clause-few_steps : goal.returns-clause-few_steps
 returns-clause-few_steps c work bytes read = few_steps_read bytes work.plan read
