@@ -1,10 +1,13 @@
 -- A run does not depend on the values of sensitive outputs.
-use Rattle.std.proofs.Common.{◌≡◌, ℕ, List, false, sym, ap, ap₂, ◌∙◌, subst}
+use Rattle.std.proofs.Common.{◌≡◌, ℕ, List, ◌++◌, false, Option, Some, None, sym, ap, ap₂, ◌∙◌, subst}
+use Rattle.std.specs.Io.KnownBytes.{Appends}
 use Rattle.apply_hooks.specs.declared.rule.Rule.{Rule}
 use Rattle.apply_model.specs.Plan.SavedPlan.{SavedPlan}
 use Rattle.apply_model.specs.Script.OutcomeMap.{OutcomeMap}
 use Rattle.apply_plan.specs.Script.Waits.{has_waits}
+use Rattle.apply_events.specs.declared.event.Event.{Event}
 use Rattle.apply_events.specs.Step.{Work}
+use Rattle.apply_events.specs.Waits.TimeLine.{IsTimeLine}
 use Rattle.apply_text.specs.declared.operation.Operation.{Operation}
 use Rattle.apply_model.specs.declared.details.note.Note.{Note}
 use Rattle.apply_run.specs.declared.form_report.FormReport.{FormReport}
@@ -16,7 +19,7 @@ use Rattle.apply_run.specs.InForm.{WasAppliedAsTold, WasAppliedAsToldInLanes, Wa
 use Rattle.apply_run.specs.Lanes.{HasFailedInFormAndLanes, HasStreamedInFormAndLanes}
 use Rattle.apply_run.specs.Read.{IsTold, Told}
 use Rattle.apply_run.specs.Run.{HasFailedInForm, HasStreamedInForm, Sight}
-use Rattle.apply_writer.specs.Stream.Form.{StreamForm}
+use Rattle.apply_writer.specs.Stream.Form.{StreamForm, stream_in}
 use Rattle.apply_writer.specs.Stream.Terraform.{tells_error}
 use Rattle.apply_laws.specs.Sensitive.{AreReadAlike, DifferInSecrets}
 use Rattle.apply_laws.proofs.SecretBytes.{read_alike}
@@ -91,3 +94,28 @@ module _ (one other : Given) (same : Told) (differ : DifferInSecrets one other) 
         was.2,
         moved (λ form work. HasFailedInFormAndLanes fault.why form work lanes fault.report before after) one other was.0 same start operation differ.hooks alike was.3,
       )
+
+-- ---- the same bytes
+
+abbrev some : List ℕ → Option (List ℕ)
+some x = Some x
+
+-- what stands behind the same bytes is the same
+appended_same : (bytes more others : List ℕ) (after same : Option (List ℕ)) → more ≡ others → Appends (Some bytes) after more → Appends (Some bytes) same others → after ≡ same
+appended_same bytes more others None same is one other = absurd one
+appended_same bytes more others (Some xs) None is one other = absurd other
+appended_same bytes more others (Some xs) (Some ys) is one other = ap (λ (l : List ℕ). some l) (one ∙ ap (λ (l : List ℕ). bytes ++ l) is ∙ sym other)
+
+pub same_bytes : ((work : Work) (n : ℕ) (first second : List Event) → IsTimeLine work n first → IsTimeLine work n second → first ≡ second)
+    → (one other : Given) (lanes start : ℕ) (operation : Operation) (first second : FormReport) (bytes : List ℕ) (before after same : Sight) → DifferInSecrets one other → before.bytes ≡ Some bytes
+    → WasAppliedAsToldInLanes one lanes start operation first before after → WasAppliedAsToldInLanes other lanes start operation second before same → after.bytes ≡ same.bytes
+same_bytes unique one other lanes start operation first second bytes before after same differ known was also =
+    let alike = read_alike one other was.told also.told differ was.read also.read in
+    let form = form_of also.told start operation in
+    let streamed : HasStreamedInFormAndLanes form (work_of other also.told) lanes first.run before after =
+    moved (λ form work. HasStreamedInFormAndLanes form work lanes first.run before after) one other was.told also.told start operation differ.hooks alike was.streamed in
+    let events : streamed.events ≡ also.streamed.events =
+    unique (work_of other also.told) lanes streamed.events also.streamed.events streamed.time_line also.streamed.time_line in
+    appended_same bytes (stream_in form streamed.events) (stream_in form also.streamed.events) after.bytes same.bytes (ap (stream_in form) events)
+    (subst (λ (b : Option (List ℕ)). Appends b after.bytes (stream_in form streamed.events)) known streamed.whole.delivered.appended)
+    (subst (λ (b : Option (List ℕ)). Appends b same.bytes (stream_in form also.streamed.events)) known also.streamed.whole.delivered.appended)

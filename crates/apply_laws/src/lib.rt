@@ -55,7 +55,10 @@ pub use runs::{
     a_time_line_is_applied_by_workers, between_the_lines_of_a_step_lie_its_seconds,
     what_lanes_stream_is_a_run_of_workers,
 };
-pub use sensitive::{no_run_tells_a_sensitive_value, no_stream_tells_a_sensitive_value};
+pub use sensitive::{
+    no_byte_in_lanes_tells_a_sensitive_value, no_run_tells_a_sensitive_value,
+    no_stream_tells_a_sensitive_value,
+};
 pub use time_lines::{
     a_step_takes_the_seconds_that_it_tells, a_time_line_ends_by_the_sum_of_all_spans,
     lanes_deal_out_the_changes, moments_of_a_time_line_never_fall, no_end_comes_before_the_mean,

@@ -1,6 +1,6 @@
 //! Laws of what no stream tells. Each function does nothing; its contract is the law.
 
-ghost use Rattle.std.specs.Prelude.{List, map, ℕ, ◌≡◌};
+ghost use Rattle.std.specs.Prelude.{List, Some, map, ℕ, ◌≡◌};
 ghost use Rattle.apply_model.specs.Plan.SavedPlan.{SavedPlan};
 ghost use Rattle.apply_model.specs.Script.OutcomeMap.{OutcomeMap};
 ghost use Rattle.apply_model.specs.declared.details.change_details.ChangeDetails.{ChangeDetails};
@@ -21,6 +21,8 @@ ghost use Rattle.apply_run.specs.InForm.{WasAppliedInForm, WasAppliedInFormAndLa
 ghost use Rattle.apply_run.specs.Read.{IsTold, Told};
 ghost use Rattle.apply_run.specs.Run.{Sight};
 ghost use Rattle.apply_laws.specs.Sensitive.{AreReadAlike, DifferInSecrets, TellTheSame};
+
+use apply_wait_laws::two_time_lines_are_equal;
 
 /// No stream in Terraform's form depends on the value of a sensitive output.
 ///
@@ -55,3 +57,14 @@ pub fn no_run_tells_a_sensitive_value()
         → WasRefusedInFormAndLanes Terraform one lanes start operation (refusal.Fault fault) before after
         → WasRefusedInFormAndLanes Terraform other lanes start operation (refusal.Fault fault) before after }
 {}
+
+/// In lanes both runs write the same bytes, where the output tells the bytes that it has.
+pub fn no_byte_in_lanes_tells_a_sensitive_value()
+    ensures { (one other : Given) (lanes start : ℕ) (operation : Operation) (first second : FormReport) (bytes : List ℕ)
+        (before after same : Sight) → DifferInSecrets one other → before.bytes ≡ Some bytes
+        → WasAppliedInFormAndLanes Terraform one lanes start operation first before after
+        → WasAppliedInFormAndLanes Terraform other lanes start operation second before same
+        → after.bytes ≡ same.bytes }
+{
+    two_time_lines_are_equal();
+}
