@@ -1,5 +1,5 @@
 -- What the words behind `validate` say: the options that there are, as `clap` takes them, and which of them gives which setting.
-use Rattle.std.specs.Prelude.{◌≡◌, ◌⊎◌, List, [], ◌∷◌, Option, Some, true, codes, if◌then◌else◌, IsSome, is_some, option_map, pos, string_bytes}
+use Rattle.std.specs.Prelude.{◌≡◌, ◌⊎◌, List, [], ◌∷◌, Some, true, codes, if◌then◌else◌, IsSome, is_some, option_map, pos, string_bytes}
 use Rattle.std.specs.Borrow.{Bor}
 use Rattle.std.specs.Option.{option_map_or}
 use Rattle.std.specs.Str.{bytes_eq}
