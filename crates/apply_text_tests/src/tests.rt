@@ -10,11 +10,14 @@ mod cached_parts;
 mod events;
 mod moments;
 mod provisioners;
+mod versions;
 
 use apply_events::{Counts, Event, LATEST, What};
 use apply_hooks::Phase;
 use apply_plan::{Plan, Script, read_plan, read_script};
-use apply_text::{LineBuffer, Operation, Start, elapsed_text, event_line, summary_line};
+use apply_text::{
+    LineBuffer, Operation, Start, elapsed_text, event_line, summary_line, version_line,
+};
 use std::alloc::Global;
 use std::fmt::Display;
 use std::process::Abort;
