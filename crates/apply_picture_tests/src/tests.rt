@@ -1,14 +1,16 @@
 //! What no clause says: whole pictures, readers and writers that fail, and what texts of a stream look like. Words, widths and
 //! layouts are those of the pictures that `checks/views` compares.
 
+mod files;
 mod streams;
 
-use apply_picture::{Colour, DrawFault, Form, Outcome, PictureFault, view_input};
+use apply_picture::{Colour, DrawFault, Form, Outcome, PictureFault, follow, view_input};
 use apply_view::ViewFault;
+use files::Disk;
 use std::alloc::Global;
-use std::io;
 use std::io::{ErrorKind, Read, Write};
 use std::process::Abort;
+use std::{array, io};
 use streams::{Given, Taken};
 
 /// A text of 120 columns, without colours.
@@ -181,6 +183,52 @@ fn reader_that_fails(rt: HostRuntime) {
     assert_eq!(rt; outcome.status, 2);
     assert_eq!(rt; faults.as_slice(), said.as_bytes());
     assert!(rt; out.bytes.is_empty());
+}
+
+/// Fails where a file of one create, which fails at its end or not, is viewed otherwise than with that status, a text that begins
+/// so and a picture, or anything of the input is read beside it.
+fn leaves_the_input(
+    rt: &impl Abort,
+    alloc: Global,
+    is_broken: bool,
+    status: u8,
+    said: &str,
+    wanted: &str,
+) {
+    let disk = Disk {
+        bytes: ONE_CREATE.as_bytes(),
+        is_broken,
+    };
+    let name = String::from_str(alloc, "stream.jsonl").expect(rt, "memory");
+    let mut input = Given {
+        bytes: ONE_CREATE.as_bytes(),
+        is_broken: false,
+    };
+    let mut out = Taken::new(alloc, usize::MAX, ErrorKind::StorageFull);
+    let mut faults = Vec::new(alloc);
+    let words = array::from_ref(&name);
+    let followed = follow(
+        &disk,
+        alloc,
+        words,
+        false,
+        false,
+        &mut input,
+        &mut out,
+        &mut faults,
+    );
+    assert_eq!(rt; followed.status, status);
+    assert!(rt; faults.as_slice().starts_with(said.as_bytes()));
+    assert_eq!(rt; out.bytes.as_slice(), wanted.as_bytes());
+    assert_eq!(rt; input.bytes, ONE_CREATE.as_bytes());
+}
+
+/// Of a file that is viewed, whole or not, nothing is read of the input: a job may hold it open.
+#[test]
+fn input_beside_a_file(rt: HostRuntime) {
+    leaves_the_input(&rt, rt.alloc(), false, 0, "", ONE_CREATE_TEXT);
+    let said = "applystream: the file stream.jsonl could not be read: ";
+    leaves_the_input(&rt, rt.alloc(), true, 2, said, "");
 }
 
 /// Texts of a stream steer no terminal, and are no markup.

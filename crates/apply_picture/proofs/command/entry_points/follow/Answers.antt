@@ -1,6 +1,6 @@
 -- What was viewed, as what was answered says.
 use Rattle.std.proofs.Common.{◌≡◌, ◌∙◌, ℕ, Bool, List, Option, None, Some, ap, refl, subst, sym, arith}
-use Rattle.std.specs.Prelude.{IfErr, IfSome, OnOk}
+use Rattle.std.specs.Prelude.{IfErr, IfSome, IsSome, OnOk, is_some}
 use Rattle.std.specs.Io.KnownBytes.{IsAtEnd}
 use Rattle.apply_words.specs.Words.{IsGivenBy}
 use Rattle.apply_picture.specs.CommandLine.{HaveSaid}
@@ -38,8 +38,9 @@ returns-in_default-clause-viewed g c =
     let input = g.R.Read.remaining c.args.input.now in
     let given = subst (λ o. IsGivenBy g.F.File.Read.remaining input o input) (sym c.in_default.is) refl in
     let viewed = c.view_input-outcome.ensures in
+    let told = subst (λ o. IsStatusOf o c.view_input-outcome.result.answer c.view_input-outcome.result.status) (sym c.in_default.is) viewed.status in
     was_viewed g.F.File.Read.remaining _ input _ _ _ _ _ c.view_input-outcome.result c.in-Ok.settings input c.in-Ok.ensures.said c.with_answer.ensures given
-    viewed.drawn viewed.stream viewed.status (λ none. viewed.read)
+    viewed.drawn viewed.stream told (λ none. viewed.read) (λ named. let bad = sym (ap is_some c.in_default.is) ∙ named in cc)
 
 pub returns-in-Ok-open-clause-viewed : goal.returns-in-Ok-open-clause-viewed
 returns-in-Ok-open-clause-viewed g c =
@@ -47,8 +48,11 @@ returns-in-Ok-open-clause-viewed g c =
     let bytes = g.F.File.Read.remaining c.in-Ok-open.file in
     let given = subst (λ o. IsGivenBy g.F.File.Read.remaining input o bytes) (sym c.in-Some.is) (c.in-Ok-open.file, refl) in
     let viewed = c.view_input-outcome-in-Ok-open.ensures in
+    let told =
+    subst (λ o. IsStatusOf o c.view_input-outcome-in-Ok-open.result.answer c.view_input-outcome-in-Ok-open.result.status) (sym c.in-Some.is) viewed.status in
     was_viewed g.F.File.Read.remaining _ input _ _ _ _ _ c.view_input-outcome-in-Ok-open.result c.in-Ok.settings bytes
-    c.in-Ok.ensures.said c.with_answer-in-Ok-open.ensures given viewed.drawn viewed.stream viewed.status (λ none. let bad = sym c.in-Some.is ∙ none in cc)
+    c.in-Ok.ensures.said c.with_answer-in-Ok-open.ensures given viewed.drawn viewed.stream told (λ none. let bad = sym c.in-Some.is ∙ none in cc)
+    (λ named. refl)
 
 pub returns-in-Err-clause-unviewed : goal.returns-in-Err-clause-unviewed
 returns-in-Err-clause-unviewed g c = λ none.
