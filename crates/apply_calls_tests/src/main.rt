@@ -6,12 +6,14 @@
 #![tactic(auto)]
 
 mod command;
+mod lanes;
 mod lines;
 mod lists;
 mod opening;
 mod readers;
 mod runs;
 mod telling;
+mod whole_runs;
 
 use std::alloc::Global;
 use std::io;
@@ -49,6 +51,8 @@ fn answer_of<R: Print + Threads + Wait + Sync>(
         "read_plan" => readers::quoted_plan(rt, alloc),
         "repeated_change" => readers::repeated_change(rt, alloc),
         "read_script" => readers::script(rt, alloc),
+        "read_script_with_waits" => lanes::script_with_waits(rt, alloc),
+        "lanes_start" => lanes::start(rt, alloc),
         "rules_push" => lists::rules_push(rt, alloc),
         "registry_add" => lists::registry_add(rt, alloc),
         "version_line" => lines::version(rt, alloc),
@@ -63,6 +67,9 @@ fn answer_of<R: Print + Threads + Wait + Sync>(
         "read_words" => command::settings(rt, alloc),
         "apply_bytes" => runs::by_one(rt, alloc),
         "apply_bytes_by_eight" => runs::by_eight(rt, alloc),
+        "read_all" => whole_runs::input(rt, alloc),
+        "run_command" => whole_runs::by_one(rt, alloc),
+        "run_command_by_eight" => whole_runs::by_eight(rt, alloc),
         _ => Err(io::Error::from(ErrorKind::InvalidInput)),
     }
 }

@@ -10,6 +10,7 @@ mod following;
 mod forms;
 mod lanes;
 mod rests;
+mod unsaid_faults;
 mod words;
 
 use apply_cli::{

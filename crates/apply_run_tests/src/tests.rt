@@ -6,6 +6,7 @@
 
 ghost use Rattle.std.specs.Prelude.{◌≡◌, ◌<◌, ◌-◌, ◌^◌};
 
+mod eight_workers;
 mod failing_sinks;
 mod gates;
 mod hooks;

@@ -4,11 +4,11 @@ use super::*;
 use std::fmt::Display;
 
 /// A replacement that creates first.
-const FAILED_DESTROY: &str =
+pub(super) const FAILED_DESTROY: &str =
     r#"{"format_version":"1.2","terraform_version":"1.9.0","resource_changes":[{"address":"null_resource.a","mode":"managed","type":"null_resource","name":"a","change":{"actions":["create","delete"]}}]}"#;
 
 /// Its second step fails.
-const FAILED_DESTROY_SCRIPT: &str =
+pub(super) const FAILED_DESTROY_SCRIPT: &str =
     r#"{"changes":[{"address":"null_resource.a","steps":[{"seconds":0},{"seconds":4,"failed":{"summary":"boom"}}]}]}"#;
 
 /// What is written of both.
