@@ -1,7 +1,6 @@
 -- What came of the words behind `view`.
 use Rattle.std.specs.Prelude.{◌≡◌, ◌⊎◌, ⊤, ℕ, List, Bool, true, false, Option, Some, None, IfErr, IfSome, IsSome, OnOk, Result, Ok, Err, pos, unwrap_or}
 use Rattle.std.specs.Io.KnownBytes.{IsAtEnd, Keeps}
-use Rattle.apply_lines.specs.Cut.{cut_lines}
 use Rattle.apply_words.specs.Words.{IsGivenBy}
 use Rattle.apply_view.specs.declared.told.view_fault.ViewFault.{ViewFault}
 use Rattle.apply_view.specs.declared.told.view_fault.ViewFault.TheVariants as told
@@ -9,7 +8,7 @@ use Rattle.apply_view.specs.declared.told.moments.Moments.{Moments}
 use Rattle.apply_view.specs.Lines.{IsToldOf}
 use Rattle.apply_view.specs.Numbers.{IsNumbersOf}
 use Rattle.apply_view.specs.Rows.{AreRowsOf}
-use Rattle.apply_view.specs.Telling.{Telling, told_of}
+use Rattle.apply_view.specs.Telling.{Telling}
 use Rattle.apply_picture.specs.CommandLine.{HaveSaid}
 use Rattle.apply_picture.specs.Lines.{LinesWritten}
 use Rattle.apply_picture.specs.Markup.{SomeSvgWritten, SvgWritten}

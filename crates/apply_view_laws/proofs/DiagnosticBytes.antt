@@ -1,5 +1,5 @@
 -- What an error or a warning takes in bytes, and the first of them.
-use Rattle.std.proofs.Common.{◌≡◌, ℕ, ◌+◌, ◌-◌, ◌*◌, ◌≤◌, List, [], ◌∷◌, ◌++◌, Bool, true, false, cond, leb, ltb, length, map, take, drop, Option, Some, None, suc, zero, refl, ap, ◌∙◌, ⊎_elim, arith}
+use Rattle.std.proofs.Common.{◌≡◌, ℕ, ◌-◌, ◌*◌, ◌≤◌, List, [], ◌∷◌, ◌++◌, Bool, true, false, cond, leb, ltb, length, map, take, drop, Option, Some, None, suc, zero, refl, ⊎_elim, arith}
 use Rattle.std.specs.Prelude.{◌||◌, codes, unwrap_or}
 use Rattle.std.specs.List.{sum_by}
 use Rattle.std.specs.Option.{option_map, option_map_or}
@@ -10,7 +10,7 @@ use Rattle.std.proofs.lemmas.List.Sums.{sum_by-cons, sum_by_push}
 use Rattle.serde_json.specs.Data.{Data}
 use Rattle.apply_json.specs.Tree.{member_of, text_of}
 use Rattle.apply_view.specs.declared.told.totals.Totals.{Totals}
-use Rattle.apply_view.specs.Details.{ToldDiagnostic, back_bytes, back_part, detail_lines, diagnostic_of, file_of, front_bytes, front_part, kept, lines_of_detail, text_or_empty, trimmed_line}
+use Rattle.apply_view.specs.Details.{ToldDiagnostic, diagnostic_of, file_of, kept, lines_of_detail, text_or_empty, trimmed_line}
 use Rattle.apply_view.specs.Memory.{diagnostic_bytes}
 use Rattle.apply_view_laws.specs.Memory.{max_diagnostic_bytes}
 use Rattle.apply_view.specs.Messages.{Said, begins, ends, begins_provisioner, ends_provisioner, error, warning, version, plan_summary, summary, other, lacking, address_of, begin_of, diagnostic_said, diagnostic_with, end_of, general_said, hook_text, no_totals_said, other_step_said, provisioner_begin_of, provisioner_end_of, provisioner_said, refresh_begin_of, refresh_end_of, said_of, summary_in, summary_of, totals_in}

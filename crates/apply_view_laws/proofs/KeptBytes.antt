@@ -1,6 +1,6 @@
 -- What is kept of a stream in bytes: how much it is at most, and which lines change it.
 use Rattle.std.proofs.Common.{◌≡◌, ℕ, ◌+◌, ◌≤◌, ℤ, List, [], ◌∷◌, Bool, true, false, fold, map, Option, Some, None, suc, zero, refl, sym, ap, ap₂, ◌∙◌, subst, ⊎_elim, arith}
-use Rattle.std.specs.Prelude.{◌||◌, codes, is_none}
+use Rattle.std.specs.Prelude.{codes, is_none}
 use Rattle.std.specs.List.{sum_by}
 use Rattle.std.specs.Option.{option_map_or}
 use Rattle.std.specs.Str.{bytes_eq}
@@ -9,11 +9,10 @@ use Rattle.std.proofs.lemmas.List.Sums.{sum_by-cons}
 use Rattle.std.proofs.lemmas.Slice.Eq.{bytes_eq-Decides}
 use Rattle.serde_json.specs.Data.{Data}
 use Rattle.apply_json.specs.Tree.{◌>>=◌, text_of, tree_of}
-use Rattle.apply_view_laws.specs.Messages.{message_in}
 use Rattle.apply_view.specs.Memory.{kept_bytes, provisioner_bytes, step_bytes}
 use Rattle.apply_view_laws.specs.Memory.{allowed_bytes, is_kept, is_kept_line, is_progress, is_progress_line, is_progress_type}
 use Rattle.apply_view.specs.Messages.{Message, Said, begins, ends, begins_provisioner, ends_provisioner, error, warning, version, plan_summary, summary, other, lacking, message_at, message_of, moment_of, said_of, tree_message}
-use Rattle.apply_view.specs.OpenPlaces.{index_bytes, text_bytes}
+use Rattle.apply_view.specs.OpenPlaces.{text_bytes}
 use Rattle.apply_view.specs.Steps.{ToldProvisioner, ToldStep, at_place, ended, ended_with_step, first_of, is_open_at, is_open_with, last_of, passes_at, places, provisions, with_last_ended, with_provisioner_ended}
 use Rattle.apply_view.specs.Telling.{Telling, is_blank_line, nothing_told, told_of, with_line, with_message_or_passed, with_passed, with_provisioner_end_at, with_said}
 use Rattle.apply_view_laws.proofs.DiagnosticBytes.{AreFew, Fits, one_more_fits, said_fits}

@@ -2,6 +2,7 @@ pub mod BeginLines
 pub mod Counting
 pub mod Counts
 pub mod DiagnosticBytes
+pub mod Held
 pub mod InSpan
 pub mod ItsLines
 pub mod KeptBytes

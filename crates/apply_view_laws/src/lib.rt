@@ -22,7 +22,7 @@ pub use numbers::{
 pub use rows::{shown_and_left_out_are_all, what_comes_no_later_stands_no_further};
 pub use told::{
     each_begin_gives_one_step, memory_is_kept_for_steps_and_few_diagnostics,
-    progress_takes_no_memory, steps_are_of_their_lines,
+    no_more_is_kept_than_began, progress_takes_no_memory, steps_are_of_their_lines,
 };
 
 /// Of a stream that is accepted as that of an apply, without a search for messages in a log, each of whose lines tells a moment, and

@@ -1,6 +1,7 @@
 //! Laws of what is told. Each function does nothing; its contract is the law.
 
-ghost use Rattle.std.specs.Prelude.{◌≡◌, ◌≤◌, ℕ, List, All, false, map, true};
+ghost use Rattle.std.specs.Prelude.{◌≡◌, ◌≤◌, ◌+◌, ℕ, List, All, false, length, map, true};
+ghost use Rattle.std.specs.List.{sum_by};
 ghost use Rattle.apply_view.specs.Memory.{kept_bytes};
 ghost use Rattle.apply_view.specs.Steps.{ToldStep};
 ghost use Rattle.apply_view.specs.Telling.{Telling, told_of, with_line};
@@ -15,6 +16,13 @@ pub fn each_begin_gives_one_step()
 /// A step's begin and end are moments of its lines.
 pub fn steps_are_of_their_lines()
     ensures { (lines : List (List ℕ)) → All (IsOfItsLines lines) (told_of lines).steps }
+{}
+
+/// No more steps and provisioners are kept than are counted as begun: where `apply_view::read` or `apply_view::Viewer::line` says
+/// that these are at most 100,000, those are.
+pub fn no_more_is_kept_than_began()
+    ensures { (lines : List (List ℕ)) → length (told_of lines).steps
+        + sum_by (λ (step : ToldStep). length step.provisioners) (told_of lines).steps ≤ (told_of lines).begun }
 {}
 
 /// What `apply_view::a_viewer_keeps_what_is_defined` says that a viewer keeps is no more than its steps, with their addresses,
