@@ -27,7 +27,6 @@ mod SecretChanges
 mod SecretOutputs
 mod SecretRuns
 mod SecretStreams
-mod StepsAmid
 mod StepsOnce
 mod TimeLineFits
 mod TimeLines
