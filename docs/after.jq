@@ -1,5 +1,5 @@
 # The script in which each step of a plan waits for what Terraform has it wait for, and takes a second:
-# terraform graph -plan=plan.bin | jq -Rnf after.jq --slurpfile plan plan.json > script.json
+# terraform graph -plan=tfplan | jq -Rnf after.jq --slurpfile plan plan.json > script.json
 def node($change; $action): $change.address + if $change.deposed then " (destroy deposed \($change.deposed))" elif $action == "delete" then " (destroy)" else "" end;
 [$plan[0].resource_changes[]? | select(.change.actions - ["no-op", "forget"] != []) | {address, deposed: (.deposed // null), actions: .change.actions}] as $changes
 # What names the step of each node: a text alone where the change has one step and no deposed key.
