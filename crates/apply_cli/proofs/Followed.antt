@@ -6,8 +6,8 @@ use Rattle.apply_run.specs.Run.{Sight}
 use Rattle.apply_writer.specs.Sinks.{OverWriter}
 use Rattle.apply_cli.specs.Command.{OfFile, OfInput, sight_of}
 use Rattle.apply_cli.specs.Invocation.{HasAppliedAsAsked, HasBegunAsAsked, WereApplied, WereBegun, given_of, unfailed}
-use Rattle.apply_settings.specs.Invocation.{IsOfWords}
-use Rattle.apply_settings.specs.declared.invocation.Invocation.{Invocation}
+use Rattle.apply_cli_args.specs.Invocation.{IsOfWords}
+use Rattle.apply_cli_args.specs.declared.invocation.Invocation.{Invocation}
 
 -- an output that is new
 new : {W : Type 0} (contents : W → Option (List ℕ)) (output : W) (first : OverWriter W)

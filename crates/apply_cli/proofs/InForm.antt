@@ -4,8 +4,8 @@ use Rattle.std.specs.Io.KnownBytes.{Keeps}
 use Rattle.std.proofs.lemmas.Bool.{lt-ltb}
 use Rattle.apply_plan.specs.Bytes.{max_bytes}
 use Rattle.apply_plan.specs.Plan.SavedPlan.{SavedPlan, plan_of}
-use Rattle.apply_form.specs.declared.form.Form.{Form}
-use Rattle.apply_form.specs.declared.form.Form.TheVariants.{Applystream, Terraform}
+use Rattle.apply_text_terraform.specs.declared.form.Form.{Form}
+use Rattle.apply_text_terraform.specs.declared.form.Form.TheVariants.{Applystream, Terraform}
 use Rattle.apply_text.specs.declared.operation.Operation.{Operation}
 use Rattle.apply_run.specs.Bytes.{Given}
 use Rattle.apply_run.specs.InForm.{WasAppliedInForm, WasAppliedInFormAndLanes, WasRefusedInForm, WasRefusedInFormAndLanes}

@@ -5,12 +5,12 @@ use Rattle.apply_plan.specs.declared.script.script_error.ScriptError.TheVariants
 use Rattle.apply_plan.specs.Bytes.{max_bytes}
 use Rattle.apply_plan.specs.Plan.SavedPlan.{SavedPlan}
 use Rattle.apply_plan.specs.Script.OutcomeMap.{OutcomeMap, script_of}
-use Rattle.apply_form.specs.declared.form.Form.{Form}
-use Rattle.apply_form.specs.declared.form.Form.TheVariants.{Applystream, Terraform}
+use Rattle.apply_text_terraform.specs.declared.form.Form.{Form}
+use Rattle.apply_text_terraform.specs.declared.form.Form.TheVariants.{Applystream, Terraform}
 use Rattle.apply_run.specs.Bytes.{Given, IsRead, given_script}
 use Rattle.apply_run.specs.Read.{IsTold, Told}
 use Rattle.apply_run.specs.Run.{Sight}
-use Rattle.apply_settings.specs.declared.settings.Settings.{Settings}
+use Rattle.apply_cli_args.specs.declared.settings.Settings.{Settings}
 use Rattle.apply_cli.specs.Command.{AreOfName, IsFrontOfFile, OfFile}
 use Rattle.apply_cli.specs.Invocation.{HasAppliedAsAsked, HasBegunAsAsked}
 use Rattle.apply_cli.proofs.Front.{whole_by}

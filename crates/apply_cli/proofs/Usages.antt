@@ -6,11 +6,11 @@ use Rattle.clap.specs.Kinds.{IsAmong}
 use Rattle.clap.specs.Walk.{Text}
 use Rattle.clap.specs.declared.error.kind.ErrorKind.{ErrorKind}
 use Rattle.clap.specs.declared.error.kind.ErrorKind.TheVariants.{DisplayHelp, DisplayVersion}
-use Rattle.apply_settings.specs.CommandLine.{AreChoices, AskAlone, AskForHelp, AskForHelpAlone, Choices, WereRefused, command_line}
-use Rattle.apply_settings.specs.Invocation.{HaveInvoked}
-use Rattle.apply_settings.specs.declared.invocation.Invocation.{Invocation}
-use Rattle.apply_settings.specs.declared.usage.Usage.{Usage}
-use Rattle.apply_settings.specs.declared.usage.Usage.TheVariants as usage
+use Rattle.apply_cli_args.specs.CommandLine.{AreChoices, AskAlone, AskForHelp, AskForHelpAlone, Choices, WereRefused, command_line}
+use Rattle.apply_cli_args.specs.Invocation.{HaveInvoked}
+use Rattle.apply_cli_args.specs.declared.invocation.Invocation.{Invocation}
+use Rattle.apply_cli_args.specs.declared.usage.Usage.{Usage}
+use Rattle.apply_cli_args.specs.declared.usage.Usage.TheVariants as usage
 use Rattle.apply_run.specs.Run.{Sight}
 use Rattle.apply_cli.specs.Status.{usage_status_of}
 use Rattle.apply_cli.specs.Version.{AskForVersionAlone, WasTold, WereToldVersion}

@@ -1,7 +1,7 @@
 -- How the program has ended, in the form that was asked for.
 use Rattle.std.specs.Prelude.{◌≡◌, ℕ}
-use Rattle.apply_form.specs.declared.form.Form.{Form}
-use Rattle.apply_form.specs.declared.form.Form.TheVariants.{Applystream, Terraform}
+use Rattle.apply_text_terraform.specs.declared.form.Form.{Form}
+use Rattle.apply_text_terraform.specs.declared.form.Form.TheVariants.{Applystream, Terraform}
 use Rattle.apply_text.specs.declared.operation.Operation.{Operation}
 use Rattle.apply_run.specs.Bytes.{Given}
 use Rattle.apply_run.specs.InForm.{WasRefusedInForm, WasRefusedInFormAndLanes}

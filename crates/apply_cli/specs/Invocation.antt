@@ -1,13 +1,13 @@
 -- What is done as the words of the command line ask: in lanes, or by workers, and told in one form or the other.
 use Rattle.std.specs.Prelude.{ℕ, List, Option, Some, None}
 use Rattle.clap.specs.Walk.{Text}
-use Rattle.apply_form.specs.declared.form.Form.{Form}
+use Rattle.apply_text_terraform.specs.declared.form.Form.{Form}
 use Rattle.apply_run.specs.Bytes.{Given}
 use Rattle.apply_run.specs.Run.{Sight}
-use Rattle.apply_settings.specs.Halt.{hooks_of_halts}
-use Rattle.apply_settings.specs.Invocation.{IsOfWords}
-use Rattle.apply_settings.specs.declared.invocation.Invocation.{Invocation}
-use Rattle.apply_settings.specs.declared.settings.Settings.{Settings}
+use Rattle.apply_cli_args.specs.Halt.{hooks_of_halts}
+use Rattle.apply_cli_args.specs.Invocation.{IsOfWords}
+use Rattle.apply_cli_args.specs.declared.invocation.Invocation.{Invocation}
+use Rattle.apply_cli_args.specs.declared.settings.Settings.{Settings}
 use Rattle.apply_cli.specs.Command.{OfFile, OfInput}
 use Rattle.apply_cli.specs.CommandInForm.{HasAppliedInForm, HasAppliedInFormAndLanes, HasBegunInForm, HasBegunInFormAndLanes}
 use Rattle.apply_cli.specs.Options.{options_of}

@@ -1,6 +1,6 @@
 -- What a run takes of settings.
 use Rattle.apply_run.specs.declared.options.Options.{Options}
-use Rattle.apply_settings.specs.declared.settings.Settings.{Settings}
+use Rattle.apply_cli_args.specs.declared.settings.Settings.{Settings}
 
 -- how the run applies the plan
 abbrev pub options_of : Settings → Options

@@ -12,8 +12,8 @@ use Rattle.apply_run.specs.declared.refusal.Refusal.{Refusal}
 use Rattle.apply_run.specs.declared.refusal.Refusal.TheVariants.{Plan, Script, Waits, Size, Fault}
 use Rattle.apply_cli.specs.declared.input_fault.InputFault.{InputFault}
 use Rattle.apply_cli.specs.declared.input_fault.InputFault.TheVariants as input
-use Rattle.apply_settings.specs.declared.usage.Usage.{Usage}
-use Rattle.apply_settings.specs.declared.usage.Usage.TheVariants as usage
+use Rattle.apply_cli_args.specs.declared.usage.Usage.{Usage}
+use Rattle.apply_cli_args.specs.declared.usage.Usage.TheVariants as usage
 
 abbrev pub input_status_of : InputFault → ℕ
 input_status_of input.Read = 2

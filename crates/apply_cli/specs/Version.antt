@@ -5,8 +5,8 @@ use mathlib.Core.List.{IsPrefix}
 use Rattle.clap.specs.Walk.{Text}
 use Rattle.clap.specs.declared.error.kind.ErrorKind.TheVariants.{DisplayVersion}
 use Rattle.apply_run.specs.Run.{Sight}
-use Rattle.apply_settings.specs.CommandLine.{AskAlone, AskForVersionToo}
-use Rattle.apply_settings.specs.declared.version.TheConstants.{VERSION}
+use Rattle.apply_cli_args.specs.CommandLine.{AskAlone, AskForVersionToo}
+use Rattle.apply_cli_args.specs.declared.version.TheConstants.{VERSION}
 
 -- one of two words, and no other
 abbrev pub AskForVersion : List Text → Type 0

@@ -6,8 +6,8 @@ ghost use Rattle.apply_cli.specs.Status.{hook_status_of, usage_status_of};
 
 use crate::run::report;
 use crate::status::{FAILED, REFUSED};
+use apply_cli_args::{Usage, VERSION};
 use apply_hooks::HookError;
-use apply_settings::{Usage, VERSION};
 use std::io::Write;
 
 /// Says why the words are not followed, and answers the exit status: 0 for help and the version, 3 where memory was refused, else 2.

@@ -14,10 +14,10 @@ use crate::input::read_input;
 use crate::input_fault::InputFault;
 use crate::run::{finish_reading, flush_unless_failed, report_refusal, report_unless_gone};
 use crate::status::{FAILED, input_status, refusal_status, told_status};
-use apply_form::Form;
+use apply_cli_args::Settings;
 use apply_hooks::Registry;
 use apply_run::{Refusal, Sink, StdSink, Why, apply_bytes_in_form_and_lanes};
-use apply_settings::Settings;
+use apply_text_terraform::Form;
 use std::alloc::Global;
 use std::io::{Read, Write};
 

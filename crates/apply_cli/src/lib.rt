@@ -16,7 +16,7 @@ mod status;
 mod version;
 
 pub use answer::answer_usage;
-pub use apply_settings::{Halt, Invocation, Settings, Usage, VERSION, read_invocation, read_words};
+pub use apply_cli_args::{Halt, Invocation, Settings, Usage, VERSION, read_invocation, read_words};
 pub use awaited::Awaited;
 pub use in_lanes::{run_in_form_and_lanes, run_in_lanes};
 pub use input::{drop_rest, read_all};

@@ -3,8 +3,8 @@
 ghost use Rattle.std.specs.Prelude.{◌≡◌};
 ghost use Rattle.apply_cli.specs.Options.{options_of};
 
+use apply_cli_args::Settings;
 use apply_run::Options;
-use apply_settings::Settings;
 
 /// How the run applies the plan.
 pub fn run_options(settings: &Settings) -> Options

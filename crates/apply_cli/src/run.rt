@@ -15,13 +15,13 @@ use crate::input::{drop_rest, read_input};
 use crate::input_fault::InputFault;
 use crate::options::run_options;
 use crate::status::{FAILED, REFUSED, input_status, refusal_status, told_status};
-use apply_form::Form;
+use apply_cli_args::Settings;
 use apply_hooks::Registry;
 use apply_run::{
     NoGate, Refusal, Sink, StdSink, Why, apply_bytes_in_form,
     one_worker_applies_all_changes_in_order,
 };
-use apply_settings::Settings;
+use apply_text_terraform::Form;
 use std::alloc::Global;
 use std::fmt::Display;
 use std::io::{Cursor, Read, Write};

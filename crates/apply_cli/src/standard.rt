@@ -6,7 +6,7 @@ use crate::answer::answer_usage;
 use crate::awaited::Awaited;
 use crate::input::drop_rest;
 use crate::program::follow;
-use apply_settings::Usage;
+use apply_cli_args::Usage;
 use std::io::{BufWriter, IsTerminal};
 use std::sync::Wait;
 use std::thread::Threads;

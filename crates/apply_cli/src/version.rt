@@ -8,8 +8,8 @@ ghost use Rattle.apply_cli.specs.Version.{AskForVersion, IsWrittenInPart, IsWrit
 
 use crate::run::report_unless_gone;
 use crate::status::FAILED;
+use apply_cli_args::VERSION;
 use apply_run::{SinkFault, StdSink, Why, write_all};
-use apply_settings::VERSION;
 use std::io::Write;
 
 /// Whether the words behind the program's name ask for its version alone: they are the one word `--version` or `-V`, and no

@@ -18,11 +18,11 @@ use apply_cli::{
     follow_invocation, read_all, read_invocation, read_words, refusal_status, report, run_command,
     run_input,
 };
-use apply_form::Form;
 use apply_hooks::Registry;
 use apply_plan::{PlanError, ScriptError, StepKind, Text};
 use apply_run::{MAX_LANES, Options, Refusal, StdSink};
 use apply_text::{Operation, Start};
+use apply_text_terraform::Form;
 use std::alloc::Global;
 use std::fmt::Debug;
 use std::io;

@@ -1,3 +1,4 @@
+pub mod Collecting
 pub mod Runs
 pub mod Sizes
 pub mod Workers

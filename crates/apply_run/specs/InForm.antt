@@ -3,8 +3,8 @@ use Rattle.std.specs.Prelude.{◌≡◌, ◌⊎◌, ℕ, List, [], Bool, true, f
 use Rattle.apply_plan.specs.Script.Waits.{has_waits}
 use Rattle.apply_events.specs.Lanes.{AreLanes}
 use Rattle.apply_events.specs.Step.{Work}
-use Rattle.apply_form.specs.declared.form.Form.{Form}
-use Rattle.apply_form.specs.declared.form.Form.TheVariants.{Applystream, Terraform}
+use Rattle.apply_text_terraform.specs.declared.form.Form.{Form}
+use Rattle.apply_text_terraform.specs.declared.form.Form.TheVariants.{Applystream, Terraform}
 use Rattle.apply_text.specs.declared.operation.Operation.{Operation}
 use Rattle.apply_run.specs.declared.form_report.FormReport.{FormReport}
 use Rattle.apply_run.specs.declared.options.Options.{Options}

@@ -8,12 +8,12 @@ use Rattle.apply_plan.specs.Bytes.{max_bytes}
 use Rattle.apply_plan.specs.Plan.SavedPlan.{SavedPlan, plan_of}
 use Rattle.apply_plan.specs.Script.OutcomeMap.{OutcomeMap}
 use Rattle.apply_plan.specs.Script.Waits.{has_waits}
-use Rattle.apply_form_plan.specs.declared.told_of_plan.PlanNote.{PlanNote}
-use Rattle.apply_form_plan.specs.declared.told_of_plan.PlanNote.TheVariants.{Partial, Unfinished}
-use Rattle.apply_form_plan.specs.Extras.{ExtrasOfScript, extras_of_bytes}
-use Rattle.apply_form_plan.specs.Notes.{told_notes}
-use Rattle.apply_form_plan.specs.Outputs.{OutputsOfPlan, told_outputs}
-use Rattle.apply_form_plan.specs.Told.{DetailsOfPlan, details_of}
+use Rattle.apply_plan_terraform.specs.declared.told_of_plan.PlanNote.{PlanNote}
+use Rattle.apply_plan_terraform.specs.declared.told_of_plan.PlanNote.TheVariants.{Partial, Unfinished}
+use Rattle.apply_plan_terraform.specs.Extras.{ExtrasOfScript, extras_of_bytes}
+use Rattle.apply_plan_terraform.specs.Notes.{told_notes}
+use Rattle.apply_plan_terraform.specs.Outputs.{OutputsOfPlan, told_outputs}
+use Rattle.apply_plan_terraform.specs.Told.{DetailsOfPlan, details_of}
 use Rattle.apply_run.specs.declared.read_besides.ReadBesides.{ReadBesides}
 use Rattle.apply_run.specs.declared.refusal.Refusal.{Refusal}
 use Rattle.apply_run.specs.declared.refusal.Refusal.TheVariants.{Plan, Script, Waits, Size, Fault}

@@ -3,6 +3,7 @@
 
 mod applying;
 mod bytes;
+mod collector;
 mod form_report;
 mod in_form;
 mod lanes;

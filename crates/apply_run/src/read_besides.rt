@@ -5,22 +5,22 @@ ghost use Rattle.std.specs.Option.{option_copied};
 ghost use Rattle.apply_plan.specs.declared.script.script_error.ScriptError.TheVariants as script_error;
 ghost use Rattle.apply_plan.specs.Bytes.{max_bytes};
 ghost use Rattle.apply_plan.specs.Results.{Gives};
-ghost use Rattle.apply_form_plan.specs.Extras.{seen_extras};
-ghost use Rattle.apply_form_plan.specs.Notes as said;
-ghost use Rattle.apply_form_plan.specs.Outputs as told;
-ghost use Rattle.apply_form_plan.specs.Outputs.{seen_outputs};
-ghost use Rattle.apply_form_plan.specs.Told.{seen_details};
+ghost use Rattle.apply_plan_terraform.specs.Extras.{seen_extras};
+ghost use Rattle.apply_plan_terraform.specs.Notes as said;
+ghost use Rattle.apply_plan_terraform.specs.Outputs as told;
+ghost use Rattle.apply_plan_terraform.specs.Outputs.{seen_outputs};
+ghost use Rattle.apply_plan_terraform.specs.Told.{seen_details};
 ghost use Rattle.apply_run.specs.Bytes.{MayBeRead};
 ghost use Rattle.apply_run.specs.Read.{given_extras, is_unfinished, IsReadAsTold, WasNotRead, WasRead};
 
 use crate::read_bytes::{ReadBytes, read_bytes};
 use crate::refusal::Refusal;
-use apply_form_plan::{
+use apply_model::{ChangeDetails, Note, Output, Text};
+use apply_plan::{Plan, PlanError, Script, ScriptError};
+use apply_plan_terraform::{
     Details, Extras, PlanDetails, PlanNote, PlanOutputs, read_details, read_extras, told_notes,
     told_outputs,
 };
-use apply_model::{ChangeDetails, Note, Output, Text};
-use apply_plan::{Plan, PlanError, Script, ScriptError};
 use apply_writer::ToldBesides;
 use std::alloc::{AllocError, Global};
 

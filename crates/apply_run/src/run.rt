@@ -14,6 +14,7 @@ pub mod reconciling;
 pub mod run_name;
 pub mod threads;
 
+use crate::collector::{Collected, collect};
 use crate::run::prepared::Endpoints;
 use crate::run::reconciling::reconcile;
 use crate::run::run_name::RunName;
@@ -22,7 +23,6 @@ use crate::worker::StoppedWorker;
 use crate::worker::gate::Gate;
 use crate::worker::job::Job;
 use apply_bus::Taken;
-use apply_collector::{Collected, collect};
 use apply_writer::{FormLines, Sink, StreamWriter};
 use std::alloc::Global;
 use std::sync::Wait;

@@ -54,7 +54,7 @@ fn check_stream(rt: &HostRuntime, words: &[String]) -> u8 {
     let words = words.get(2..).unwrap_or(&[]);
     let is_terminal = rt.stdin().is_terminal();
     let text = is_terminal.then_some(NO_STREAM);
-    let followed = apply_check::follow(
+    let followed = stream_check::follow(
         rt,
         rt.alloc(),
         words,
@@ -74,7 +74,7 @@ fn play_stream(rt: &HostRuntime, words: &[String]) -> u8 {
     };
     let is_terminal = rt.stdin().is_terminal();
     let text = is_terminal.then_some(NO_STREAM_TO_PLAY);
-    let followed = apply_play::follow(
+    let followed = stream_play::follow(
         rt,
         rt,
         rt.alloc(),
@@ -97,7 +97,7 @@ fn view_stream(rt: &HostRuntime, words: &[String]) -> u8 {
     };
     let is_terminal = rt.stdin().is_terminal();
     let text = is_terminal.then_some(NO_STREAM_TO_VIEW);
-    let followed = apply_picture::follow(
+    let followed = stream_view::follow(
         rt,
         rt.alloc(),
         words,
@@ -116,7 +116,7 @@ fn view_stream(rt: &HostRuntime, words: &[String]) -> u8 {
 fn validate(rt: &HostRuntime, words: &[String]) -> u8 {
     let words = words.get(2..).unwrap_or(&[]);
     let text = rt.stdin().is_terminal().then_some(NO_PLAN);
-    let followed = apply_validate_command::follow(
+    let followed = input_validate_cli::follow(
         rt,
         rt.alloc(),
         words,

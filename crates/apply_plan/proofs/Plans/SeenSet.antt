@@ -3,12 +3,12 @@ use Rattle.std.proofs.Common.{◌≡◌, Bool, true, false, List, [], ◌∷◌,
 use Rattle.std.specs.Prelude.{◌||◌}
 use Rattle.std.specs.List.{list_any}
 use Rattle.std.specs.Option.{option_copied}
-use Rattle.apply_objects.specs.declared.object_id.ObjectId.{ObjectId}
-use Rattle.apply_objects.specs.declared.seen_objects.SeenObjects.{SeenObjects}
+use Rattle.apply_resolve.specs.declared.object_id.ObjectId.{ObjectId}
+use Rattle.apply_resolve.specs.declared.seen_objects.SeenObjects.{SeenObjects}
 use Rattle.apply_model.specs.Plan.ResourceChange.{ResourceChange}
-use Rattle.apply_objects.specs.ObjectName.{is_same_object}
-use Rattle.apply_objects.specs.ObjectIds.{is_of, is_same_id}
-use Rattle.apply_objects.specs.SeenObjects.{has_seen}
+use Rattle.apply_resolve.specs.ObjectName.{is_same_object}
+use Rattle.apply_resolve.specs.ObjectIds.{is_of, is_same_id}
+use Rattle.apply_resolve.specs.SeenObjects.{has_seen}
 use Rattle.apply_plan.specs.Plan.SeenSet.{HaveBeenSeen}
 
 or_swap : (a b c : Bool) → (a || (b || c)) ≡ (b || (a || c))

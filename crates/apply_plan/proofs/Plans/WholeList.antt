@@ -15,7 +15,7 @@ use Rattle.apply_model.specs.Plan.Address.{relative_address}
 use Rattle.apply_plan.specs.Plan.Element.{Element, element_of}
 use Rattle.apply_plan.specs.Plan.NextChange.{change_after}
 use Rattle.apply_model.specs.Plan.ResourceChange.{ResourceChange}
-use Rattle.apply_objects.specs.ObjectName.{is_same_object}
+use Rattle.apply_resolve.specs.ObjectName.{is_same_object}
 use Rattle.apply_plan.specs.Plan.SavedPlan.{change_at, change_of, changes_of, names_object_of, planned_at}
 use Rattle.apply_plan.specs.Plan.Steps.{steps_of_actions}
 use Rattle.apply_plan.specs.Results.{or_refuse}

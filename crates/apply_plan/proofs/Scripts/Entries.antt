@@ -19,7 +19,7 @@ use Rattle.apply_model.specs.Script.Outcome.{IsBounded}
 use Rattle.apply_model.specs.Script.OutcomeMap.{IsInRange, OutcomeMap, said_at}
 use Rattle.apply_model.specs.Script.Step.{after_of, answer_to}
 use Rattle.apply_model.specs.Script.Waits.{named_for, waits_told}
-use Rattle.apply_beginning.specs.Placed.{AreAllPlaced, ArePlaced, IsPlaced}
+use Rattle.apply_resolve.specs.Placed.{AreAllPlaced, ArePlaced, IsPlaced}
 use Rattle.apply_plan.specs.Script.EntriesView.{IsWithin, Says}
 use Rattle.apply_plan.specs.Script.OutcomeMap.{Said, by_number, change_of_entry, is_about, said_of}
 

@@ -9,7 +9,7 @@ use Rattle.apply_json.specs.Keeping.{keeping_tree_of}
 use Rattle.apply_json.specs.Tree.{list_of}
 use Rattle.apply_model.specs.Plan.SavedPlan.{SavedPlan}
 use Rattle.apply_model.specs.Script.OutcomeMap.{OutcomeMap}
-use Rattle.apply_beginning.specs.Stuck.{is_stuck_at, numbers_from}
+use Rattle.apply_resolve.specs.Stuck.{is_stuck_at, numbers_from}
 use Rattle.apply_plan.specs.declared.script.script_error.ScriptError.{ScriptError}
 use Rattle.apply_plan.specs.declared.script.script_error.ScriptError.TheVariants.{TooLarge, NotJson, BadShape, NeverBegins}
 use Rattle.apply_plan.specs.Bytes.{max_bytes}

@@ -18,12 +18,12 @@ use Rattle.apply_plan.specs.declared.script.script_error.ScriptError.{ScriptErro
 use Rattle.apply_plan.specs.declared.script.script_error.ScriptError.TheVariants.{BadShape, Memory, NeverBegins}
 use Rattle.apply_plan.specs.ListReading.{items_of, made_after}
 use Rattle.apply_plan.specs.Results.{◌>>=◌, or_refuse, unless_refused}
-use Rattle.apply_beginning.specs.Stuck.{is_stuck_at, numbers_from}
+use Rattle.apply_resolve.specs.Stuck.{is_stuck_at, numbers_from}
 use Rattle.apply_plan.specs.Script.EntriesView.{AreNumbersOf, HoldsEntries, KeepsOneMore, entries_in, kind_of}
 use Rattle.apply_plan.specs.Script.NeverBeginning.{elements_of_tree, never_beginning_in}
 use Rattle.apply_plan.specs.Script.NextEntry.{entry_after, entry_beside}
 use Rattle.apply_plan.specs.Script.OutcomeMap.{Said, by_number, script_of_entries}
-use Rattle.apply_beginning.specs.Placed.{ArePlaced}
+use Rattle.apply_resolve.specs.Placed.{ArePlaced}
 use Rattle.apply_plan.proofs.ListReading.{list_of-items_of, made_more, one_more}
 use Rattle.apply_plan.proofs.Scripts.Entries.{length-by_number}
 use Rattle.apply_plan.proofs.Scripts.NeverBeginning.{made_numbers, refused_numbers}

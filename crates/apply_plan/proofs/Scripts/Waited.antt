@@ -19,7 +19,7 @@ use Rattle.apply_plan.specs.declared.script.waited.Waited.{Waited}
 use Rattle.apply_plan.specs.Results.{unless_refused}
 use Rattle.apply_plan.specs.Script.Entry.{Entry, EntryStep, WaitName}
 use Rattle.apply_plan.specs.Script.NextEntry.{steps_or_fault}
-use Rattle.apply_beginning.specs.Placed.{IsPlaced}
+use Rattle.apply_resolve.specs.Placed.{IsPlaced}
 use Rattle.apply_plan.specs.Script.Refusals.{is_any_wait, is_unknown, lacks_step}
 use Rattle.apply_plan.specs.Script.TreeView.{entry_step_view, step_view, wait_view, waits_view}
 use Rattle.apply_plan.specs.Script.WaitedStep.{change_waited, number_waited, step_of_change, step_said, step_waited, with_waits}

@@ -21,8 +21,8 @@ use Rattle.apply_plan.specs.Script.EntriesView.{HasKept, HasSaid, IsWithin, kept
 use Rattle.apply_plan.specs.Script.Entry.{Entry, entry_of}
 use Rattle.apply_plan.specs.Script.NextEntry.{count_waits, entry_after, entry_beside}
 use Rattle.apply_model.specs.Script.OutcomeMap.{IsInRange, OutcomeMap, said_at}
-use Rattle.apply_beginning.specs.Placed.{AreAllPlaced, ArePlaced}
-use Rattle.apply_beginning.specs.Stuck.{is_stuck_at}
+use Rattle.apply_resolve.specs.Placed.{AreAllPlaced, ArePlaced}
+use Rattle.apply_resolve.specs.Stuck.{is_stuck_at}
 use Rattle.apply_plan.specs.Script.OutcomeMap.{Said, by_number, change_of_entry, count_in, entry_at, is_about, is_stuck, names_change, said_by, said_of, script_of_entries}
 use Rattle.apply_plan.specs.Script.Refusals.{count_of_waits, fault_of_entry}
 use Rattle.apply_plan.proofs.Results.{bind_ok, bind_same, guard_ok, or_refuse_ok, unless_refused_ok}

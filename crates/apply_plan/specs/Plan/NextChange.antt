@@ -5,7 +5,7 @@ use Rattle.serde_json.specs.Data.{Data}
 use Rattle.apply_plan.specs.declared.plan.plan_error.PlanError.{PlanError}
 use Rattle.apply_plan.specs.declared.plan.plan_error.PlanError.TheVariants.{Duplicate}
 use Rattle.apply_model.specs.Plan.ResourceChange.{ResourceChange}
-use Rattle.apply_objects.specs.ObjectName.{is_same_object}
+use Rattle.apply_resolve.specs.ObjectName.{is_same_object}
 use Rattle.apply_plan.specs.Plan.SavedPlan.{planned_at}
 use Rattle.apply_plan.specs.Results.{◌>>=◌}
 

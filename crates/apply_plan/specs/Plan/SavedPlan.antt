@@ -10,7 +10,7 @@ use Rattle.apply_model.specs.declared.plan.step_kind.StepKind.{StepKind}
 use Rattle.apply_model.specs.Plan.Address.{relative_address}
 use Rattle.apply_plan.specs.Plan.Element.{Element, element_of}
 use Rattle.apply_plan.specs.Plan.Header.{header_of}
-use Rattle.apply_objects.specs.ObjectName.{name_one_object}
+use Rattle.apply_resolve.specs.ObjectName.{name_one_object}
 use Rattle.apply_model.specs.Plan.ResourceChange.{ResourceChange}
 pub use Rattle.apply_model.specs.Plan.SavedPlan.{SavedPlan, max_changes}
 use Rattle.apply_plan.specs.Plan.Steps.{steps_of_actions}

@@ -14,18 +14,18 @@ use Rattle.apply_model.specs.Script.Limits.{max_waits}
 use Rattle.apply_model.specs.Script.Outcome.{IsBounded}
 use Rattle.apply_model.specs.Script.OutcomeMap.{OutcomeMap}
 use Rattle.apply_model.specs.Script.Step.{answer_to}
-use Rattle.apply_objects.specs.declared.object_id.ObjectId.{ObjectId}
-use Rattle.apply_objects.specs.declared.change_numbers.ChangeNumbers.{ChangeNumbers}
+use Rattle.apply_resolve.specs.declared.object_id.ObjectId.{ObjectId}
+use Rattle.apply_resolve.specs.declared.change_numbers.ChangeNumbers.{ChangeNumbers}
 use Rattle.apply_plan.specs.declared.script.entries.Entries.{Entries}
 use Rattle.apply_plan.specs.declared.script.script_error.ScriptError.TheVariants.{Memory}
 use Rattle.apply_plan.specs.declared.script.script_slots.ScriptSlots.{ScriptSlots}
 use Rattle.apply_plan.specs.ListReading.{items_of, made_after}
-use Rattle.apply_objects.specs.ObjectIds.{is_of}
+use Rattle.apply_resolve.specs.ObjectIds.{is_of}
 use Rattle.apply_plan.specs.Results.{unless_refused}
-use Rattle.apply_objects.specs.ChangeNumbers.{number_of}
+use Rattle.apply_resolve.specs.ChangeNumbers.{number_of}
 use Rattle.apply_plan.specs.Script.NextEntry.{count_waits, entry_after}
 use Rattle.apply_plan.specs.Script.OutcomeMap.{Said, by_number, said_of}
-use Rattle.apply_beginning.specs.Placed.{ArePlaced}
+use Rattle.apply_resolve.specs.Placed.{ArePlaced}
 
 -- what is said of each change has a property
 abbrev pub Says : (List ScriptStep → Type 0) → List Said → Type 0

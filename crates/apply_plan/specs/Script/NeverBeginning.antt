@@ -4,7 +4,7 @@ use Rattle.serde_json.specs.Data.{Data}
 use Rattle.apply_json.specs.Keeping.{keeping_tree_of}
 use Rattle.apply_json.specs.Tree.{list_of}
 use Rattle.apply_model.specs.Plan.SavedPlan.{SavedPlan}
-use Rattle.apply_beginning.specs.Stuck.{numbers_from}
+use Rattle.apply_resolve.specs.Stuck.{numbers_from}
 use Rattle.apply_plan.specs.declared.script.script_error.ScriptError.{ScriptError}
 use Rattle.apply_plan.specs.declared.script.script_error.ScriptError.TheVariants.{TooLarge, NotJson, BadShape, NeverBegins}
 use Rattle.apply_plan.specs.Bytes.{max_bytes}

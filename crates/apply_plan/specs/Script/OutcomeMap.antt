@@ -11,7 +11,7 @@ use Rattle.apply_json.specs.Tree as json
 use Rattle.apply_json.specs.Tree.{list_of, member_of}
 use Rattle.apply_json.specs.Keeping.{keeping_tree_of}
 use Rattle.apply_plan.specs.Bytes.{max_bytes}
-use Rattle.apply_objects.specs.ObjectName.{name_one_object}
+use Rattle.apply_resolve.specs.ObjectName.{name_one_object}
 use Rattle.apply_model.specs.Plan.ResourceChange.{ResourceChange}
 use Rattle.apply_model.specs.Plan.SavedPlan.{SavedPlan}
 use Rattle.apply_plan.specs.Results.{◌>>=◌, all_or_first, each_with_earlier, or_refuse, unless_refused}

@@ -6,8 +6,8 @@ use Rattle.apply_model.specs.declared.script.script_step.ScriptStep.{ScriptStep}
 use Rattle.apply_model.specs.declared.script.script_step.ScriptStep.TheVariants.{Answered, Skipped}
 use Rattle.apply_model.specs.declared.script.wait.Wait.{Wait}
 use Rattle.apply_model.specs.Plan.ResourceChange.{ResourceChange}
-use Rattle.apply_beginning.specs.NamedStep as of_step
-use Rattle.apply_objects.specs.ObjectName.{name_one_object}
+use Rattle.apply_resolve.specs.NamedStep as of_step
+use Rattle.apply_resolve.specs.ObjectName.{name_one_object}
 use Rattle.apply_plan.specs.Script.Entry.{EntryStep, WaitName}
 
 -- the change that has the name, with its number

@@ -16,7 +16,7 @@ use crate::plan::plan_error::PlanError;
 use crate::plan::planned::Planned;
 use apply_json::{Collector, ReadFault, Reader, pass_member};
 use apply_model::{Change, MAX_CHANGES};
-use apply_objects::{ObjectId, SeenObjects};
+use apply_resolve::{ObjectId, SeenObjects};
 use std::alloc::Global;
 
 /// The changes of the elements that were read, up to the first that has a fault.

@@ -13,10 +13,9 @@ use crate::both_made::both_made;
 use crate::script::said::said_by_entry;
 use crate::script::script_error::ScriptError;
 use crate::script::tree_entry::TreeEntry;
-use apply_beginning::{all_stuck, first_stuck};
 use apply_json::{Collector, ReadFault, Reader, pass_member};
 use apply_model::{Plan, Script, StepOutcomes};
-use apply_objects::ChangeNumbers;
+use apply_resolve::{ChangeNumbers, all_stuck, first_stuck};
 use std::alloc::{AllocError, Global};
 
 /// What the entries say that were read, up to the first that has a fault.

@@ -7,11 +7,11 @@ ghost use Rattle.apply_model.specs.Script.Limits.{max_waits};
 ghost use Rattle.apply_model.specs.Script.Outcome.{IsBounded};
 ghost use Rattle.apply_model.specs.Script.Step.{after_of};
 ghost use Rattle.apply_plan.specs.Results.{Gives};
-ghost use Rattle.apply_objects.specs.ObjectIds.{is_of};
-ghost use Rattle.apply_objects.specs.ChangeNumbers.{number_of};
+ghost use Rattle.apply_resolve.specs.ObjectIds.{is_of};
+ghost use Rattle.apply_resolve.specs.ChangeNumbers.{number_of};
 ghost use Rattle.apply_plan.specs.Script.Entry.{entry_of};
 ghost use Rattle.apply_plan.specs.Script.NextEntry.{entry_beside, steps_or_fault, said_view};
-ghost use Rattle.apply_beginning.specs.Placed.{ArePlaced, IsPlaced};
+ghost use Rattle.apply_resolve.specs.Placed.{ArePlaced, IsPlaced};
 ghost use Rattle.apply_plan.specs.Script.TreeView.{entry_step_view, entry_view, step_view, tree_waits};
 
 use crate::script::script_error::ScriptError;
@@ -19,7 +19,7 @@ use crate::script::tree_entry::TreeEntry;
 use crate::script::tree_step::TreeStep;
 use crate::script::waited::Waited;
 use apply_model::{Change, MAX_WAITS, Plan, StepOutcomes};
-use apply_objects::{ChangeNumbers, ObjectId};
+use apply_resolve::{ChangeNumbers, ObjectId};
 use std::alloc::Global;
 
 /// What an entry says behind entries with so many items of `after`: the number of its change, its steps, and how many

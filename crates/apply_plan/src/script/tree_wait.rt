@@ -9,8 +9,8 @@ ghost use Rattle.apply_plan.specs.Script.WaitedStep.{number_waited};
 use crate::script::list_item::ListItem;
 use crate::script::number_or_none::number_or_none;
 use crate::script::wait_slots::WaitSlots;
-use apply_beginning::step_waited;
 use apply_json::{ReadFault, Reader, Scalar, non_empty, read_object};
+use apply_resolve::step_waited;
 use std::alloc::Global;
 
 /// An item of `after`, each of whose members obeys its rule.

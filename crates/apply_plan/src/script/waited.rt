@@ -3,14 +3,14 @@
 ghost use Rattle.std.specs.Prelude.{◌≡◌, ◌≤◌, All, IfOk, IfSome, find, length, option_map};
 ghost use Rattle.std.specs.List.{enumerate_from};
 ghost use Rattle.apply_model.specs.Script.Limits.{max_waits};
-ghost use Rattle.apply_objects.specs.ObjectIds.{is_of};
-ghost use Rattle.apply_objects.specs.ChangeNumbers.{number_of};
-ghost use Rattle.apply_beginning.specs.Placed.{IsPlaced};
+ghost use Rattle.apply_resolve.specs.ObjectIds.{is_of};
+ghost use Rattle.apply_resolve.specs.ChangeNumbers.{number_of};
+ghost use Rattle.apply_resolve.specs.Placed.{IsPlaced};
 ghost use Rattle.apply_plan.specs.Script.TreeView.{waits_view};
 
 use crate::script::tree_wait::TreeWait;
 use apply_model::{Plan, Wait, Waits};
-use apply_objects::{ChangeNumbers, ObjectId};
+use apply_resolve::{ChangeNumbers, ObjectId};
 use std::alloc::{AllocError, Global};
 
 /// What the items of one `after` name, all of which are of changes of the plan.

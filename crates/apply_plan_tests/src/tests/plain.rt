@@ -6,9 +6,9 @@
 use super::table::{compare, push, put};
 use super::*;
 use apply_json::JsonFault;
+use apply_json_tree::members::{array_or_empty, member, text_member, text_member_or};
+use apply_json_tree::parse;
 use apply_plan::{Change, MAX_BYTES, MAX_CHANGES, PlanError};
-use apply_trees::members::{array_or_empty, member, text_member, text_member_or};
-use apply_trees::parse;
 use serde_json::Value;
 
 /// What the reader answers to a text.

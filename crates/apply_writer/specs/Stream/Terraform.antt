@@ -14,7 +14,7 @@ use Rattle.apply_model.specs.declared.details.note.Note.{Note}
 use Rattle.apply_model.specs.declared.details.output.Output.{Output}
 use Rattle.apply_model.specs.declared.details.severity.Severity.{Severity}
 use Rattle.apply_model.specs.declared.details.severity.Severity.TheVariants.{Error, Warning}
-use Rattle.apply_form.specs.Lines.{event_text, note_text, outputs_text, planned_text, summary_text, version_text}
+use Rattle.apply_text_terraform.specs.Lines.{event_text, note_text, outputs_text, planned_text, summary_text, version_text}
 use Rattle.apply_writer.specs.Stream.Form.{StreamForm}
 
 -- what is told besides: of each change by its number, the diagnostics of no step and the outputs, both in their order

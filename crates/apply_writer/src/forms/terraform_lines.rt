@@ -4,16 +4,16 @@ ghost use Rattle.std.specs.Prelude.{◌≡◌, ◌<◌, ◌≤◌, ◌+◌, ◌+
 ghost use Rattle.std.specs.List.{concat};
 ghost use Rattle.std.specs.Option.{option_copied, option_map_or};
 ghost use Rattle.apply_events.specs.Fits.{IsOfPlan, last_moment};
-ghost use Rattle.apply_form.specs.Lines.{note_text, summary_text};
+ghost use Rattle.apply_text_terraform.specs.Lines.{note_text, summary_text};
 ghost use Rattle.apply_writer.specs.Stream.Terraform.{imported_in, outputs_of_apply, planned_at};
 ghost use Rattle.apply_writer.specs.Forms.{IsSame};
 
 use crate::forms::form_lines::FormLines;
 use crate::forms::told_besides::ToldBesides;
 use apply_events::{Counts, Event};
-use apply_form::FormBuffer;
 use apply_model::{Note, Plan, Script};
 use apply_text::{Operation, Start};
+use apply_text_terraform::FormBuffer;
 use std::alloc::{AllocError, Global};
 
 /// The lines of a stream in Terraform's own form.

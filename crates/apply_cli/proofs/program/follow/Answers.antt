@@ -2,7 +2,7 @@ use Rattle.std.proofs.Common.{List, inl, inr, map, string_bytes, ⊎_elim}
 use Rattle.clap.specs.Walk.{Text}
 use Rattle.clap.specs.declared.error.kind.ErrorKind.TheVariants.{DisplayHelp, DisplayVersion}
 use Rattle.apply_run.specs.Run.{Sight}
-use Rattle.apply_settings.specs.Invocation.{IsOfWords}
+use Rattle.apply_cli_args.specs.Invocation.{IsOfWords}
 use Rattle.apply_cli.specs.Command.{sight_of}
 use Rattle.apply_cli.specs.Invocation.{unfailed}
 use Rattle.apply_cli.proofs.Followed.{followed, followed_in_part}

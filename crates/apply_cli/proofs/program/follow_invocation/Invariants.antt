@@ -1,6 +1,6 @@
 use Rattle.std.proofs.Common.{◌≡◌, take}
 use Rattle.apply_hooks.specs.Registry.{rules_of}
-use Rattle.apply_settings.specs.Halt.{hooks_of_halts}
+use Rattle.apply_cli_args.specs.Halt.{hooks_of_halts}
 use Rattle.apply_cli.proofs.program.follow_invocation.Given as goal
 
 -- the hooks are those of the halts so far, and nothing was said of faults

@@ -3,7 +3,7 @@ use Rattle.apply_run.specs.Run.{Sight}
 use Rattle.apply_cli.specs.Command.{sight_of}
 use Rattle.apply_cli.specs.Version.{IsWritten, IsWrittenInPart}
 use Rattle.apply_cli.proofs.Versions.{cut_before, cut_behind, flushed, not_flushed, on_err, written_behind}
-use Rattle.apply_settings.specs.declared.version.TheConstants.{VERSION}
+use Rattle.apply_cli_args.specs.declared.version.TheConstants.{VERSION}
 use Rattle.apply_cli.proofs.version.write_version.Goals as goal
 
 -- the three parts of the line

@@ -1,5 +1,5 @@
 use Rattle.std.proofs.Common.{refl, subst}
-use Rattle.apply_objects.specs.declared.object_id.ObjectId.{ObjectId}
+use Rattle.apply_resolve.specs.declared.object_id.ObjectId.{ObjectId}
 use Rattle.apply_plan.specs.declared.plan.planned.Planned.{Planned}
 use Rattle.apply_plan.specs.Plan.PlannedView.{planned_view}
 use Rattle.apply_plan.specs.Plan.SavedPlan.{planned_at}

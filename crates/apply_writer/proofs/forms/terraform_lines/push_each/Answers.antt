@@ -1,5 +1,5 @@
 use Rattle.std.proofs.Common.{sym, append-nil}
-use Rattle.apply_form.specs.Lines.{note_text}
+use Rattle.apply_text_terraform.specs.Lines.{note_text}
 use Rattle.apply_writer.proofs.Streams.Notes.{all_told, one_more}
 use Rattle.apply_writer.proofs.forms.terraform_lines.push_each.Goals as goal
 

@@ -1,6 +1,6 @@
 use Rattle.std.proofs.Common.{◌≡◌, ◌++◌, take}
 use Rattle.std.specs.Prelude.{flat_map}
-use Rattle.apply_form.specs.Lines.{note_text}
+use Rattle.apply_text_terraform.specs.Lines.{note_text}
 use Rattle.apply_writer.proofs.forms.terraform_lines.push_each.Given as goal
 
 abbrev pub invariant-loop-note : goal.invariant-loop-note

@@ -3,7 +3,7 @@ use Rattle.apply_model.specs.declared.details.output.Output.{Output}
 use Rattle.apply_events.specs.declared.counts.Counts.{Counts}
 use Rattle.apply_text.specs.declared.operation.Operation.{Operation}
 use Rattle.apply_text.specs.declared.operation.Operation.TheVariants.{Destroy}
-use Rattle.apply_form.specs.Lines.{summary_text}
+use Rattle.apply_text_terraform.specs.Lines.{summary_text}
 use Rattle.apply_writer.specs.Stream.Terraform.{outputs_of_apply}
 use Rattle.apply_writer.proofs.forms.terraform_lines.TerraformLines.push_sums.Goals as goal
 

@@ -2,7 +2,7 @@ use Rattle.std.proofs.Common.{◌-◌, ◌++◌, ◌∙◌, [], ap, sym}
 use Rattle.std.specs.Prelude.{slice_get, slice_index_or}
 use Rattle.std.specs.Option.{option_map_or}
 use Rattle.std.proofs.lemmas.Result.{on_ok_weaker}
-use Rattle.apply_form.specs.Lines.{version_text}
+use Rattle.apply_text_terraform.specs.Lines.{version_text}
 use Rattle.apply_writer.specs.Stream.Terraform.{head_pieces, planned_at}
 use Rattle.apply_writer.proofs.Streams.Pieces.{change_of_piece, piece_of_change}
 use Rattle.apply_writer.proofs.forms.terraform_lines.TerraformLinesFormLines.build_head.Goals as goal

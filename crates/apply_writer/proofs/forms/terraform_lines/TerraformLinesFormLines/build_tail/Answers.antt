@@ -1,7 +1,7 @@
 use Rattle.std.proofs.Common.{◌≡◌, List, ℕ, [], ◌++◌, OnOk, append-nil, sym, ap, ◌∙◌}
 use Rattle.std.specs.Prelude.{Bool, true, false, Result, if◌then◌else◌, flat_map}
 use Rattle.std.proofs.lemmas.Result.{on_ok_weaker}
-use Rattle.apply_form.specs.Lines.{note_text, summary_text}
+use Rattle.apply_text_terraform.specs.Lines.{note_text, summary_text}
 use Rattle.apply_writer.specs.declared.forms.told_besides.ToldBesides.{ToldBesides}
 use Rattle.apply_writer.specs.Stream.Terraform.{imported_in, outputs_of_apply, tells_error}
 use Rattle.apply_writer.proofs.forms.terraform_lines.TerraformLinesFormLines.build_tail.Goals as goal

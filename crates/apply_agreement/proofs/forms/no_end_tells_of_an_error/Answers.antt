@@ -1,5 +1,0 @@
-use Rattle.apply_agreement.proofs.ErrorLevels.{outputs_are_fine, summary_is_fine}
-use Rattle.apply_agreement.proofs.forms.no_end_tells_of_an_error.Goals as goal
-
-pub returns : goal.returns
-returns c = record { summary = summary_is_fine; outputs = outputs_are_fine }

@@ -1,5 +1,0 @@
-use Rattle.apply_agreement.proofs.EscapedTrees.{same_tree}
-use Rattle.apply_agreement.proofs.in_form.an_escaped_text_is_read_as_the_text.Goals as goal
-
-pub returns : goal.returns
-returns c j numbers utf8 = same_tree j numbers utf8

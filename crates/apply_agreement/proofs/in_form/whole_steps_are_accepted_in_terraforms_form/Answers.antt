@@ -1,6 +1,0 @@
-use Rattle.apply_agreement.proofs.FormVerdict.{accepted_in_form}
-use Rattle.apply_agreement.proofs.in_form.whole_steps_are_accepted_in_terraforms_form.Goals as goal
-
-pub returns : goal.returns
-returns c plans work besides operation events ordinary whole as_many provisioned reads steps =
-    accepted_in_form work besides events ordinary whole as_many provisioned reads steps plans operation

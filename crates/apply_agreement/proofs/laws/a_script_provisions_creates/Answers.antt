@@ -1,5 +1,0 @@
-use Rattle.apply_agreement.proofs.Scripts.{read_has}
-use Rattle.apply_agreement.proofs.laws.a_script_provisions_creates.Goals as goal
-
-pub returns-clause-read : goal.returns-clause-read
-returns-clause-read c plan bytes script e = read_has plan bytes script e

@@ -1,5 +1,0 @@
-use Rattle.apply_agreement.proofs.SmallNumbers.{fit_bits}
-use Rattle.apply_agreement.proofs.laws.events_that_can_happen_fit_bits.Goals as goal
-
-pub returns : goal.returns
-returns c plan script events bounded fit few = fit_bits plan script events bounded fit few

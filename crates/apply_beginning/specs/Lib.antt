@@ -1,4 +1,0 @@
-pub mod Marks
-pub mod NamedStep
-pub mod Placed
-pub mod Stuck

@@ -1,7 +1,0 @@
-use Rattle.std.proofs.Common.{refl}
-use Rattle.apply_check.specs.Tally.{failures_left}
-use Rattle.apply_check.proofs.rules.tally.Tally.new.Goals as goal
-
-pub returns-clause-value : goal.returns-clause-value
-unfolding failures_left
-returns-clause-value c = refl

@@ -1,5 +1,0 @@
-use Rattle.apply_check.proofs.Accepted.{is_whole}
-use Rattle.apply_check.proofs.verdict.laws.each_step_ends_once.Goals as goal
-
-pub returns : goal.returns
-returns c = λ mode texts whole accepted. is_whole mode texts whole accepted

@@ -1,6 +1,0 @@
-//! How much is read.
-
-pub use apply_lines::MAX_BYTES;
-
-/// The greatest number of lines.
-pub const MAX_LINES: u64 = 4_294_967_296;

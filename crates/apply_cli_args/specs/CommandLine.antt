@@ -1,0 +1,253 @@
+-- What the words of the command line say: the options that there are, as `clap` takes them, and which of them
+-- gives which setting.
+use Rattle.std.specs.Prelude.{◌≡◌, ◌≤◌, ◌<◌, ◌++◌, ◌⊎◌, ◌&&◌, ◌||◌, ⊤, ℕ, Bool, List, [], ◌∷◌, Option, Some, None, IfSome, IsOk, Ok, Err, true, false, codes, find, length, map, option_and_then, pos, unwrap_or, if◌then◌else◌}
+use Rattle.std.specs.Borrow.{Bor}
+use Rattle.std.specs.Option.{option_map_or}
+use Rattle.std.specs.Str.{bytes_eq}
+use Rattle.std.specs.Str.Parse.{IsNumeral, digits_value, without_leading_plus}
+use Rattle.clap.specs.Faults.{fault_of}
+use Rattle.clap.specs.Kinds.{IsAmong}
+use Rattle.clap.specs.Simple.{App, matches_of, new_rule, new_shape}
+use Rattle.clap.specs.Walk.{Row, Rule, Text, all_of, first_of, one_of, texts}
+use Rattle.clap.specs.declared.builder.action.ArgAction.TheVariants.{Append, SetTrue}
+use Rattle.clap.specs.declared.builder.value_parser.ValueParser.{ValueParser}
+use Rattle.clap.specs.declared.builder.value_parser.ValueParser.TheVariants as values
+use Rattle.clap.specs.declared.error.kind.ErrorKind.{ErrorKind}
+use Rattle.clap.specs.declared.error.kind.ErrorKind.TheVariants.{DisplayHelp, DisplayVersion, OutOfMemory}
+use Rattle.clap.specs.declared.parser.matches.ValueSource.{ValueSource}
+use Rattle.clap.specs.declared.parser.matches.ValueSource.TheVariants as source
+use Rattle.apply_model.specs.declared.plan.step_kind.StepKind.{StepKind}
+use Rattle.apply_model.specs.declared.plan.step_kind.StepKind.TheVariants.{Create, Update, Delete, Read}
+use Rattle.apply_hooks.specs.Hooks.{max_hooks}
+use Rattle.apply_text_terraform.specs.declared.form.Form.{Form}
+use Rattle.apply_text_terraform.specs.declared.form.Form.TheVariants.{Applystream, Terraform}
+use Rattle.apply_text.specs.Start.{start_of}
+use Rattle.apply_text.specs.declared.operation.Operation.TheVariants.{Apply, Destroy}
+use Rattle.apply_cli_args.specs.declared.halt.Halt.{Halt}
+use Rattle.apply_cli_args.specs.declared.halt.Halt.TheVariants.{Before, Inside}
+use Rattle.apply_cli_args.specs.declared.settings.Settings.{Settings}
+use Rattle.apply_cli_args.specs.declared.usage.Usage.{Usage}
+use Rattle.apply_cli_args.specs.declared.usage.Usage.TheVariants as usage
+
+-- ---- the options
+
+-- `--NAME VALUE`
+abbrev pub option_named : Text → Rule
+option_named name = record (new_rule name) { long = Some name; value_names = 1 }
+
+-- `--NAME NUMBER`, with the number from 1 to `most`, and one that stands for none
+abbrev pub number_named : Text → (most : ℕ) → (otherwise : Text) → Rule
+number_named name most otherwise =
+    record (option_named name) { parser = Some (values.Signed (pos 1) (pos most)); defaults = otherwise ∷ [] }
+
+-- `--NAME VALUE`, as often as one likes
+abbrev pub list_named : Text → Rule
+list_named name = record (option_named name) { action = Some Append }
+
+-- `--NAME`
+abbrev pub flag_named : Text → Rule
+flag_named name = record (new_rule name) { long = Some name; action = Some SetTrue }
+
+-- the words for kinds of steps
+abbrev pub kind_words : List Text
+kind_words = codes "create" ∷ codes "update" ∷ codes "delete" ∷ codes "read" ∷ []
+
+-- the words for forms of a stream
+abbrev pub form_words : List Text
+form_words = codes "applystream" ∷ codes "terraform" ∷ []
+
+-- the value has to be one of the words
+abbrev pub IsOneOf : List Text → ValueParser → Type 0
+IsOneOf words parser = (names : Bor (List (Bor Text))) × (texts names.now ≡ words) × (parser ≡ values.Names names)
+
+-- the option of a parallelism; nothing stands for none
+abbrev pub parallelism_rule : Rule
+parallelism_rule =
+    record (option_named (codes "parallelism")) { parser = Some (values.Signed (pos 1) (pos 64)) }
+
+-- the option of a form; the first of the words stands for none
+abbrev pub form_rule : (forms : ValueParser) → Rule
+form_rule forms =
+    record (option_named (codes "form")) { parser = Some forms; defaults = codes "applystream" ∷ [] }
+
+-- the options that say the settings
+abbrev pub settings_options : (kinds : ValueParser) → List Rule
+settings_options kinds =
+    record (option_named (codes "at")) { defaults = codes "1970-01-01T00:00:00Z" ∷ [] }
+    ∷ option_named (codes "script")
+    ∷ number_named (codes "workers") 8 (codes "1")
+    ∷ number_named (codes "queue") 1024 (codes "64")
+    ∷ flag_named (codes "destroy")
+    ∷ record (list_named (codes "halt-before")) { parser = Some kinds }
+    ∷ list_named (codes "halt-in")
+    ∷ []
+
+-- the parsers of the options whose value is one of some words
+pub record Choices : Type 0 where
+  pub kinds : ValueParser
+  pub forms : ValueParser
+
+-- each takes its own words
+pub record AreChoices (choices : Choices) : Type 0 where
+  pub kinds : IsOneOf kind_words choices.kinds
+  pub forms : IsOneOf form_words choices.forms
+
+-- all of them
+abbrev pub options : Choices → List Rule
+options choices = settings_options choices.kinds ++ parallelism_rule ∷ form_rule choices.forms ∷ []
+
+-- the command, whose words are those behind the program's name
+abbrev pub command_line : Choices → App
+command_line choices = record {
+  top = record (new_shape (codes "applystream")) { no_binary_name = true; has_version = true; rules = options choices };
+  subs = [];
+}
+
+-- the same without the options of a parallelism and of a form
+abbrev pub settings_line : (kinds : ValueParser) → App
+settings_line kinds = record {
+  top = record (new_shape (codes "applystream")) { no_binary_name = true; has_version = true; rules = settings_options kinds };
+  subs = [];
+}
+
+-- ---- what they say
+
+-- where the text is a number from 1 to `most`, it is that number
+abbrev pub IsNumber : (most : ℕ) → (text : Text) → ℕ → Type 0
+IsNumber most text n = IsNumeral 10 (without_leading_plus text) → 1 ≤ digits_value 10 (without_leading_plus text)
+    → digits_value 10 (without_leading_plus text) ≤ most → n ≡ digits_value 10 (without_leading_plus text)
+
+-- and so where there may be none
+abbrev pub IsOptionalNumber : (most : ℕ) → (text : Text) → Option ℕ → Type 0
+IsOptionalNumber most text found =
+    IsNumeral 10 (without_leading_plus text) → 1 ≤ digits_value 10 (without_leading_plus text)
+    → digits_value 10 (without_leading_plus text) ≤ most → found ≡ Some (digits_value 10 (without_leading_plus text))
+
+abbrev pub kind_of_word : Text → StepKind
+kind_of_word word =
+    if bytes_eq word (codes "create") then Create
+    else if bytes_eq word (codes "update") then Update
+    else if bytes_eq word (codes "delete") then Delete
+    else Read
+
+-- the halts before kinds of steps, and then those inside prefixes, both in the order of the words
+abbrev pub halts_said : List Row → List Halt
+halts_said rows =
+    map (λ word. Before (kind_of_word word)) (unwrap_or (all_of (codes "halt-before") rows) [])
+    ++ map Inside (unwrap_or (all_of (codes "halt-in") rows) [])
+
+-- each setting is what its own option says
+pub record AreSaid (rows : List Row) (settings : Settings) : Type 0 where
+  pub at : option_map_or start_of (first_of (codes "at") rows) (Ok 0) ≡ Ok settings.at
+  pub script : settings.script ≡ first_of (codes "script") rows
+  pub workers : IfSome (one_of (codes "workers") rows) (λ text. IsNumber 8 text settings.workers)
+  pub queue : IfSome (one_of (codes "queue") rows) (λ text. IsNumber 1024 text settings.queue)
+  pub destroy : one_of (codes "destroy") rows ≡ Some (codes "true") → settings.operation ≡ Destroy
+  pub apply : one_of (codes "destroy") rows ≡ Some (codes "false") → settings.operation ≡ Apply
+  pub halts : settings.halts.items ≡ halts_said rows
+
+-- the words were taken by the command of the settings alone, and the settings are what they say
+pub record HaveSaid (words : List Text) (settings : Settings) : Type 0 where
+  pub kinds : ValueParser
+  pub are_kinds : IsOneOf kind_words kinds
+  pub taken : fault_of (settings_line kinds) words ≡ []
+  pub said : AreSaid (matches_of (settings_line kinds) words) settings
+
+-- there is a parallelism where the option is given, and then the number that it says
+pub record IsParallelism (rows : List Row) (parallelism : Option ℕ) : Type 0 where
+  pub none : one_of (codes "parallelism") rows ≡ None → parallelism ≡ None
+  pub some : IfSome (one_of (codes "parallelism") rows) (λ text. IsOptionalNumber 64 text parallelism)
+
+abbrev pub form_of_word : Text → Form
+form_of_word word = if bytes_eq word (codes "terraform") then Terraform else Applystream
+
+-- the form whose word the option has, and else the program's own
+abbrev pub form_said : List Row → Form
+form_said rows = option_map_or form_of_word (first_of (codes "form") rows) Applystream
+
+-- the value comes from the words, and is not one that stands for none
+abbrev pub is_of_words : Option ValueSource → Bool
+is_of_words (Some source.CommandLine) = true
+is_of_words (Some source.DefaultValue) = false
+is_of_words None = false
+
+-- the option stands among the words
+abbrev pub is_given : (name : Text) → List Row → Bool
+is_given name rows = is_of_words (option_and_then (λ r. r.source) (find (λ r. bytes_eq r.id name) rows))
+
+-- a parallelism stands beside workers or a queue
+abbrev pub is_beside : List Row → Bool
+is_beside rows =
+    is_given (codes "parallelism") rows && (is_given (codes "workers") rows || is_given (codes "queue") rows)
+
+-- ---- why they are refused
+
+-- the options that were taken say no settings
+abbrev pub AreSaidWrong : List Row → Usage → Type 0
+AreSaidWrong rows (usage.Help text) = ⊥
+AreSaidWrong rows usage.Version = ⊥
+AreSaidWrong rows (usage.Words text) = ⊥
+AreSaidWrong rows usage.Beside = ⊥
+AreSaidWrong rows (usage.Moment error) = option_map_or start_of (first_of (codes "at") rows) (Ok 0) ≡ Err error
+AreSaidWrong rows usage.Hooks =
+    IsOk (option_map_or start_of (first_of (codes "at") rows) (Ok 0)) × (max_hooks < length (halts_said rows))
+AreSaidWrong rows usage.Memory = ⊤
+
+-- they say no invocation: a parallelism stands where it may not, or they say no settings
+abbrev pub IsSaidWrong : List Row → Usage → Type 0
+IsSaidWrong rows usage.Beside = is_beside rows ≡ true
+IsSaidWrong rows why = (is_beside rows ≡ false) × AreSaidWrong rows why
+
+-- what is answered to an error of that kind: help where help was asked for, the version where that was
+abbrev pub Answers : ErrorKind → Usage → Type 0
+Answers kind (usage.Help text) = kind ≡ DisplayHelp
+Answers kind usage.Version = kind ≡ DisplayVersion
+Answers kind (usage.Words text) = (kind ≡ OutOfMemory → ⊥) × (kind ≡ DisplayHelp → ⊥) × (kind ≡ DisplayVersion → ⊥)
+Answers kind usage.Beside = ⊥
+Answers kind (usage.Moment error) = ⊥
+Answers kind usage.Hooks = ⊥
+Answers kind usage.Memory = ⊤
+
+-- the words are a call for help or for the version; or they are none of these options; or they were taken, and what they
+-- say is wrong
+abbrev pub IsCause : (IsWrong : List Row → Usage → Type 0) → App → List Text → Usage → Type 0
+IsCause IsWrong app words (usage.Help text) = IsAmong DisplayHelp (fault_of app words)
+IsCause IsWrong app words usage.Version = IsAmong DisplayVersion (fault_of app words)
+IsCause IsWrong app words (usage.Words text) =
+    (kind : ErrorKind) × (kind ≡ DisplayHelp → ⊥) × (kind ≡ DisplayVersion → ⊥) × IsAmong kind (fault_of app words)
+IsCause IsWrong app words why = (fault_of app words ≡ []) × IsWrong (matches_of app words) why
+
+-- memory was refused, or there is a cause for it, by the command of some parsers that take their words
+abbrev pub HasCause : {P : Type 0} (TakeWords : P → Type 0) → (line : P → App) → (IsWrong : List Row → Usage → Type 0)
+    → List Text → Usage → Type 0
+HasCause {P} TakeWords line IsWrong words why =
+    (why ≡ usage.Memory) ⊎ ((parsers : P) × TakeWords parsers × IsCause IsWrong (line parsers) words why)
+
+-- the words say no invocation
+abbrev pub WereRefused : List Text → Usage → Type 0
+WereRefused words why = HasCause AreChoices command_line IsSaidWrong words why
+
+-- the words say no settings, by the options of the settings alone
+abbrev pub SayNoSettings : List Text → Usage → Type 0
+SayNoSettings words why = HasCause (IsOneOf kind_words) settings_line AreSaidWrong words why
+
+-- the words ask for this, among whatever else
+abbrev pub AskAmong : ErrorKind → List Text → Type 0
+AskAmong asked words =
+    (choices : Choices) × AreChoices choices × IsAmong asked (fault_of (command_line choices) words)
+
+-- the words ask for this, and nothing else is wrong with them
+abbrev pub AskAlone : ErrorKind → List Text → Type 0
+AskAlone asked words =
+    (choices : Choices) → AreChoices choices → fault_of (command_line choices) words ≡ asked ∷ []
+
+-- for help
+abbrev pub AskForHelp : List Text → Type 0
+AskForHelp words = AskAmong DisplayHelp words
+
+abbrev pub AskForHelpAlone : List Text → Type 0
+AskForHelpAlone words = AskAlone DisplayHelp words
+
+-- for the version, beside other options
+abbrev pub AskForVersionToo : List Text → Type 0
+AskForVersionToo words = AskAmong DisplayVersion words

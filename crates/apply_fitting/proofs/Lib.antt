@@ -1,4 +1,0 @@
-pub mod Blanks
-pub mod Escapes
-pub mod Fits
-pub mod Lines

@@ -1,7 +1,0 @@
-use Rattle.std.proofs.Common.{◌≡◌, take}
-use Rattle.std.specs.Prelude.{min}
-use Rattle.apply_fitting.specs.Columns.{columns_of}
-use Rattle.apply_fitting.proofs.columns.columns.Given as goal
-
-abbrev pub invariant-loop-character : goal.invariant-loop-character
-invariant-loop-character l = l.columns ≡ min (columns_of (take l.character-index l.characters)) 18446744073709551615

@@ -1,4 +1,0 @@
-use Rattle.apply_fitting.proofs.columns.width_of.Goals as goal
-
-pub returns : goal.returns
-returns c = c.width.ensures.value

@@ -1,5 +1,0 @@
-use Rattle.apply_fitting.proofs.Escapes.{are_escaped}
-use Rattle.apply_fitting.proofs.laws.what_is_escaped_is_no_markup.Goals as goal
-
-pub returns : goal.returns
-returns c = are_escaped

@@ -1,4 +1,0 @@
-pub mod Columns
-pub mod Escaped
-pub mod Fitting
-pub mod Shown

@@ -1,5 +1,0 @@
-use Rattle.apply_form.proofs.Absent.{in_line}
-use Rattle.apply_form.proofs.laws.a_line_has_no_bracket.Goals as goal
-
-pub returns : goal.returns
-returns c = in_line

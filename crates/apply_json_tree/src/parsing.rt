@@ -1,0 +1,55 @@
+//! From bytes to a tree.
+
+ghost use Rattle.std.specs.Prelude.{◌≡◌, ◌≤◌, length, IfOk, IfErr, Some};
+ghost use Rattle.serde_json.specs.View.{view};
+ghost use Rattle.apply_json.specs.Parsed.{IsNoTree};
+ghost use Rattle.apply_json.specs.Tree.{tree_of};
+ghost use Rattle.apply_json_tree.specs.Trimmed.{IsTrimmedTree};
+
+use crate::shape::Shape;
+use crate::trimming::read_trimmed;
+use apply_json::{JsonFault, Scratch, text_of};
+use serde_json::Value;
+use std::alloc::Global;
+
+/// The tree that the bytes are, of which there may be `most`.
+///
+/// `Err` with `JsonFault::TooLarge` where there are more, else with `JsonFault::NotJson` where they are no JSON (RFC 8259)
+/// in UTF-8, or nest more than 127 deep; with `JsonFault::Memory` where memory is refused.
+pub fn parse(alloc: Global, bytes: &[u8], most: usize) -> Result<Value, JsonFault>
+    ensures ok { IfOk result
+        (λ tree. (length bytes.now ≤ most) × (tree_of bytes.now ≡ Some (view tree))) }
+    ensures err { IfErr result (λ fault. IsNoTree most fault bytes.now) }
+{
+    let text = text_of(bytes, most)?;
+    match Value::from_str(alloc, text) {
+        Ok(tree) => Ok(tree),
+        Err(error) => if error.is_memory() {
+            Err(JsonFault::Memory)
+        } else {
+            Err(JsonFault::NotJson)
+        },
+    }
+}
+
+/// The tree that the bytes are, without what nobody looks at in a value of that shape. It takes no memory for that, which is
+/// checked as the rest is. `scratch` grows to the length of the bytes, and may be lent to one read after the other. `Err` as
+/// `parse`.
+pub fn parse_trimmed<S: Shape>(
+    alloc: Global,
+    scratch: &mut Scratch,
+    bytes: &[u8],
+    most: usize,
+    shape: S,
+) -> Result<Value, JsonFault>
+    ensures ok { IfOk result
+        (λ tree. (length bytes.now ≤ most)
+        × IsTrimmedTree S.selection shape bytes.now (view tree)) }
+    ensures err { IfErr result (λ fault. IsNoTree most fault bytes.now) }
+{
+    let text = text_of(bytes, most)?;
+    match read_trimmed(alloc, scratch, text, shape) {
+        Ok(tree) => Ok(tree),
+        Err(fault) => Err(JsonFault::of(fault)),
+    }
+}

@@ -1,0 +1,5 @@
+//! Tests of `apply_json_tree`, in a crate of their own, so that its code is not proved again beside them.
+#![tactic(auto)]
+
+#[cfg(test)]
+mod tests;

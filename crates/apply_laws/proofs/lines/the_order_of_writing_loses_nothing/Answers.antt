@@ -1,5 +1,0 @@
-use Rattle.apply_laws.proofs.WrittenOrder.{parts_kept, totals_kept}
-use Rattle.apply_laws.proofs.lines.the_order_of_writing_loses_nothing.Goals as goal
-
-pub returns : goal.returns
-returns c = record { totals = totals_kept; workers = parts_kept }

@@ -1,5 +1,0 @@
-use Rattle.apply_laws.proofs.AcceptedPlans.{each_once}
-use Rattle.apply_laws.proofs.plans.each_object_is_named_once.Goals as goal
-
-pub returns : goal.returns
-returns c = each_once

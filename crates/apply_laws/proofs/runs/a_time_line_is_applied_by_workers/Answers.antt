@@ -1,7 +1,0 @@
-use Rattle.apply_laws.proofs.runs.a_time_line_is_applied_by_workers.Goals as goal
-
-pub returns : goal.returns
-returns c work n events some line = record {
-  dealt_out = c.lanes_deal_out_the_changes.ensures work n some;
-  told = line.interleaved;
-}

@@ -1,0 +1,39 @@
+//! The words of the command.
+
+use crate::telling::{answer, begin, kept};
+use apply_cli_args::{read_invocation, read_words};
+use std::alloc::Global;
+use std::io;
+
+/// Words, of which each stands alone.
+const WORDS: &str =
+    "--halt-in module.a --halt-before read --workers 8 --queue 1 --script script.json --at 2021-05-25T13:32:41Z";
+
+/// Adds a word, in a text of its own.
+fn push_word(alloc: Global, words: &mut Vec<String>, word: &str) -> io::Result<()> {
+    words.push(String::from_str(alloc, word)?)?;
+    Ok(())
+}
+
+/// The words, each in a text of its own.
+fn all_words(alloc: Global) -> io::Result<&'static [String]> {
+    let words = kept(alloc, Vec::new(alloc))?;
+    for word in WORDS.split_whitespace() {
+        push_word(alloc, words, word)?;
+    }
+    Ok(words.as_slice())
+}
+
+/// Reads the words.
+pub fn words(rt: &impl Print, alloc: Global) -> io::Result<()> {
+    let words = all_words(alloc)?;
+    begin(rt)?;
+    answer(rt, &read_invocation(alloc, words))
+}
+
+/// Reads the words by the options without a parallelism.
+pub fn settings(rt: &impl Print, alloc: Global) -> io::Result<()> {
+    let words = all_words(alloc)?;
+    begin(rt)?;
+    answer(rt, &read_words(alloc, words))
+}

@@ -1,0 +1,84 @@
+//! The input, and whole runs from it to the exit status. What they print has room before.
+
+use crate::readers::{ONE_CREATE, ONE_SCRIPT};
+use crate::runs::{THREE_CREATES, THREE_SPANS};
+use crate::telling::{begin, kept, lines};
+use apply_cli::{read_all, run_command};
+use apply_cli_args::Settings;
+use apply_hooks::Registry;
+use apply_run::StdSink;
+use apply_text::{Operation, Start};
+use std::alloc::Global;
+use std::io;
+use std::sync::Wait;
+use std::thread::Threads;
+
+/// How many bytes are read: more than come with one read.
+const INPUT_LEN: usize = 200_000;
+
+/// Reads an input.
+pub fn input(rt: &impl Print, alloc: Global) -> io::Result<()> {
+    let bytes = kept(alloc, vec![in alloc; b'x'; INPUT_LEN]?)?.as_slice();
+    begin(rt)?;
+    match read_all(alloc, bytes) {
+        Ok(found) => println!(rt; "Ok {}", found.as_slice() == bytes),
+        Err(fault) => println!(rt; "Err({fault:?})"),
+    }
+}
+
+/// One create with a script, by one worker.
+pub fn by_one<R: Print + Threads + Wait + Sync>(rt: &R, alloc: Global) -> io::Result<()> {
+    run(rt, alloc, ONE_CREATE, ONE_SCRIPT, 1, 64)
+}
+
+/// Three creates with a script, by eight workers over a bus of one message.
+pub fn by_eight<R: Print + Threads + Wait + Sync>(rt: &R, alloc: Global) -> io::Result<()> {
+    run(rt, alloc, THREE_CREATES, THREE_SPANS, 8, 1)
+}
+
+/// What no words say, but for the workers and the queue.
+fn settings_of(alloc: Global, workers: u8, queue: u16) -> io::Result<&'static Settings> {
+    let settings = Settings {
+        at: Start::zero(),
+        script: None,
+        workers,
+        queue,
+        operation: Operation::Apply,
+        halts: Vec::new(alloc),
+    };
+    Ok(kept(alloc, settings)?)
+}
+
+/// Room for more than is printed or said.
+fn room(alloc: Global) -> io::Result<Vec<u8>> {
+    Ok(Vec::with_capacity(alloc, 16_384)?)
+}
+
+/// Runs the plan. Tells the status, what was said of faults, and what was printed.
+fn run<R: Print + Threads + Wait + Sync>(
+    rt: &R,
+    alloc: Global,
+    plan: &str,
+    script: &str,
+    workers: u8,
+    queue: u16,
+) -> io::Result<()> {
+    let settings = settings_of(alloc, workers, queue)?;
+    let registry = kept(alloc, Registry::new(alloc))?;
+    let (output, said) = (StdSink::new(room(alloc)?), kept(alloc, room(alloc)?)?);
+    begin(rt)?;
+    let (output, status) = run_command(
+        rt,
+        alloc,
+        settings,
+        registry,
+        Some(script.as_bytes()),
+        plan.as_bytes(),
+        output,
+        said,
+    );
+    println!(rt; "status {status}")?;
+    println!(rt; "said {} bytes", said.len())?;
+    lines(rt, said.as_slice())?;
+    lines(rt, output.into_inner().as_slice())
+}

@@ -1,9 +1,0 @@
--- The numbers of changes by object, for the type that keeps them.
-use Rattle.std.specs.Prelude.{ℕ, Option}
-use Rattle.std.specs.Map.{lookup}
-use Rattle.apply_objects.specs.declared.object_id.ObjectId.{ObjectId}
-use Rattle.apply_objects.specs.declared.change_numbers.ChangeNumbers.{ChangeNumbers}
-use Rattle.apply_objects.specs.HashedId.{hashed, is_same}
-
-abbrev pub number_of : ChangeNumbers → ObjectId → Option ℕ
-number_of numbers id = lookup (is_same (hashed id)) numbers.numbers.entries

@@ -1,6 +1,0 @@
-use Rattle.apply_picture.proofs.Drawn.{stream_drawn}
-use Rattle.apply_picture.proofs.command.entry_points.draw_input.Goals as goal
-
-pub returns-in-Ok-clause-stream : goal.returns-in-Ok-clause-stream
-returns-in-Ok-clause-stream g c =
-    stream_drawn _ c.in-Ok.told _ _ _ _ _ c.draw.result c.in-Ok.ensures c.draw.ensures.rows c.draw.ensures.told

@@ -1,6 +1,0 @@
-use Rattle.std.proofs.Common.{[], ◌∷◌, ◌++◌, ap}
-use Rattle.apply_picture.proofs.Controls.{without_colours}
-use Rattle.apply_picture.proofs.laws.colours_are_sequences_alone.Goals as goal
-
-pub returns : goal.returns
-returns c = λ pieces. ap (λ bytes. bytes ++ 10 ∷ []) (without_colours pieces)

@@ -1,7 +1,0 @@
-use Rattle.apply_picture.proofs.Growing.{on_ok}
-use Rattle.apply_picture.proofs.Parts.{more_markup}
-use Rattle.apply_picture.proofs.svg.drawing.draw_grid.Goals as goal
-
-pub returns : goal.returns
-returns g c =
-    on_ok c.send.result (λ sent. more_markup _ _ _ c.push_grid.new.markup.parts.items c.in_ok-draw_bands.ensures sent.1) c.send.ensures

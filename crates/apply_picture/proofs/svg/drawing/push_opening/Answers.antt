@@ -1,8 +1,0 @@
-use Rattle.apply_picture.proofs.Parts.{parts_more, some_parts}
-use Rattle.apply_picture.proofs.svg.drawing.push_opening.Goals as goal
-
-pub returns : goal.returns
-returns c =
-    let begun = c.args.markup.now in
-    some_parts begun c.own.new.self _
-    (parts_more begun c.text.new.self c.own.new.self _ _ (parts_more begun c.add.new.self c.text.new.self _ _ c.add.ensures c.text.ensures) c.own.ensures)

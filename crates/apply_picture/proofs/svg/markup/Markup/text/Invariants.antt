@@ -1,7 +1,0 @@
-use Rattle.std.proofs.Common.{take}
-use Rattle.apply_picture.specs.Growth.{HasParts}
-use Rattle.apply_picture.specs.Markup.{text_parts}
-use Rattle.apply_picture.proofs.svg.markup.Markup.text.Given as goal
-
-abbrev pub invariant-loop-character : goal.invariant-loop-character
-invariant-loop-character l = HasParts l.initial.self l.self (text_parts (take l.character-index l.character-items))

@@ -1,5 +1,0 @@
-use Rattle.apply_picture.proofs.Heads.{lines_then}
-use Rattle.apply_picture.proofs.text.axis.push_axis.Goals as goal
-
-pub returns-clause-more : goal.returns-clause-more
-returns-clause-more c = lines_then c.args.page.now c.push_empty.new.self c.push.new.self _ _ c.push_empty.ensures.lines c.push.ensures.lines

@@ -1,8 +1,0 @@
-use Rattle.apply_picture.specs.Texts.{heading_characters}
-use Rattle.apply_picture.proofs.Heads.{headed}
-use Rattle.apply_picture.proofs.text.drawing.push_head.Goals as goal
-
-pub returns-clause-headed : goal.returns-clause-headed
-returns-clause-headed c = λ none.
-    headed c.args.page.now.style.width (heading_characters c.args.picture.now) c.args.page.now c.push_said.new.self c.push_overlap.new.page none
-    (c.push_said.ensures.line _ c.heading-what.ensures) c.push_overlap.ensures.more

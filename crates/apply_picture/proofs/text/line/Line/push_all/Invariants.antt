@@ -1,9 +1,0 @@
-use Rattle.std.proofs.Common.{◌≡◌, take}
-use Rattle.apply_picture.specs.Growth.{CameTo}
-use Rattle.apply_picture.specs.Lines.{with_characters}
-use Rattle.apply_picture.proofs.text.line.Line.push_all.Given as goal
-
-abbrev pub invariant-loop-character : goal.invariant-loop-character
-invariant-loop-character l =
-    (l.self.width ≡ l.initial.self.width)
-    × CameTo l.initial.self l.self (with_characters l.initial.self.width l.initial.self.pieces.items (take l.character-index l.characters))

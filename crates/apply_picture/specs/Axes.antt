@@ -1,6 +1,0 @@
--- What contracts see of the axis of an SVG, for private clauses.
-use Rattle.apply_picture.specs.Markup.{Axis}
-use Rattle.apply_picture.specs.declared.svg.scale.Scale.{Scale}
-
-abbrev pub axis_in : Scale → Axis
-axis_in scale = record { left = scale.left; right = scale.right }

@@ -1,6 +1,0 @@
--- What contracts see of the columns of the rows, for private clauses.
-use Rattle.apply_picture.specs.Rows.{Layout}
-use Rattle.apply_picture.specs.declared.text.chart.Chart.{Chart}
-
-abbrev pub layout_in : Chart → Layout
-layout_in chart = record { action = chart.action; label = chart.label; cells = chart.cells }

@@ -1,0 +1,129 @@
+-- What is said for Terraform's form is the same when the tree of the plan is trimmed.
+use Rattle.std.proofs.Common.{◌≡◌, Bool, true, false, [], codes, map, Option, Some, None, option_map, refl, ap, ◌∙◌}
+use Rattle.std.specs.Option.{option_map_or}
+use Rattle.serde_json.specs.Data.{Data, null, boolean, number, string, array, object, Items, no_items, item}
+use Rattle.serde_json.specs.Find.{as_array}
+use Rattle.apply_plan_terraform.specs.declared.details_shape.DetailsShape.{DetailsShape}
+use Rattle.apply_plan_terraform.specs.declared.details_shape.DetailsShape.TheVariants as shape
+use Rattle.apply_json.specs.Tree.{◌>>=◌, list_of, member_of, non_empty_text_of}
+use Rattle.apply_json_tree.specs.Trimmed.{trimmed, trimmed_items}
+use Rattle.apply_plan_terraform.specs.Changes.{changes_of}
+use Rattle.apply_plan_terraform.specs.Details.{config_in, element_details, forgets_in, hides_id, imported_in, importing_of, is_flag, is_forgetting, planned_id_in, unless_other}
+use Rattle.apply_plan_terraform.specs.Plan.{note_of}
+use Rattle.apply_plan_terraform.specs.Selection.{details_selection}
+use Rattle.apply_json_tree.proofs.Trimmed.Lookups.{as_array_trimmed, as_bool_trimmed, bind_mapped, is_word_trimmed, member_trimmed, non_empty_text_trimmed}
+
+-- ---- actions
+
+abbrev few_actions : Items → Items
+few_actions = trimmed_items details_selection shape.Scalar (Some 2)
+
+still_forgetting : (actions : Items) → is_forgetting (few_actions actions) ≡ is_forgetting actions
+still_forgetting no_items = refl
+still_forgetting (item action no_items) = is_word_trimmed details_selection shape.Scalar (codes "forget") action
+still_forgetting (item first (item second others)) = refl
+
+forgets_few : (actions : Option Items) → option_map_or is_forgetting (option_map few_actions actions) false ≡ option_map_or is_forgetting actions false
+forgets_few None = refl
+forgets_few (Some actions) = still_forgetting actions
+
+few_listed : (o : Option Data) → (option_map (trimmed details_selection shape.Actions) o >>= as_array) ≡ option_map few_actions (o >>= as_array)
+few_listed None = refl
+few_listed (Some list) = as_array_trimmed details_selection shape.Actions list
+
+same_forgets : (change : Option Data) → forgets_in (option_map (trimmed details_selection shape.Change) change) ≡ forgets_in change
+same_forgets None = refl
+same_forgets (Some change) =
+    let listed : (member_of (codes "actions") (trimmed details_selection shape.Change change) >>= as_array) ≡ option_map few_actions (member_of (codes "actions") change >>= as_array) =
+    ap (λ o. o >>= as_array) (member_trimmed details_selection shape.Change shape.Actions (codes "actions") change refl) ∙ few_listed (member_of (codes "actions") change) in
+    ap (λ o. option_map_or is_forgetting o false) listed ∙ forgets_few (member_of (codes "actions") change >>= as_array)
+
+-- ---- what is imported
+
+object_trimmed : (d : Data) → unless_other (trimmed details_selection shape.Importing d) ≡ option_map (trimmed details_selection shape.Importing) (unless_other d)
+object_trimmed null = refl
+object_trimmed (boolean b) = refl
+object_trimmed (number n) = refl
+object_trimmed (string s) = refl
+object_trimmed (array ds) = refl
+object_trimmed (object ms) = refl
+
+object_found : (o : Option Data) → (option_map (trimmed details_selection shape.Importing) o >>= unless_other) ≡ option_map (trimmed details_selection shape.Importing) (o >>= unless_other)
+object_found None = refl
+object_found (Some d) = object_trimmed d
+
+with_id : (o : Option Data) → importing_of (option_map (trimmed details_selection shape.Importing) o) ≡ importing_of o
+with_id None = refl
+with_id (Some d) = rw (non_empty_text_trimmed details_selection shape.Importing shape.Scalar (codes "id") d refl) refl
+
+same_importing : (change : Option Data) → importing_of (imported_in (option_map (trimmed details_selection shape.Change) change)) ≡ importing_of (imported_in change)
+same_importing None = refl
+same_importing (Some change) =
+    ap (λ o. importing_of (o >>= unless_other)) (member_trimmed details_selection shape.Change shape.Importing (codes "importing") change refl)
+    ∙ ap importing_of (object_found (member_of (codes "importing") change))
+    ∙ with_id (member_of (codes "importing") change >>= unless_other)
+
+same_config : (change : Option Data) → config_in (option_map (trimmed details_selection shape.Change) change) ≡ config_in change
+same_config None = refl
+same_config (Some change) = non_empty_text_trimmed details_selection shape.Change shape.Scalar (codes "generated_config") change refl
+
+-- ---- flags, and the id that they hide
+
+same_flag : (shape : DetailsShape) (wanted : Bool) (o : Option Data) → is_flag wanted (option_map (trimmed details_selection shape) o) ≡ is_flag wanted o
+same_flag shape wanted None = refl
+same_flag shape wanted (Some d) = rw (as_bool_trimmed details_selection shape d) refl
+
+same_hiding : (o : Option Data) → hides_id (option_map (trimmed details_selection shape.After) o) ≡ hides_id o
+same_hiding None = refl
+same_hiding (Some sensitive) =
+    let inside : is_flag true (member_of (codes "id") (trimmed details_selection shape.After sensitive)) ≡ is_flag true (member_of (codes "id") sensitive) =
+    ap (is_flag true) (member_trimmed details_selection shape.After shape.Scalar (codes "id") sensitive refl) ∙ same_flag shape.Scalar true (member_of (codes "id") sensitive) in
+    rw (as_bool_trimmed details_selection shape.After sensitive, inside) refl
+
+same_planned_id : (change : Option Data) → planned_id_in (option_map (trimmed details_selection shape.Change) change) ≡ planned_id_in change
+same_planned_id None = refl
+same_planned_id (Some change) =
+    let hidden : hides_id (member_of (codes "after_sensitive") (trimmed details_selection shape.Change change)) ≡ hides_id (member_of (codes "after_sensitive") change) =
+    ap hides_id (member_trimmed details_selection shape.Change shape.After (codes "after_sensitive") change refl) ∙ same_hiding (member_of (codes "after_sensitive") change) in
+    let found : (member_of (codes "after") (trimmed details_selection shape.Change change) >>= λ after. non_empty_text_of (codes "id") after) ≡ (member_of (codes "after") change >>= λ after. non_empty_text_of (codes "id") after) =
+    ap (λ o. o >>= λ after. non_empty_text_of (codes "id") after) (member_trimmed details_selection shape.Change shape.After (codes "after") change refl)
+    ∙ bind_mapped (trimmed details_selection shape.After) _ _ (λ after. non_empty_text_trimmed details_selection shape.After shape.Scalar (codes "id") after refl) (member_of (codes "after") change) in
+    rw (hidden, found) refl
+
+-- ---- elements
+
+pub same_details : (d : Data) → element_details (trimmed details_selection shape.Element d) ≡ element_details d
+same_details d =
+    rw (member_trimmed details_selection shape.Element shape.Change (codes "change") d refl, non_empty_text_trimmed details_selection shape.Element shape.Scalar (codes "action_reason") d refl, non_empty_text_trimmed details_selection shape.Element shape.Scalar (codes "previous_address") d refl, same_forgets (member_of (codes "change") d), same_importing (member_of (codes "change") d), same_config (member_of (codes "change") d), same_planned_id (member_of (codes "change") d))
+    refl
+
+abbrev all_items : Items → Items
+all_items = trimmed_items details_selection shape.Element None
+
+same_elements : (ds : Items) → map element_details (list_of (all_items ds)) ≡ map element_details (list_of ds)
+same_elements no_items = refl
+same_elements (item d ds) = rw (same_details d, same_elements ds) refl
+
+same_listed : (o : Option Items) → map element_details (option_map_or list_of (option_map all_items o) []) ≡ map element_details (option_map_or list_of o [])
+same_listed None = refl
+same_listed (Some ds) = same_elements ds
+
+all_listed : (o : Option Data) → (option_map (trimmed details_selection shape.Changes) o >>= as_array) ≡ option_map all_items (o >>= as_array)
+all_listed None = refl
+all_listed (Some list) = as_array_trimmed details_selection shape.Changes list
+
+-- ---- the plan
+
+pub same_changes : (d : Data) → changes_of (trimmed details_selection shape.Plan d) ≡ changes_of d
+same_changes d =
+    ap (λ o. map element_details (option_map_or list_of (o >>= as_array) [])) (member_trimmed details_selection shape.Plan shape.Changes (codes "resource_changes") d refl)
+    ∙ ap (λ o. map element_details (option_map_or list_of o [])) (all_listed (member_of (codes "resource_changes") d))
+    ∙ same_listed (member_of (codes "resource_changes") d >>= as_array)
+
+pub same_note : (d : Data) → note_of (trimmed details_selection shape.Plan d) ≡ note_of d
+same_note d =
+    let errored : is_flag true (member_of (codes "errored") (trimmed details_selection shape.Plan d)) ≡ is_flag true (member_of (codes "errored") d) =
+    ap (is_flag true) (member_trimmed details_selection shape.Plan shape.Scalar (codes "errored") d refl) ∙ same_flag shape.Scalar true (member_of (codes "errored") d) in
+    let complete : is_flag false (member_of (codes "complete") (trimmed details_selection shape.Plan d)) ≡ is_flag false (member_of (codes "complete") d) =
+    ap (is_flag false) (member_trimmed details_selection shape.Plan shape.Scalar (codes "complete") d refl) ∙ same_flag shape.Scalar false (member_of (codes "complete") d) in
+    rw (errored, complete) refl

@@ -1,0 +1,13 @@
+pub mod Changes
+pub mod Details
+pub mod Extras
+pub mod InOrder
+pub mod Kept
+pub mod Notes
+pub mod OutputTexts
+pub mod Outputs
+pub mod Plan
+pub mod Selection
+pub mod Sought
+pub mod Texts
+pub mod Told

@@ -1,0 +1,231 @@
+//! What no clause says: that the definitions are the ones that were meant, and that calls succeed with ample memory.
+
+use apply_json_tree::parse;
+use apply_model::{ChangeDetails, Importing, Key, Note, PreviousResource, Severity, Text};
+use apply_plan_terraform::{
+    PlanNote, change_details, is_errored, is_partial, plan_note, told_notes,
+};
+use serde_json::Value;
+use std::alloc::Global;
+use std::process::Abort;
+
+/// The value, for as long as the test runs: a proof grows with each place at which something has to be dropped.
+fn kept<'a, T: Drop + 'a>(rt: &impl Abort, alloc: Global, value: T) -> &'a T {
+    let kept = Box::new(alloc, value).expect(rt, "memory");
+    &*Box::leak(kept)
+}
+
+fn parted<'a>(rt: &impl Abort, text: &'a str, mark: &str) -> (&'a str, &'a str) {
+    text.split_once(mark).expect(rt, "a mark")
+}
+
+fn tree_of(rt: &impl Abort, alloc: Global, text: &str) -> &'static Value {
+    let tree = parse(alloc, text.as_bytes(), 10_000);
+    kept(rt, alloc, tree.ok().expect(rt, "a tree"))
+}
+
+/// The text, or a dash where there is none.
+fn shown(text: Option<&Text>) -> &str {
+    match text {
+        Some(text) => text.as_str(),
+        None => "-",
+    }
+}
+
+/// The id, a star where something is imported without one, or a dash.
+fn shown_importing(importing: Option<&Importing>) -> &str {
+    match importing {
+        Some(Importing { id: Some(id) }) => id.as_str(),
+        Some(Importing { id: None }) => "*",
+        None => "-",
+    }
+}
+
+/// The details, in one row.
+fn row_of(rt: &impl Abort, alloc: Global, details: &ChangeDetails) -> &'static str {
+    let forgets = if details.forgets { "forgets" } else { "-" };
+    let reason = match details.reason {
+        Some(reason) => reason.word(),
+        None => "-",
+    };
+    let importing = shown_importing(details.importing.as_ref());
+    let config = shown(details.generated_config.as_ref());
+    let planned = shown(details.planned_id.as_ref());
+    let row = format!(in alloc; "{forgets} {reason} {importing} {config} {planned}");
+    kept(rt, alloc, row.expect(rt, "memory")).as_str()
+}
+
+/// Elements, and what is told of each: whether it is forgotten, the reason, what is imported, the configuration, the planned id.
+const ELEMENTS: &str = r#"{"change":{"actions":["create"]}} => - - - - -
+{} => - - - - -
+[] => - - - - -
+{"change":5,"action_reason":5} => - - - - -
+{"change":{"actions":["forget"]}} => forgets - - - -
+{"change":{"actions":["forget","create"]}} => - - - - -
+{"change":{"actions":"forget"}} => - - - - -
+{"action_reason":""} => - - - - -
+{"action_reason":"replace_because_cannot_update"} => - cannot_update - - -
+{"action_reason":"replace_because_tainted"} => - tainted - - -
+{"action_reason":"replace_by_request"} => - requested - - -
+{"action_reason":"replace_by_triggers"} => - replace_triggered_by - - -
+{"action_reason":"delete_because_no_resource_config"} => - delete_because_no_resource_config - - -
+{"action_reason":"delete_because_wrong_repetition"} => - delete_because_wrong_repetition - - -
+{"action_reason":"delete_because_count_index"} => - delete_because_count_index - - -
+{"action_reason":"delete_because_each_key"} => - delete_because_each_key - - -
+{"action_reason":"delete_because_no_module"} => - delete_because_no_module - - -
+{"action_reason":"delete_because_no_move_target"} => - delete_because_no_move_target - - -
+{"action_reason":"read_because_config_unknown"} => - read_because_config_unknown - - -
+{"action_reason":"read_because_dependency_pending"} => - read_because_dependency_pending - - -
+{"action_reason":"read_because_check_nested"} => - read_because_check_nested - - -
+{"action_reason":"because"} => - unknown - - -
+{"change":{"importing":{"id":"i-1"}}} => - - i-1 - -
+{"change":{"importing":{}}} => - - * - -
+{"change":{"importing":{"id":""}}} => - - * - -
+{"change":{"importing":true}} => - - - - -
+{"change":{"importing":null}} => - - - - -
+{"change":{"generated_config":"c"}} => - - - c -
+{"change":{"generated_config":""}} => - - - - -
+{"change":{"after":{"id":"i-2"}}} => - - - - i-2
+{"change":{"after":{"id":""}}} => - - - - -
+{"change":{"after":{"id":7}}} => - - - - -
+{"change":{"after":[1]}} => - - - - -
+{"change":{"after":{"id":"i-2"},"after_sensitive":true}} => - - - - -
+{"change":{"after":{"id":"i-2"},"after_sensitive":{"id":true}}} => - - - - -
+{"change":{"after":{"id":"i-2"},"after_sensitive":{"id":false}}} => - - - - i-2
+{"change":{"after":{"id":"i-2"},"after_sensitive":false}} => - - - - i-2"#;
+
+#[test]
+fn each_member_of_another_kind_is_absent(rt: HostRuntime) {
+    let alloc = rt.alloc();
+    for row in ELEMENTS.lines() {
+        let (element, wanted) = parted(&rt, row, " => ");
+        let details = change_details(alloc, tree_of(&rt, alloc, element));
+        let details = kept(&rt, alloc, details.ok().expect(&rt, "memory"));
+        let found = row_of(&rt, alloc, details);
+        assert!(rt; found == wanted, "at {element}: {found}");
+    }
+}
+
+/// Plans, and what is said of each.
+const PLANS: &str = r#"{} => nothing
+[] => nothing
+{"errored":true} => unfinished
+{"errored":"true","complete":true} => nothing
+{"complete":false} => partial
+{"complete":"false"} => nothing
+{"complete":false,"errored":false} => partial
+{"complete":false,"errored":true} => unfinished"#;
+
+/// What is said of a plan, in a word.
+fn said(note: Option<PlanNote>) -> &'static str {
+    match note {
+        Some(PlanNote::Partial) => "partial",
+        Some(PlanNote::Unfinished) => "unfinished",
+        None => "nothing",
+    }
+}
+
+#[test]
+fn one_thing_is_said_of_a_plan(rt: HostRuntime) {
+    let alloc = rt.alloc();
+    for row in PLANS.lines() {
+        let (plan, wanted) = parted(&rt, row, " => ");
+        let plan = tree_of(&rt, alloc, plan);
+        assert!(rt; said(plan_note(plan)) == wanted, "at {row}");
+        assert!(rt; is_errored(plan) == (wanted == "unfinished"), "at {row}");
+        assert!(rt; is_partial(plan) == (wanted == "partial"), "at {row}");
+    }
+}
+
+/// Where objects were before, in the members of an element, and what is told of each: the module, the resource, the provider,
+/// the type, the name and the key.
+const MOVED: &str = r#"{} => -
+{"previous_address":5} => -
+{"previous_address":null} => -
+{"previous_address":""} => -
+{"previous_address":"a.b"} => |a.b|a|a|b|-
+{"address":"a_c.b","previous_address":"a_c.b"} => |a_c.b|a|a_c|b|-
+{"previous_address":"data.a_c.b[7]"} => |data.a_c.b[7]|a|a_c|b|7
+{"previous_address":"module.m.a.b"} => module.m|a.b|a|a|b|-
+{"previous_address":"module.old[\"x.y\"].module.in[0].aws_instance.web[\"k\\\"1$${z}\"]"} => module.old["x.y"].module.in[0]|aws_instance.web["k\"1$${z}"]|aws|aws_instance|web|k"1${z}
+{"previous_address":"a.b[\"\\x\"]"} => -
+{"previous_address":"a.b[\"x\"y\"]"} => -
+{"previous_address":"a.b[00]"} => -
+{"previous_address":"a"} => -
+{"previous_address":"module.m.a.b.c"} => -
+{"previous_address":"a.b[9223372036854775808]"} => -"#;
+
+/// The parts of where an object was, in one row.
+fn shown_previous(
+    rt: &impl Abort,
+    alloc: Global,
+    previous: Option<&PreviousResource>,
+) -> &'static str {
+    let Some(previous) = previous else {
+        return "-";
+    };
+    let module = previous.module_address.as_str();
+    let resource = previous.resource.as_str();
+    let provider = previous.provider();
+    let kind = previous.kind_name.as_str();
+    let name = previous.name.as_str();
+    let row = match &previous.key {
+        Key::None => format!(in alloc; "{module}|{resource}|{provider}|{kind}|{name}|-"),
+        Key::Number(key) => format!(in alloc; "{module}|{resource}|{provider}|{kind}|{name}|{key}"),
+        Key::Name(key) => {
+            let key = key.as_str();
+            format!(in alloc; "{module}|{resource}|{provider}|{kind}|{name}|{key}")
+        }
+    };
+    kept(rt, alloc, row.expect(rt, "memory")).as_str()
+}
+
+#[test]
+fn an_address_from_before_is_taken_apart(rt: HostRuntime) {
+    let alloc = rt.alloc();
+    for row in MOVED.lines() {
+        let (element, wanted) = parted(&rt, row, " => ");
+        let details = change_details(alloc, tree_of(&rt, alloc, element));
+        let details = kept(&rt, alloc, details.ok().expect(&rt, "memory"));
+        let found = shown_previous(&rt, alloc, details.previous.as_ref());
+        assert!(rt; found == wanted, "at {element}: {found}");
+    }
+}
+
+/// Severities and summaries, in one row.
+fn shown_notes(rt: &impl Abort, alloc: Global, notes: &[Note]) -> &'static str {
+    let mut row = String::new(alloc);
+    for note in notes {
+        let severity = match note.severity {
+            Severity::Error => "error",
+            Severity::Warning => "warning",
+        };
+        let summary = note.diag.summary.as_str();
+        let written = write!(row, "{severity} {summary};");
+        written.ok().expect(rt, "memory");
+    }
+    kept(rt, alloc, row).as_str()
+}
+
+/// What is told beside one diagnostic of a script.
+fn told_beside(rt: &impl Abort, alloc: Global, plan: Option<PlanNote>) -> &'static str {
+    let own = PlanNote::Partial.note(alloc);
+    let mut script = Vec::new(alloc);
+    let pushed = script.push(own.ok().expect(rt, "memory"));
+    pushed.ok().expect(rt, "memory");
+    let notes = told_notes(alloc, plan, script);
+    let notes = kept(rt, alloc, notes.ok().expect(rt, "memory"));
+    shown_notes(rt, alloc, notes.as_slice())
+}
+
+#[test]
+fn diagnostics_of_a_script_come_first(rt: HostRuntime) {
+    let alloc = rt.alloc();
+    let one = "warning Applied changes may be incomplete;";
+    let both =
+        "warning Applied changes may be incomplete;warning Applied changes may be incomplete;";
+    assert!(rt; told_beside(&rt, alloc, None) == one);
+    assert!(rt; told_beside(&rt, alloc, Some(PlanNote::Partial)) == both);
+    let unfinished = told_beside(&rt, alloc, Some(PlanNote::Unfinished));
+    assert!(rt; unfinished == "error Cannot apply incomplete plan;");
+}

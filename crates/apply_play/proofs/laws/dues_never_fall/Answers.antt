@@ -1,5 +1,0 @@
-use Rattle.apply_play.proofs.Dues.{never_falls}
-use Rattle.apply_play.proofs.laws.dues_never_fall.Goals as goal
-
-pub returns : goal.returns
-returns c = never_falls

@@ -1,7 +1,0 @@
--- So many lines were played.
-use Rattle.std.specs.Io.Buffered.{reader_remaining}
-use Rattle.apply_play.proofs.Written.{Played}
-use Rattle.apply_play.proofs.playing.play.Given as goal
-
-abbrev pub invariant-lines : goal.invariant-lines
-invariant-lines g l = Played (reader_remaining g.R.Read.remaining l.initial.reader) (reader_remaining g.R.Read.remaining l.reader) l.before (g.W.Write.contents l.initial.output) (g.W.Write.contents l.output)

@@ -1,6 +1,0 @@
--- Nothing was written.
-use Rattle.std.specs.Io.KnownBytes.{Keeps}
-use Rattle.apply_play.proofs.timing.Timing.wait.Given as goal
-
-abbrev pub invariant-loop : goal.invariant-loop
-invariant-loop g l = Keeps (g.W.Write.contents l.initial.output) (g.W.Write.contents l.output)

@@ -1,0 +1,9 @@
+pub mod Left
+pub mod Marked
+pub mod NamedSteps
+pub mod Numbers
+pub mod Orders
+pub mod Rounds
+pub mod Searching
+pub mod Sets
+pub mod Stuck

@@ -1,0 +1,9 @@
+pub mod ChangeNumbers
+pub mod HashedId
+pub mod Marks
+pub mod NamedStep
+pub mod ObjectIds
+pub mod ObjectName
+pub mod Placed
+pub mod SeenObjects
+pub mod Stuck

@@ -1,5 +1,0 @@
-use Rattle.apply_shown.proofs.Longest.{front_of-IsUtf8, front_of-longest}
-use Rattle.apply_shown.proofs.laws.a_front_of_text_is_text.Goals as goal
-
-pub returns : goal.returns
-returns c = record { text = front_of-IsUtf8; longest = front_of-longest }

@@ -1,5 +1,0 @@
-//! Tests of `apply_shown`, in a crate of their own, so that its code is not proved again beside them.
-#![tactic(auto)]
-
-#[cfg(test)]
-mod tests;

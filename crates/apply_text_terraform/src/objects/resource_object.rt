@@ -1,0 +1,28 @@
+//! The object `resource` of a hook and of a planned change.
+
+ghost use Rattle.std.specs.Prelude.{codes};
+ghost use Rattle.apply_text_terraform.specs.Objects.{resource_object};
+ghost use Rattle.apply_text.specs.Sending.{Sends, member_tokens};
+
+use apply_model::Change;
+use apply_text::parts::{put_key, put_text};
+use json::Writer;
+use std::alloc::AllocError;
+
+/// Writes the member `resource`: the resource of a change.
+pub fn put_resource(out: &mut Writer, change: &Change) -> Result<(), AllocError>
+    ensures { Sends result out.old out.new
+        (member_tokens (codes "resource") (resource_object change.now)) }
+{
+    out.key("resource")?;
+    out.begin_object()?;
+    put_text(out, "addr", change.address())?;
+    put_text(out, "module", change.module())?;
+    put_text(out, "resource", change.resource())?;
+    put_text(out, "implied_provider", change.provider())?;
+    put_text(out, "resource_type", change.kind_name())?;
+    put_text(out, "resource_name", change.name())?;
+    out.key("resource_key")?;
+    put_key(out, change.key())?;
+    out.end_object()
+}

@@ -1,5 +1,0 @@
-use Rattle.apply_validate_laws.proofs.FormRuns.{refusals_in_form}
-use Rattle.apply_validate_laws.proofs.against_runs.findings_are_refusals_of_a_run_in_its_form.Goals as goal
-
-pub returns : goal.returns
-returns c = refusals_in_form

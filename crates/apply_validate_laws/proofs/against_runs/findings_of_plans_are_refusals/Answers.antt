@@ -1,5 +1,0 @@
-use Rattle.apply_validate_laws.proofs.Plans.{refusals_of_plan}
-use Rattle.apply_validate_laws.proofs.against_runs.findings_of_plans_are_refusals.Goals as goal
-
-pub returns : goal.returns
-returns c = refusals_of_plan

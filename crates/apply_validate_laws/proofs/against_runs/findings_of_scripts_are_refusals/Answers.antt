@@ -1,5 +1,0 @@
-use Rattle.apply_validate_laws.proofs.Scripts.{refusals_of_script}
-use Rattle.apply_validate_laws.proofs.against_runs.findings_of_scripts_are_refusals.Goals as goal
-
-pub returns : goal.returns
-returns c = refusals_of_script

@@ -1,5 +1,0 @@
-use Rattle.apply_validate_laws.proofs.BytesPlaced.{plan_placed, plan_unwarned}
-use Rattle.apply_validate_laws.proofs.findings_in_plans_are_placed.Goals as goal
-
-pub returns : goal.returns
-returns c = record { placed = plan_placed; refusals = plan_unwarned }

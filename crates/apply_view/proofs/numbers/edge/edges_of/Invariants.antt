@@ -1,7 +1,0 @@
-use Rattle.std.proofs.Common.{◌≡◌, ◌++◌, drop}
-use Rattle.apply_view.specs.Edges.{edges_of}
-use Rattle.apply_view.proofs.numbers.edge.edges_of.Given as goal
-
--- with those to come, all
-abbrev pub invariant-loop-interval : goal.invariant-loop-interval
-invariant-loop-interval l = l.edges.items ++ edges_of (drop l.interval-index l.intervals) ≡ edges_of l.intervals

@@ -1,4 +1,0 @@
-use Rattle.apply_view.proofs.numbers.running.Sweep.take.Goals as goal
-
-pub stretch-requires : goal.stretch-requires
-stretch-requires c = c.requires.ready c.in-Some.at c.in-Some.is c.if-at-edge.true

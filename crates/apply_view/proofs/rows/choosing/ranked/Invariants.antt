@@ -1,7 +1,0 @@
-use Rattle.std.proofs.Common.{◌≡◌, ◌++◌, drop}
-use Rattle.apply_view.specs.Rows.{candidates_from, candidates_of}
-use Rattle.apply_view.proofs.rows.choosing.ranked.Given as goal
-
--- with those to come, all
-abbrev pub invariant-loop-place : goal.invariant-loop-place
-invariant-loop-place l = l.candidates.items ++ candidates_from l.moments l.place (drop l.place l.steps) ≡ candidates_of l.moments l.steps

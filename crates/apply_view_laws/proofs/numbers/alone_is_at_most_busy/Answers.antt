@@ -1,5 +1,0 @@
-use Rattle.apply_view_laws.proofs.NumberLaws.{alone_le_busy}
-use Rattle.apply_view_laws.proofs.numbers.alone_is_at_most_busy.Goals as goal
-
-pub returns : goal.returns
-returns c = alone_le_busy

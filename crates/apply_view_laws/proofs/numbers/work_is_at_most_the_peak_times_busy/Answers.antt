@@ -1,5 +1,0 @@
-use Rattle.apply_view_laws.proofs.NumberLaws.{work_le}
-use Rattle.apply_view_laws.proofs.numbers.work_is_at_most_the_peak_times_busy.Goals as goal
-
-pub returns : goal.returns
-returns c = work_le

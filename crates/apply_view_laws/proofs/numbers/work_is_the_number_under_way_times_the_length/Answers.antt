@@ -1,5 +1,0 @@
-use Rattle.apply_view_laws.proofs.NumberLaws.{work_is}
-use Rattle.apply_view_laws.proofs.numbers.work_is_the_number_under_way_times_the_length.Goals as goal
-
-pub returns : goal.returns
-returns c = work_is

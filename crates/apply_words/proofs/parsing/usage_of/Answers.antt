@@ -1,4 +1,0 @@
-use Rattle.apply_words.proofs.parsing.usage_of.Goals as goal
-
-pub returns-then-eq : goal.returns-then-eq
-returns-then-eq c = tt

@@ -1,0 +1,22 @@
+use Rattle.std.proofs.Common.{◌≡◌, ◌∷◌, [], true, is_some, rules, subst}
+use Rattle.std.specs.Prelude.{IfOk}
+use Rattle.serde_json.specs.Find.{as_object}
+use Rattle.serde_json.specs.View.{view}
+use Rattle.input_validate.specs.declared.walks.mark.Mark.{Mark}
+use Rattle.input_validate.specs.Findings.{told}
+use Rattle.input_validate.specs.ScriptFindings.{in_provisioner}
+use Rattle.input_validate.specs.Walks.{marked}
+use Rattle.input_validate.proofs.script.provisioner.ProvisionerWalk.walk.Goals as goal
+
+pub returns : goal.returns
+unfolding in_provisioner
+returns c =
+    let there : is_some (as_object (view c.args.value.now)) ≡ true = search (rules, c.suits, c.if-not-suits) in
+    rw there
+    (c.joined.ensures _ _
+    (c.joined-all-3.ensures _ _
+    (c.joined-all-2.ensures _ _
+    (c.joined-all.ensures _ _ c.faults-all.ensures c.walk_list.ensures)
+    (subst (λ (it : Mark). IfOk c.walk_marks.result (λ f. f ≡ told (marked (it ∷ [])))) c.mark.ensures c.walk_marks.ensures))
+    c.walk_inside.ensures)
+    c.walk_unread.ensures)

@@ -1,0 +1,21 @@
+-- What is found for a run in a form.
+use Rattle.std.specs.Prelude.{ℕ, List, [], ◌++◌, Bool, Option, Some, None}
+use Rattle.std.specs.List.{list_any}
+use Rattle.apply_plan.specs.Plan.SavedPlan.{plan_of}
+use Rattle.input_validate.specs.declared.findings.finding.Finding.{Finding}
+use Rattle.input_validate.specs.declared.form.Form.{Form}
+use Rattle.input_validate.specs.declared.form.Form.TheVariants.{Applystream, Terraform}
+use Rattle.input_validate.specs.Extras.{extras_findings, outputs_unless}
+use Rattle.input_validate.specs.Findings.{is_refusal}
+use Rattle.input_validate.specs.Whole.{given_findings, plan_findings}
+
+-- what is found of what only a run in that form reads, in a script for a plan that may be refused
+abbrev pub extras_for : Form → (refused : Bool) → List ℕ → Option (List ℕ) → List Finding
+extras_for Applystream refused plan script = []
+extras_for Terraform refused plan None = []
+extras_for Terraform refused plan (Some bytes) = extras_findings (outputs_unless refused plan) bytes
+
+-- what is found in a script for a plan, both as bytes
+abbrev pub findings_in : Form → (lanes : Bool) → List ℕ → Option (List ℕ) → List Finding
+findings_in form lanes plan script =
+    given_findings lanes (plan_of plan) script ++ extras_for form (list_any is_refusal (plan_findings plan)) plan script

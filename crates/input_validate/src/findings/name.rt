@@ -1,0 +1,91 @@
+//! Members that a run looks at.
+
+ghost use Rattle.std.specs.Prelude.{◌≡◌};
+ghost use Rattle.input_validate.specs.Names.{name_text};
+
+/// A member of a plan or of a script that a run looks at, or that `validate` knows.
+#[derive(Clone, Copy, Debug)]
+pub enum Name {
+    Actions,
+    Address,
+    After,
+    Change,
+    Changes,
+    Deposed,
+    Detail,
+    Diagnostics,
+    Failed,
+    FormatVersion,
+    Id,
+    Index,
+    Kind,
+    Mode,
+    ModuleAddress,
+    Name,
+    OnFailure,
+    Output,
+    Outputs,
+    Provisioner,
+    Provisioners,
+    Range,
+    ResourceChanges,
+    Schema,
+    Seconds,
+    Sensitive,
+    Severity,
+    Skipped,
+    Snippet,
+    Step,
+    Steps,
+    Summary,
+    TerraformVersion,
+    Text,
+    Value,
+    Warning,
+}
+
+impl Name {
+    /// The name as JSON has it.
+    pub fn text(self) -> &'static str
+        ensures { result.now ≡ name_text self }
+    {
+        match self {
+            Name::Actions => "actions",
+            Name::Address => "address",
+            Name::After => "after",
+            Name::Change => "change",
+            Name::Changes => "changes",
+            Name::Deposed => "deposed",
+            Name::Detail => "detail",
+            Name::Diagnostics => "diagnostics",
+            Name::Failed => "failed",
+            Name::FormatVersion => "format_version",
+            Name::Id => "id",
+            Name::Index => "index",
+            Name::Kind => "type",
+            Name::Mode => "mode",
+            Name::ModuleAddress => "module_address",
+            Name::Name => "name",
+            Name::OnFailure => "on_failure",
+            Name::Output => "output",
+            Name::Outputs => "outputs",
+            Name::Provisioner => "provisioner",
+            Name::Provisioners => "provisioners",
+            Name::Range => "range",
+            Name::ResourceChanges => "resource_changes",
+            Name::Schema => "$schema",
+            Name::Seconds => "seconds",
+            Name::Sensitive => "sensitive",
+            Name::Severity => "severity",
+            Name::Skipped => "skipped",
+            Name::Snippet => "snippet",
+            Name::Step => "step",
+            Name::Steps => "steps",
+            Name::Summary => "summary",
+            Name::TerraformVersion => "terraform_version",
+            Name::Text => "text",
+            Name::Value => "value",
+            Name::Warning => "warning",
+        }
+    }
+}

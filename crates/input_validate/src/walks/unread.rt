@@ -1,0 +1,77 @@
+//! Members that no run reads.
+
+ghost use Rattle.std.specs.Prelude.{◌≡◌, IfOk, map};
+ghost use Rattle.serde_json.specs.View.{members_view, view};
+ghost use Rattle.apply_json.specs.Seen.{members_in};
+ghost use Rattle.input_validate.specs.Findings.{told};
+ghost use Rattle.input_validate.specs.Walks.{is_known, texts_in, unless_known, unread, unread_from};
+
+use crate::findings::list::Findings;
+use crate::findings::name::Name;
+use crate::findings::part::Part;
+use crate::findings::what::What;
+use serde_json::{Map, Value};
+use std::alloc::{AllocError, Global};
+
+/// Whether the text is one of these names.
+fn is_known(names: &[Name], text: &str) -> bool
+    ensures { result ≡ is_known names.now text.now }
+{
+    names.iter().any(|name| name.text() == text)
+}
+
+/// The members of an object that have none of these names.
+pub fn walk_unread(alloc: Global, value: &Value, names: &[Name]) -> Result<Findings, AllocError>
+    ensures { IfOk result (λ f. f ≡ told (unread names.now (view value.now))) }
+{
+    let texts = texts_in(alloc, value)?;
+    walk_texts(alloc, &texts, names)
+}
+
+/// The members with these names, of which the first has the number 0.
+fn walk_texts(alloc: Global, texts: &[&str], names: &[Name]) -> Result<Findings, AllocError>
+    ensures { IfOk result (λ f. f ≡ told (unread_from names.now 0 (map (λ text. text.now) texts.now))) }
+{
+    let mut all = Findings::none(alloc);
+    for (number, text) in texts.iter().enumerate() {
+        all = all.then(unless_known(alloc, names, number, text)?)?;
+    }
+    Ok(all)
+}
+
+/// The names of the members of an object; any other value has none.
+fn texts_in(alloc: Global, value: &Value) -> Result<Vec<&str>, AllocError>
+    ensures { IfOk result (λ texts. map (λ text. text.now) texts.items ≡ texts_in (members_in (view value.now))) }
+{
+    match value.as_object() {
+        Some(members) => texts_of(alloc, members),
+        None => Ok(Vec::new(alloc)),
+    }
+}
+
+/// The names of members.
+fn texts_of(alloc: Global, members: &Map<String, Value>) -> Result<Vec<&str>, AllocError>
+    ensures { IfOk result (λ texts. map (λ text. text.now) texts.items ≡ texts_in (members_view members.now.entries)) }
+{
+    let mut texts = Vec::new(alloc);
+    for (name, _) in members {
+        texts.push(name.as_str())?;
+    }
+    Ok(texts)
+}
+
+/// Whether a member of that number has none of these names.
+fn unless_known(
+    alloc: Global,
+    names: &[Name],
+    number: usize,
+    text: &str,
+) -> Result<Findings, AllocError>
+    ensures { IfOk result (λ f. f ≡ told (unless_known names.now number text.now)) }
+{
+    if is_known(names, text) {
+        Ok(Findings::none(alloc))
+    } else {
+        Findings::at(alloc, Part::Other(number), What::NotRead)
+    }
+}

@@ -1,0 +1,18 @@
+use Rattle.std.proofs.Common.{◌≡◌, ◌∙◌, ap, codes, true}
+use Rattle.std.proofs.lemmas.Result.{IfOk-weaker}
+use Rattle.clap.specs.Simple.{App, app_of, app_of_fields, new_app, on_top}
+use Rattle.input_validate_cli.proofs.command.arguments.command.Goals as goal
+
+-- the command before its options, whose words are those behind `validate`
+abbrev no_options : App
+no_options = on_top (λ shape. record shape { no_binary_name = true }) (new_app (codes "applystream validate"))
+
+pub returns : goal.returns
+returns c =
+    let none : app_of c.after_help.result ≡ no_options =
+    ap app_of_fields c.after_help.ensures ∙ ap app_of_fields c.about.ensures ∙ ap app_of_fields c.no_binary_name.ensures
+    ∙ ap (on_top (λ shape. record shape { no_binary_name = true })) c.new.ensures.app in
+    let script = c.with_option-line.ensures no_options _ none c.script.ensures.0 c.script.ensures.1 in
+    let parallelism = c.with_option-line-2.ensures _ _ script c.parallelism.ensures.0 c.parallelism.ensures.1 in
+    let forms = c.form.ensures in
+    IfOk-weaker c.with_option.result _ _ (λ command is. (forms.0, forms.1, is)) (c.with_option.ensures _ _ parallelism forms.2 forms.3)

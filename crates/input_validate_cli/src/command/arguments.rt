@@ -1,0 +1,146 @@
+//! The words of the command line.
+
+ghost use Rattle.std.specs.Prelude.{◌≡◌, IfOk, IfErr, false, codes, is_some, map, option_map, string_bytes};
+ghost use Rattle.clap.specs.Matches.{found_of};
+ghost use Rattle.clap.specs.Simple.{app_of};
+ghost use Rattle.clap.specs.Walk.{first_of, rows_of, rule_of};
+ghost use Rattle.input_validate_cli.specs.CommandLine.{AreSaid, HaveSaid, SayNoSettings, TakesForms, command_line, form_of_word, form_rule, form_said, parallelism_rule, script_rule};
+
+use crate::command::settings::Settings;
+use clap::{Arg, ArgMatches, Command, value_parser};
+use input_validate::Form;
+use std::alloc::{AllocError, Global};
+use stream_tool::{Usage, matches_of, with_option};
+
+/// The forms of a stream, as words.
+static FORMS: [&str; 2] = ["applystream", "terraform"];
+
+const ABOUT: &str =
+    "Lists every error of a plan and a script at once, each with its place in the syntax of jq.
+
+Standard input: the plan, as `terraform show -json` prints it.
+Standard output: the findings, one a line, the first 1,000 of them; or that both are accepted.
+Standard error: why nothing was validated.";
+
+const AFTER: &str = r#"Example:
+  applystream validate --script script.json < plan.json
+
+Exit status:
+  0  nothing was found; or help was printed
+  1  only warnings: members of the script that no run reads
+  2  a run with these options refuses the plan or the script; or wrong options, or a file or a plan that can't be read
+  3  out of memory, or the output could not be written"#;
+
+/// The settings that the words behind `validate` say. `Err` with `Usage::Help` where they ask for help, with `Usage::Words`
+/// where they are none of this command, and with `Usage::Memory` where memory is refused.
+pub fn read_words(alloc: Global, words: &[String]) -> Result<Settings, Usage>
+    ensures said { IfOk result (HaveSaid (map string_bytes words.now)) }
+    ensures refused { IfErr result (SayNoSettings (map string_bytes words.now)) }
+{
+    let command = command(alloc)?;
+    match matches_of(alloc, command, words) {
+        Ok(matches) => Ok(settings_of(alloc, &matches)?),
+        Err(usage) => Err(usage),
+    }
+}
+
+/// The options, and their help.
+fn command<'a>(alloc: Global) -> Result<Command<'a>, AllocError>
+    ensures { IfOk result (λ command. (forms : _) × TakesForms forms × (app_of command ≡ command_line forms)) }
+{
+    let line = Ok(
+        Command::new(alloc, "applystream validate")
+            .no_binary_name(true)
+            .about(ABOUT)
+            .after_help(AFTER),
+    );
+    let line = with_option(line, script(alloc));
+    let line = with_option(line, parallelism(alloc));
+    with_option(line, form(alloc))
+}
+
+fn script<'a>(alloc: Global) -> Arg<'a>
+    ensures { (rule_of result ≡ script_rule) × (result.global ≡ false) }
+{
+    Arg::new(alloc, "script")
+        .long("script")
+        .value_name("FILE")
+        .help("The script to validate with the plan")
+}
+
+fn parallelism<'a>(alloc: Global) -> Arg<'a>
+    ensures { (rule_of result ≡ parallelism_rule) × (result.global ≡ false) }
+{
+    Arg::new(alloc, "parallelism")
+        .long("parallelism")
+        .value_name("N")
+        .value_parser(value_parser!(u8).range(1..=64))
+        .help(
+            "Validate for a run with --parallelism N, 1 to 64. Without it no step of a script may wait for others",
+        )
+}
+
+fn form<'a>(alloc: Global) -> Arg<'a>
+    ensures { (forms : _) × TakesForms forms × (rule_of result ≡ form_rule forms) × (result.global ≡ false) }
+{
+    Arg::new(alloc, "form")
+        .long("form")
+        .value_name("FORM")
+        .value_parser(FORMS.as_slice())
+        .default_value("applystream")
+        .help(
+            "Validate for a run with this form: terraform also reads `outputs` and `diagnostics` at the top of the script",
+        )
+}
+
+/// What the matches say.
+fn settings_of(alloc: Global, matches: &ArgMatches<'_>) -> Result<Settings, AllocError>
+    ensures { IfOk result (AreSaid (rows_of (found_of matches.now))) }
+{
+    let script = script_of(alloc, matches)?;
+    Ok(Settings {
+        script,
+        lanes: has_parallelism(matches),
+        form: form_of(matches),
+    })
+}
+
+/// The file of the script, where one is named.
+fn script_of(alloc: Global, matches: &ArgMatches<'_>) -> Result<Option<String>, AllocError>
+    ensures { IfOk result (λ script. option_map string_bytes script ≡ first_of (codes "script") (rows_of (found_of matches.now))) }
+{
+    match matches.get_str("script") {
+        Some(file) => Ok(Some(String::from_str(alloc, file)?)),
+        None => Ok(None),
+    }
+}
+
+/// Whether a parallelism is given.
+fn has_parallelism(matches: &ArgMatches<'_>) -> bool
+    ensures { result ≡ is_some (first_of (codes "parallelism") (rows_of (found_of matches.now))) }
+{
+    match matches.get_str("parallelism") {
+        Some(_) => true,
+        None => false,
+    }
+}
+
+/// The form that is said, and else the program's own.
+fn form_of(matches: &ArgMatches<'_>) -> Form
+    ensures { result ≡ form_said (rows_of (found_of matches.now)) }
+{
+    match matches.get_str("form") {
+        Some(word) => form_named(word),
+        None => Form::Applystream,
+    }
+}
+
+/// The form that a word says. The parser takes two words.
+fn form_named(word: &str) -> Form
+    ensures { result ≡ form_of_word word.now }
+{
+    match word {
+        "terraform" => Form::Terraform,
+        _ => Form::Applystream,
+    }
+}

@@ -1,0 +1,125 @@
+//! The bytes of a plan and of a script.
+
+ghost use Rattle.std.specs.Prelude.{◌≡◌, ◌<◌, ◌≤◌, ◌+◌, ◌++◌, ℕ, List, IfOk, IfSome, length, take};
+ghost use Rattle.std.specs.Io.KnownBytes.{Consumes, IsAtEnd};
+ghost use Rattle.input_validate_cli.specs.Validated.{IsReadOf};
+
+use crate::command::failed_read::{FailedRead, read_once};
+use crate::command::read_input::ReadInput;
+use apply_plan::MAX_BYTES;
+use std::alloc::{AllocError, AllocFailed, Global};
+use std::io::Read;
+
+/// One byte more than an input may have, so that a longer one is seen to be too long.
+const MAX_READ: usize = MAX_BYTES + 1;
+
+/// How many bytes are asked for at once.
+const BUFFER_LEN: usize = 65_536;
+
+/// Why an input was not read.
+#[derive(Clone, Copy)]
+pub enum ReadFault {
+    /// A read failed.
+    Unread(FailedRead),
+    /// Memory was refused.
+    Memory,
+}
+
+impl From<FailedRead> for ReadFault {
+    fn from(failed: FailedRead) -> ReadFault {
+        ReadFault::Unread(failed)
+    }
+}
+
+impl From<AllocError> for ReadFault {
+    fn from(_refused: AllocError) -> ReadFault {
+        ReadFault::Memory
+    }
+}
+
+impl<T: Drop> From<AllocFailed<T>> for ReadFault {
+    fn from(_refused: AllocFailed<T>) -> ReadFault {
+        ReadFault::Memory
+    }
+}
+
+/// Why the script was not read.
+#[derive(Clone, Copy)]
+pub enum ScriptFault {
+    /// Its file could not be opened.
+    Unopened,
+    /// It could not be read.
+    Unread(ReadFault),
+}
+
+/// The bytes of an input up to its end, and no more than one more than it may have. `Err` with `ReadFault::Unread` where a read
+/// fails, and with `ReadFault::Memory` where memory is refused.
+pub fn read_all<R: Read>(alloc: Global, input: &mut R) -> Result<ReadInput, ReadFault>
+    ensures { IfOk result (λ read. IsReadOf (R.remaining input.old) read.bytes.items) }
+{
+    let mut buffer = zeros(alloc, BUFFER_LEN)?;
+    let bytes = read_front(alloc, input, &mut buffer, MAX_READ)?;
+    let mut len = bytes.len() as u64;
+    if bytes.len() == MAX_READ {
+        len = len.saturating_add(count_rest(input, &mut buffer)?);
+    }
+    Ok(ReadInput { bytes, len })
+}
+
+/// How many bytes an input has left, which are read through the buffer.
+fn count_rest<R: Read>(input: &mut R, buffer: &mut [u8]) -> Result<u64, FailedRead> {
+    let mut len = 0u64;
+    for _ in 0..u64::MAX {
+        match read_once(input, buffer)? {
+            0 => return Ok(len),
+            count => len = len.saturating_add(count as u64),
+        }
+    }
+    Ok(len)
+}
+
+/// So many zeros.
+fn zeros(alloc: Global, count: usize) -> Result<Vec<u8>, AllocError>
+    ensures { IfOk result (λ zeros. length zeros.items ≡ count) }
+{
+    vec![in alloc; 0u8; count]
+}
+
+/// The first bytes of the input, up to the limit, read through the buffer.
+fn read_front<R: Read>(
+    alloc: Global,
+    input: &mut R,
+    buffer: &mut [u8],
+    limit: usize,
+) -> Result<Vec<u8>, ReadFault>
+    requires { 0 < length buffer.old }
+    ensures { IfOk result (λ bytes. IfSome (R.remaining input.old) (λ all. bytes.items ≡ take limit all)) }
+{
+    let mut bytes = Vec::new(alloc);
+    while bytes.len() < limit {
+        let room = buffer.len().min(limit - bytes.len());
+        if read_some(input, &mut buffer[..room], &mut bytes)? == 0 {
+            break;
+        }
+    }
+    Ok(bytes)
+}
+
+/// Appends what one read gives, and says how many bytes that were: none at the end.
+fn read_some<R: Read>(
+    input: &mut R,
+    buffer: &mut [u8],
+    bytes: &mut Vec<u8>,
+) -> Result<usize, ReadFault>
+    requires { 0 < length buffer.old }
+    ensures { IfOk result (λ count. (piece : List ℕ)
+        × (bytes.new.items ≡ bytes.old.items ++ piece)
+        × (length piece ≡ count)
+        × (count ≤ length buffer.old)
+        × Consumes (R.remaining input.old) (R.remaining input.new) piece
+        × (count ≡ 0 → IsAtEnd (R.remaining input.new))) }
+{
+    let count = read_once(input, buffer)?;
+    bytes.extend_from_slice(&buffer[..count])?;
+    Ok(count)
+}

@@ -1,0 +1,60 @@
+//! Why what is found was not told.
+
+ghost use Rattle.std.specs.Prelude.{◌≡◌};
+ghost use Rattle.input_validate_cli.specs.Causes.{plan_fault, script_fault};
+ghost use Rattle.input_validate_cli.specs.declared.command.validate_fault.ValidateFault.TheVariants.{Memory};
+
+use crate::command::failed_read::FailedRead;
+use crate::command::inputs::ReadFault;
+use std::alloc::AllocError;
+use thiserror::Error;
+
+/// Why what is found in a plan and in a script was not told.
+#[derive(Clone, Copy, Debug, Drop, Error)]
+pub enum ValidateFault {
+    /// A read of the plan failed: nothing was written.
+    #[error("the plan could not be read")]
+    Plan(FailedRead),
+    /// A read of the script's file failed: nothing was written.
+    #[error("the script file could not be read")]
+    Script(FailedRead),
+    /// Memory was refused: nothing was written.
+    #[error("out of memory")]
+    Memory,
+    /// A write or a flush failed since the reader of the output is gone, as the writer's error says.
+    #[error("the output could not be written")]
+    Gone,
+    /// A write or a flush failed for another reason.
+    #[error("the output could not be written")]
+    Unwritten,
+}
+
+impl ValidateFault {
+    /// Why the plan was not read.
+    pub(crate) fn of_plan(fault: ReadFault) -> ValidateFault
+        ensures { result ≡ plan_fault fault }
+    {
+        match fault {
+            ReadFault::Unread(failed) => ValidateFault::Plan(failed),
+            ReadFault::Memory => ValidateFault::Memory,
+        }
+    }
+
+    /// Why the script was not read.
+    pub(crate) fn of_script(fault: ReadFault) -> ValidateFault
+        ensures { result ≡ script_fault fault }
+    {
+        match fault {
+            ReadFault::Unread(failed) => ValidateFault::Script(failed),
+            ReadFault::Memory => ValidateFault::Memory,
+        }
+    }
+}
+
+impl From<AllocError> for ValidateFault {
+    ghost from_gives = { λ _ fault. fault ≡ Memory };
+
+    fn from(_refused: AllocError) -> ValidateFault {
+        ValidateFault::Memory
+    }
+}

@@ -1,0 +1,336 @@
+-- The verdict on a whole stream in Terraform's form.
+use Rattle.std.proofs.Common.{◌≡◌, ◌≢◌, ℕ, ◌<◌, ◌≤◌, List, [], ◌∷◌, ◌++◌, append_assoc, cond, count_by, filter, flat_map, length, length-append, map, suc, Bool, true, false, Option, Some, None, Result, Ok, is_some, refl, sym, ap, ap₂, ◌∙◌, subst, arith, le-ltb}
+use Rattle.std.specs.Prelude.{◌&&◌, ◌||◌, nat_lt, not}
+use Rattle.std.specs.List.{enumerate_from, list_any}
+use Rattle.std.proofs.Math.Bool.{and-false, or-true}
+use Rattle.std.proofs.lemmas.Bool.{or_parts}
+use Rattle.std.proofs.lemmas.Grind.{flat_map-append}
+use Rattle.std.proofs.lemmas.List.Sums.{sum_by-append, sum_by-cons}
+use Rattle.apply_model.specs.declared.details.note.Note.{Note}
+use Rattle.stream_check.specs.declared.messages.action.Action.{Action}
+use Rattle.stream_check.specs.declared.messages.action.Action.TheVariants.{Create, Update, Delete, Read, Refresh}
+use Rattle.stream_check.specs.declared.messages.totals.Totals.{Totals}
+use Rattle.stream_check.specs.declared.rules.fault.Fault.{Fault}
+use Rattle.stream_check.specs.declared.rules.pending.Pending.{Pending}
+use Rattle.stream_check.specs.declared.verdict.whole.Whole.{Whole}
+use Rattle.stream_check.specs.Lines.{end_of, is_plan_stream, next}
+use Rattle.stream_check.specs.Message.{Message, diagnostic, outputs, summary, version}
+use Rattle.stream_check.specs.Open.{any_open, refreshes_matter, stands_open}
+use Rattle.stream_check.specs.Results.{◌>>=◌}
+use Rattle.stream_check.specs.Standing.{pending_at, standing_of}
+use Rattle.stream_check.specs.Tally.{begun_totals, completed_totals, completes, failures_left, failures_stand, is_error, is_error_alone, is_plan_summary, is_summary, is_version, line_of, no_totals, same_totals}
+use Rattle.stream_check.proofs.Counting.{same_counts, uncounted}
+use Rattle.stream_check.proofs.OpenSteps.{not_any_open}
+use Rattle.apply_events.specs.declared.event.Event.{Event}
+use Rattle.apply_events.specs.Diagnostics.{is_note}
+use Rattle.apply_events.specs.Step.{Work, address_of}
+use Rattle.apply_events.specs.Totals.{is_errored, totals_of}
+use Rattle.apply_text.specs.declared.operation.Operation.{Operation}
+use Rattle.apply_text.specs.declared.operation.Operation.TheVariants.{Apply, Destroy}
+use Rattle.apply_text.specs.Order.{as_written, hook_messages_of, notes_of}
+use Rattle.apply_writer.specs.Stream.Terraform.{Besides, tells_error}
+use Rattle.apply_writer.specs.Stream.Terraform as form
+use Rattle.laws_check.specs.Accepted.{totals_said}
+use Rattle.laws_check.specs.Passing.{plain, verdict_on, with_all}
+use Rattle.laws_check.specs.Plans.{ChangesAreWhole, IsOrdinary, ProvisionsCreates, WarnsOfReads}
+use Rattle.laws_check.specs.Told.{all_told}
+use Rattle.laws_check.specs.ToldInForm.{form_told, outputs_told, planned_told_at, told_at_end, told_before_end, told_of_event, told_of_note, whole_in_form}
+use Rattle.laws_check.specs.WholeSteps.{IsOfWholeSteps}
+use Rattle.laws_check.proofs.Errors.{IsPlanned, any_both, any_counted, as_many_noted, errors_told, few_fail, is_error_note}
+use Rattle.laws_check.proofs.FormFailures.{AllStand, AreDiagnostics, all_named, all_stand, anywhere, at_version, diagnostics_both, diagnostics_keep, fails_where, first_accepted, left_at_end, lines_keep, names, no_error_names, none_told, not_named, nowhere}
+use Rattle.laws_check.proofs.FormMatches.{AreAlike}
+use Rattle.laws_check.proofs.FormPendings.{Matches}
+use Rattle.laws_check.proofs.FormTold.{all_alone, all_fail, completed_as_told, errors_as_told, hooks_are_fine, notes_are_diagnostics}
+use Rattle.laws_check.proofs.FormWhole.{AreIntents, all_intents, none_planned, taken}
+use Rattle.laws_check.proofs.Ordinary.{Anywhere, Does, Provides}
+use Rattle.laws_check.proofs.Parts.{Each, each_weaker, each_written}
+use Rattle.laws_check.proofs.Standings.{next_behind}
+use Rattle.laws_check.proofs.Tallies.{are_planned, count_written, is_within, same_whole, totals_written, whole_steps_run}
+use Rattle.laws_check.proofs.Turning.{Runs, behind, behind_both, joined}
+use Rattle.laws_check.proofs.Whole.{any_behind, closed_but, counts_behind, length_behind, next_summary, none_stands, summed_up, whole_end}
+
+-- ---- the end
+
+-- where nothing but reads stands open, and no failure
+closes : (ms : List Message) → ((k : Action) → k ≢ Read → (a : List ℕ) → pending_at k (standing_of a ms) ≡ None) → failures_stand ms ≡ false → any_open ms ≡ false
+closes ms none stand =
+    not_any_open ms (λ a.
+    ap (λ (f : Bool). stands_open (refreshes_matter ms) f (standing_of a ms)) stand
+    ∙ closed_but (refreshes_matter ms) (standing_of a ms) (none Create (λ e. absurd cc) a) (none Update (λ e. absurd cc) a) (none Delete (λ e. absurd cc) a) (none Refresh (λ e. absurd cc) a))
+
+-- a message that tells of no failure, and no error
+still_stand : (m : Message) (ms : List Message) → is_error_alone m ≡ false → failures_left (m ∷ ms) ≡ failures_left ms → failures_stand (m ∷ ms) ≡ failures_stand ms
+still_stand m ms fine same =
+    let all = sum_by-cons (λ x. cond (is_error_alone x) 1 0) m ms in
+    let here : cond {A = ℕ} (is_error_alone m) 1 0 ≡ 0 = ap (λ (b : Bool). cond b 1 0) fine in
+    let count : count_by is_error_alone (m ∷ ms) ≡ count_by is_error_alone ms = omega arith in
+    ap₂ (λ (a b : ℕ). nat_lt a b) count same
+
+-- how messages end, behind others
+record EndSo (ms end : List Message) : Type 0 where
+  accepted : with_all ms end ≡ Ok (behind ms end)
+  closed : any_open (behind ms end) ≡ false
+  no_plan : is_plan_stream (behind ms end) ≡ false
+  ends : (list_any is_summary (behind ms end) || list_any is_error (behind ms end)) ≡ true
+  totals : completed_totals (behind ms end) ≡ completed_totals ms
+  errors : list_any is_error (behind ms end) ≡ list_any is_error ms
+
+-- what stands open, and what was told
+record MayEnd (ms : List Message) : Type 0 where
+  begun : is_some (line_of is_version ms) ≡ true
+  unsummed : line_of is_summary ms ≡ None
+  unforeseen : line_of is_plan_summary ms ≡ None
+  pending : (k : Action) → k ≢ Read → (a : List ℕ) → pending_at k (standing_of a ms) ≡ None
+  stand : failures_stand ms ≡ false
+
+-- with an error alone
+with_error : (ms : List Message) → MayEnd ms → list_any is_error ms ≡ true → EndSo ms []
+with_error ms sound error = record {
+  accepted = refl;
+  closed = closes ms sound.pending sound.stand;
+  no_plan = ap (λ (o : Option ℕ). is_some o && (not (is_some (line_of is_summary ms)) && same_totals (begun_totals ms) no_totals)) sound.unforeseen;
+  ends = ap (λ (b : Bool). list_any is_summary ms || b) error ∙ or-true (list_any is_summary ms);
+  totals = refl;
+  errors = refl;
+}
+
+-- with the summary, and the outputs of an apply
+summed : (operation : Operation) (t : Totals) (ms : List Message) → MayEnd ms → t ≡ completed_totals ms → EndSo ms (summary t ∷ outputs_told operation)
+unfolding standing_of failures_left
+summed operation t ms sound same = of_operation operation
+  where
+    first : next ms (summary t) ≡ Ok (summary t ∷ ms)
+    first = next_summary t ms sound.begun sound.unsummed (closes ms sound.pending sound.stand) same
+
+    of_operation : (operation : Operation) → EndSo ms (summary t ∷ outputs_told operation)
+    of_operation Destroy = record {
+      accepted = ap (λ (r : Result (List Message) Fault). r >>= λ now. with_all now []) first;
+      closed = closes (summary t ∷ ms) sound.pending (still_stand (summary t) ms refl refl ∙ sound.stand);
+      no_plan = summed_up t ms;
+      ends = refl;
+      totals = sym (uncounted (summary t) ms refl refl refl);
+      errors = refl;
+    }
+    of_operation Apply = record {
+      accepted =
+          ap (λ (r : Result (List Message) Fault). r >>= λ now. with_all now (outputs ∷ [])) first
+          ∙ ap (λ (r : Result (List Message) Fault). r >>= λ now. with_all now []) (next_behind (summary t ∷ ms) outputs sound.begun (λ line. refl));
+      closed = closes (outputs ∷ summary t ∷ ms) sound.pending (still_stand outputs (summary t ∷ ms) refl refl ∙ still_stand (summary t) ms refl refl ∙ sound.stand);
+      no_plan = and-false (is_some (line_of is_plan_summary ms));
+      ends = refl;
+      totals = sym (uncounted (summary t) ms refl refl refl ∙ uncounted outputs (summary t ∷ ms) refl refl refl);
+      errors = refl;
+    }
+
+-- ---- parts of the messages
+
+notes_tell : (notes : List Note) → AreDiagnostics (map told_of_note notes)
+notes_tell [] = tt
+notes_tell (note ∷ notes) = ((form.is_error note, note.address, refl), notes_tell notes)
+
+notes_err : (notes : List Note) → list_any is_error (map told_of_note notes) ≡ list_any form.is_error notes
+notes_err [] = refl
+notes_err (note ∷ notes) = ap (λ (b : Bool). form.is_error note || b) (notes_err notes)
+
+none_counted : {X : Type 0} (q : X → Bool) (xs : List X) → count_by q xs ≡ 0 → list_any q xs ≡ false
+none_counted q xs none = any_counted q xs ∙ ap (nat_lt 0) none
+
+none_too : (k : Action) → k ≢ Read → (p q : Option Pending) → Matches k p q → p ≡ None → q ≡ None
+none_too k other (Some p) q h e = absurd cc
+none_too k other None None h e = refl
+none_too Create other None (Some q) h e = absurd h
+none_too Update other None (Some q) h e = absurd h
+none_too Delete other None (Some q) h e = absurd h
+none_too Refresh other None (Some q) h e = absurd h
+none_too Read other None (Some q) h e = absurd (other refl)
+
+not_true : (b : Bool) → not b ≡ true → b ≡ false
+not_true true e = absurd cc
+not_true false e = refl
+
+-- what a test keeps passes it
+each_kept : (t : Event → Bool) (es : List Event) → Each (λ e. t e ≡ true) (filter t es)
+each_kept t [] = tt
+each_kept t (e ∷ es) = at (each_kept t es) (t e) refl
+  where
+    at : Each (λ e. t e ≡ true) (filter t es) → (b : Bool) → t e ≡ b → Each (λ e. t e ≡ true) (cond b (e ∷ filter t es) (filter t es))
+    at rest true is = (is, rest)
+    at rest false is = rest
+
+hooks_kept : (es : List Event) → Each (λ e. is_note e.what ≡ false) (hook_messages_of es)
+hooks_kept es = each_weaker (λ e. not (is_note e.what) ≡ true) (λ e. is_note e.what ≡ false) (λ e is. not_true (is_note e.what) is) (hook_messages_of es) (each_kept (λ e. not (is_note e.what)) es)
+
+-- ---- all of it
+
+module _ (work : Work) (besides : Besides) (events : List Event) (ordinary : IsOrdinary work.plan) (whole : ChangesAreWhole work.plan) (as_many : length besides.details ≡ length work.plan.changes)
+    (provisioned : ProvisionsCreates work.plan work.script) (reads : WarnsOfReads work.plan work.script) (steps : IsOfWholeSteps work events) where
+  abbrev ps : List Message
+  ps = flat_map (planned_told_at besides.details) (enumerate_from 0 work.plan.changes)
+
+  abbrev hooks : List Message
+  hooks = flat_map (told_of_event work.plan work.script) (hook_messages_of events)
+
+  abbrev notes : List Message
+  notes = flat_map (told_of_event work.plan work.script) (notes_of events)
+
+  abbrev happened : List Message
+  happened = flat_map (told_of_event work.plan work.script) (as_written events)
+
+  abbrev loose : List Message
+  loose = map told_of_note besides.notes
+
+  abbrev front : List Message
+  front = told_before_end work.plan work.script besides events
+
+  planned_events : Each (IsPlanned work.plan) events
+  planned_events = are_planned work.plan events steps.planned
+
+  within : Each (λ e. e.change < length work.plan.changes) events
+  within = each_weaker (IsPlanned work.plan) (λ e. e.change < length work.plan.changes) (is_within work.plan) events planned_events
+
+  runs : Runs (length work.plan.changes) (address_of work.plan) Anywhere (Does work.plan) (Provides work.plan) (version ∷ []) (all_told work.plan (as_written events))
+  runs = whole_steps_run work events ordinary provisioned reads steps
+
+  all_taken : (with_all (version ∷ []) front ≡ Ok (behind (version ∷ []) front)) × AreAlike (behind (version ∷ []) (all_told work.plan (as_written events))) (behind (behind (version ∷ []) ps) happened)
+  all_taken = taken work besides events (omega (arith, ordinary.few)) whole as_many within steps.whole (behind (version ∷ []) (all_told work.plan (as_written events))) runs.0
+
+  intents : AreIntents ps
+  intents = all_intents besides.details (enumerate_from 0 work.plan.changes)
+
+  happened_is : happened ≡ hooks ++ notes
+  happened_is = flat_map-append (told_of_event work.plan work.script) (hook_messages_of events) (notes_of events)
+
+  front_is : front ≡ (ps ++ hooks) ++ (notes ++ loose)
+  front_is = ap (λ (l : List Message). ps ++ (l ++ loose)) happened_is ∙ ap (λ (l : List Message). ps ++ l) (append_assoc hooks notes loose) ∙ sym (append_assoc ps hooks (notes ++ loose))
+
+  behind_first : behind (behind (version ∷ []) (ps ++ hooks)) (notes ++ loose) ≡ behind (version ∷ []) front
+  behind_first = behind_both (version ∷ []) (ps ++ hooks) (notes ++ loose) ∙ ap (λ (l : List Message). behind (version ∷ []) l) (sym front_is)
+
+  -- ---- failures
+
+  diagnostics : AreDiagnostics (notes ++ loose)
+  diagnostics = diagnostics_both notes loose (notes_are_diagnostics work.plan work.script (notes_of events) (each_kept (λ e. is_note e.what) events)) (notes_tell besides.notes)
+
+  fine_hooks : list_any is_error hooks ≡ false
+  fine_hooks = hooks_are_fine work.plan work.script (hook_messages_of events) (hooks_kept events)
+
+  -- no more failures are told than happen
+  module _ (p : List ℕ → Bool) where
+    told_fail : count_by (fails_where p) (ps ++ hooks) ≤ count_by (λ (e : Event). p (address_of work.plan e.change) && is_errored e.what) events
+    told_fail =
+        let both = sum_by-append (λ m. cond (fails_where p m) 1 0) ps hooks in
+        let none = none_planned (fails_where p) (λ intent. refl) ps intents in
+        let most = all_fail work.plan work.script p (hook_messages_of events) in
+        let kept = sum_by-append (λ (e : Event). cond (p (address_of work.plan e.change) && is_errored e.what) 1 0) (hook_messages_of events) (notes_of events) in
+        let same = count_written (λ (e : Event). p (address_of work.plan e.change) && is_errored e.what) events in
+        omega arith
+
+  all_stand_so : AllStand (behind (version ∷ []) (ps ++ hooks))
+  all_stand_so =
+      let accepted = first_accepted (ps ++ hooks) (notes ++ loose) (version ∷ []) (behind (version ∷ []) front) (ap (with_all (version ∷ [])) (sym front_is) ∙ all_taken.0) in
+      let most = told_fail anywhere in
+      let few = few_fail work (length work.plan.changes) events within steps.whole in
+      let none : count_by (fails_where anywhere) (version ∷ []) ≡ 0 = refl in
+      all_stand (ps ++ hooks) (version ∷ []) accepted.0 accepted.1
+      (any_both is_error ps hooks ∙ ap₂ (λ (a b : Bool). a || b) (none_counted is_error ps (none_planned is_error (λ intent. refl) ps intents)) fine_hooks)
+      (omega (arith, ordinary.few)) at_version
+
+  abbrev unnamed : List ℕ → Bool
+  unnamed a = not (all_named nowhere (notes ++ loose) a)
+
+  not_naming : (c : ℕ) → unnamed (address_of work.plan c) ≡ true → list_any (λ m. names m (address_of work.plan c)) happened ≡ false
+  not_naming c is =
+      let a = address_of work.plan c in
+      let none = (not_named nowhere (notes ++ loose) a (not_true (all_named nowhere (notes ++ loose) a) is)).1 in
+      let both = or_parts (list_any (λ m. names m a) notes) (list_any (λ m. names m a) loose) (sym (any_both (λ m. names m a) notes loose) ∙ none) in
+      ap (list_any (λ m. names m a)) happened_is ∙ any_both (λ m. names m a) hooks notes ∙ ap₂ (λ (x y : Bool). x || y) (no_error_names a hooks fine_hooks) both.0
+
+  few_left : failures_left (behind (version ∷ []) front) ≤ count_by is_error_alone (behind (version ∷ []) front)
+  few_left =
+      let left : failures_left (behind (version ∷ []) front) ≤ count_by (fails_where unnamed) (behind (version ∷ []) (ps ++ hooks)) =
+      subst (λ (l : List Message). failures_left l ≤ count_by (fails_where unnamed) (behind (version ∷ []) (ps ++ hooks))) behind_first (left_at_end (behind (version ∷ []) (ps ++ hooks)) (notes ++ loose) all_stand_so diagnostics) in
+      let counted = counts_behind (fails_where unnamed) (version ∷ []) (ps ++ hooks) in
+      let first : count_by (fails_where unnamed) (version ∷ []) ≡ 0 = refl in
+      let fail = told_fail unnamed in
+      let noted = as_many_noted work (length work.plan.changes) events within steps.whole (λ c. unnamed (address_of work.plan c)) in
+      let same = count_written (λ (e : Event). unnamed (address_of work.plan e.change) && is_error_note e.what) events in
+      let alone = all_alone work.plan work.script unnamed (as_written events) (each_written (IsPlanned work.plan) events planned_events) not_naming in
+      let all = counts_behind is_error_alone (version ∷ []) front in
+      let parts = sum_by-append (λ m. cond (is_error_alone m) 1 0) ps (happened ++ loose) in
+      let more = sum_by-append (λ m. cond (is_error_alone m) 1 0) happened loose in
+      omega arith
+
+  -- ---- before the end
+
+  behind_all : behind (behind (behind (version ∷ []) ps) happened) loose ≡ behind (version ∷ []) front
+  behind_all = behind_both (behind (version ∷ []) ps) happened loose ∙ behind_both (version ∷ []) ps (happened ++ loose)
+
+  pending_none : (k : Action) → k ≢ Read → (a : List ℕ) → pending_at k (standing_of a (behind (version ∷ []) front)) ≡ None
+  pending_none k other a =
+      let alike = all_taken.1 in
+      let before : pending_at k (standing_of a (behind (behind (version ∷ []) ps) happened)) ≡ None =
+      none_too k other (pending_at k (standing_of a (behind (version ∷ []) (all_told work.plan (as_written events))))) (pending_at k (standing_of a (behind (behind (version ∷ []) ps) happened))) ((alike.standing a).pending k)
+      (none_stands (length work.plan.changes) (address_of work.plan) (Does work.plan) (Provides work.plan) runs.1.0 (behind (version ∷ []) (all_told work.plan (as_written events))) runs.1.1 runs.1.2 k other a) in
+      ap (λ (l : List Message). pending_at k (standing_of a l)) (sym behind_all) ∙ diagnostics_keep k a loose (behind (behind (version ∷ []) ps) happened) (notes_tell besides.notes) ∙ before
+
+  sound : MayEnd (behind (version ∷ []) front)
+  sound = record {
+    begun = ap (λ (l : List Message). is_some (line_of is_version l)) (sym behind_all) ∙ ap is_some (kept is_version (λ severe o. refl)) ∙ all_taken.1.begun;
+    unsummed = ap (line_of is_summary) (sym behind_all) ∙ kept is_summary (λ severe o. refl) ∙ all_taken.1.unsummed;
+    unforeseen = ap (line_of is_plan_summary) (sym behind_all) ∙ kept is_plan_summary (λ severe o. refl) ∙ all_taken.1.unforeseen;
+    pending = pending_none;
+    stand = le-ltb (count_by is_error_alone (behind (version ∷ []) front)) (failures_left (behind (version ∷ []) front)) few_left;
+  }
+    where
+      kept : (q : Message → Bool) → ((severe : Bool) (o : Option (List ℕ)) → q (diagnostic severe o) ≡ false)
+          → line_of q (behind (behind (behind (version ∷ []) ps) happened) loose) ≡ line_of q (behind (behind (version ∷ []) ps) happened)
+      kept q none = lines_keep q none loose (behind (behind (version ∷ []) ps) happened) (notes_tell besides.notes)
+
+  totals_are : completed_totals (behind (version ∷ []) front) ≡ totals_said (totals_of work.plan events)
+  totals_are = same_counts (counted Create) (counted Update) (counted Delete) ∙ sym (totals_written work.plan events)
+    where
+      counted : (k : Action) → count_by (completes k) (behind (version ∷ []) front) ≡ count_by (completes k) (behind (version ∷ []) (all_told work.plan (as_written events)))
+      counted k =
+          let one = counts_behind (completes k) (version ∷ []) front in
+          let other = counts_behind (completes k) (version ∷ []) (all_told work.plan (as_written events)) in
+          let parts = sum_by-append (λ m. cond (completes k m) 1 0) ps (happened ++ loose) in
+          let more = sum_by-append (λ m. cond (completes k m) 1 0) happened loose in
+          let none = none_planned (completes k) (λ intent. refl) ps intents in
+          let no_more = none_told (completes k) (λ severe o. refl) loose (notes_tell besides.notes) in
+          let same = completed_as_told work.plan work.script k (as_written events) in
+          omega arith
+
+  errors_are : list_any is_error (behind (version ∷ []) front) ≡ tells_error besides.notes (totals_of work.plan events)
+  errors_are =
+      any_behind is_error (version ∷ []) front
+      ∙ any_both is_error ps (happened ++ loose)
+      ∙ ap (λ (b : Bool). b || list_any is_error (happened ++ loose)) (none_counted is_error ps (none_planned is_error (λ intent. refl) ps intents))
+      ∙ any_both is_error happened loose
+      ∙ ap₂ (λ (a b : Bool). a || b)
+      (errors_as_told work.plan work.script (as_written events) ∙ errors_told work (length work.plan.changes) events (each_written (IsPlanned work.plan) events planned_events) within steps.whole) (notes_err besides.notes)
+
+  -- ---- the end
+
+  ended : (operation : Operation) → EndSo (behind (version ∷ []) front) (told_at_end besides operation (totals_of work.plan events))
+  ended operation = at (tells_error besides.notes (totals_of work.plan events)) refl
+    where
+      at : (b : Bool) → tells_error besides.notes (totals_of work.plan events) ≡ b → EndSo (behind (version ∷ []) front) (cond b [] (summary (totals_said (totals_of work.plan events)) ∷ outputs_told operation))
+      at true is = with_error (behind (version ∷ []) front) sound (errors_are ∙ is)
+      at false is = summed operation (totals_said (totals_of work.plan events)) (behind (version ∷ []) front) sound (sym totals_are)
+
+  pub accepted_in_form : (plans : Bool) (operation : Operation) → verdict_on (plain plans) (form_told work.plan work.script besides operation events) ≡ Ok (whole_in_form work.plan work.script besides operation events)
+  accepted_in_form plans operation =
+      let end = told_at_end besides operation (totals_of work.plan events) in
+      let so = ended operation in
+      let later = behind (version ∷ []) front in
+      let all = behind later end in
+      let is : front ++ end ≡ ps ++ (happened ++ (loose ++ end)) = append_assoc ps (happened ++ loose) end ∙ ap (λ (l : List Message). ps ++ l) (append_assoc happened loose end) in
+      let lines : length all ≡ length (form_told work.plan work.script besides operation events) =
+      (let one = length_behind later end in let other = length_behind (version ∷ []) front in let both = length-append front end in let same = ap length is in
+      let more : length all ≡ suc (length (ps ++ (happened ++ (loose ++ end)))) = omega arith in more) in
+      ap (λ (r : Result (List Message) Fault). r >>= end_of (plain plans)) (ap (with_all (version ∷ [])) (sym is) ∙ joined (version ∷ []) later front end all_taken.0 ∙ so.accepted)
+      ∙ whole_end plans all so.closed so.no_plan so.ends
+      ∙ ap (λ (w : Whole). fine w) (same_whole (so.totals ∙ totals_are) (so.errors ∙ errors_are) lines)
+    where
+      fine : Whole → Result Whole Fault
+      fine w = Ok w

@@ -1,0 +1,16 @@
+pub mod ChangesUnderWay
+pub mod Examples
+pub mod LaneLines
+pub mod LastMembers
+pub mod PlainSteps
+pub mod PlannedChanges
+pub mod PlannedWords
+pub mod Plans
+pub mod ReadScripts
+pub mod Sensitive
+pub mod SensitiveChanges
+pub mod Sharing
+pub mod StepTimes
+pub mod StepsUnderWay
+pub mod WaitLaws
+pub mod Waits

@@ -1,0 +1,14 @@
+use Rattle.std.proofs.Common.{length, sym, ◌∙◌}
+use Rattle.apply_json.proofs.Keeping.{is_no_tree, whole_tree_of}
+use Rattle.stream_check.proofs.messages.line_slots.read_line.Goals as goal
+
+pub returns-in-Ok : goal.returns-in-Ok
+returns-in-Ok c =
+    let read = c.in-Ok.ensures.ok.1 in
+    record { ok = (read.0, sym (whole_tree_of c.args.text.now) ∙ read.1, read.2); err = tt }
+
+pub returns-in-Err : goal.returns-in-Err
+returns-in-Err c = record {
+  ok = tt;
+  err = is_no_tree (length c.args.text.now) c.in-Err.fault c.args.text.now c.in-Err.ensures.err;
+}

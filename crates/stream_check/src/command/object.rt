@@ -1,0 +1,98 @@
+//! What a faulty line is about.
+
+ghost use Rattle.std.specs.Prelude.{◌≡◌, IfOk, option_map};
+ghost use Rattle.std.specs.Option.{option_copied};
+ghost use Rattle.stream_check.specs.About.{about_line, message_in, object_view};
+ghost use Rattle.stream_check.specs.Kept.{about_held};
+
+use crate::lines::found::{from_mark, through_brace};
+use crate::messages::action::Action;
+use crate::messages::kind::Kind;
+use crate::messages::line_slots::{LineSlots, read_line};
+use crate::messages::members::text_in;
+use crate::messages::message::Message;
+use crate::rules::mode::Mode;
+use apply_json::{JsonFault, Scratch};
+use std::alloc::{AllocError, Global};
+
+/// What a message is about that tells of a step or of a provisioner.
+#[derive(Clone, Copy)]
+pub enum Object<'a> {
+    Step {
+        action: Action,
+        address: &'a str,
+    },
+    /// A provisioner, with its name where that is a text.
+    Provisioner {
+        name: Option<&'a str>,
+        address: &'a str,
+    },
+}
+
+impl<'a> Object<'a> {
+    /// What the message of a line is about, where it is about one.
+    fn of(line: &LineSlots<'a>) -> Option<Object<'a>>
+        ensures { option_map object_view result ≡ about_held line.now }
+    {
+        let name = line.type_name.text()?;
+        match line.of_kind(Kind::named(name)) {
+            Ok(
+                Message::Step {
+                    address,
+                    action,
+                    ..
+                },
+            ) => Some(Object::Step { action, address }),
+            Ok(Message::Provision { address, .. }) => Some(Object::Provisioner {
+                name: text_in(line.hook.provisioner),
+                address,
+            }),
+            _ => None,
+        }
+    }
+
+    /// The address of what it is about.
+    pub fn address(self) -> &'a str {
+        match self {
+            Object::Step { address, .. } | Object::Provisioner { address, .. } => address,
+        }
+    }
+
+    /// The action, or the name of the provisioner, or the word for one that has none.
+    pub fn word(self) -> &'a str {
+        match self {
+            Object::Step { action, .. } => action.word(),
+            Object::Provisioner { name, .. } => name.unwrap_or("provisioner"),
+        }
+    }
+}
+
+/// What a line's message is about, of a line of a log that which is found in it.
+pub fn object_in<'a>(
+    alloc: Global,
+    scratch: &'a mut Scratch,
+    mode: Mode,
+    text: &'a [u8],
+) -> Result<Option<Object<'a>>, AllocError>
+    ensures { IfOk result (λ object. option_map object_view object ≡ about_line mode.find text.now) }
+{
+    let Some(piece) = message_in(mode, text) else {
+        return Ok(None);
+    };
+    match read_line(alloc, scratch, piece) {
+        Ok(line) => Ok(Object::of(&line)),
+        Err(JsonFault::Memory) => Err(AllocError),
+        Err(_) => Ok(None),
+    }
+}
+
+/// The text of a line's message.
+fn message_in(mode: Mode, text: &[u8]) -> Option<&[u8]>
+    ensures { option_copied result ≡ message_in mode.find text.now }
+{
+    if mode.find {
+        through_brace(from_mark(text)?)
+    } else {
+        Some(text)
+    }
+}

@@ -1,0 +1,164 @@
+//! Verdicts as JSON objects (RFC 8259).
+
+ghost use Rattle.std.specs.Prelude.{◌≡◌, IfOk};
+ghost use Rattle.serde_json.specs.View.{view};
+ghost use Rattle.stream_check.specs.Objects as object;
+ghost use Rattle.stream_check.specs.Putting.{Puts};
+ghost use Rattle.stream_check.specs.ToldObject as told_object;
+
+use crate::command::members::Members;
+use crate::command::object::Object;
+use crate::command::texts::LINE_FRONT;
+use crate::command::told::Told;
+use crate::messages::totals::Totals;
+use crate::rules::fault::Fault;
+use crate::rules::open_entry::OpenEntry;
+use crate::verdict::finding::Finding;
+use crate::verdict::whole::Whole;
+use serde_json::Value;
+use std::alloc::{AllocError, Global};
+use term_text::front;
+
+/// Puts what a whole stream tells.
+pub fn put_whole(members: &mut Members, whole: &Whole)
+    ensures { Puts members.old members.new (object.with_whole whole.now) }
+{
+    members.number("add", whole.totals.added);
+    members.number("change", whole.totals.changed);
+    members.flag("errors", whole.has_errors);
+    members.number("lines", whole.lines);
+    members.number("remove", whole.totals.removed);
+    members.flag("whole", true);
+    put_plan(members, whole.is_plan);
+    put_count(members, "passed", whole.passed);
+}
+
+/// Puts that the stream is a plan's, where it is.
+fn put_plan(members: &mut Members, is_plan: bool)
+    ensures { Puts members.old members.new (object.with_plan is_plan) }
+{
+    if is_plan {
+        members.flag("plan", true);
+    }
+}
+
+/// Puts a count, where there is one.
+fn put_count(members: &mut Members, name: &str, count: Option<u64>)
+    ensures { Puts members.old members.new (object.with_count name.now count) }
+{
+    if let Some(count) = count {
+        members.number(name, count);
+    }
+}
+
+/// Puts all that is told of a stream that is not whole.
+pub fn put_told(members: &mut Members, told: &Told<'_>)
+    ensures { Puts members.old members.new (told_object.with_told told.now) }
+{
+    put_finding(members, &told.finding);
+    put_object(members, told.object);
+    put_details(members, told);
+}
+
+/// Puts the fault and its line, with the one that it contradicts.
+fn put_finding(members: &mut Members, finding: &Finding)
+    ensures { Puts members.old members.new (object.with_finding finding.now) }
+{
+    members.text("fault", finding.fault.word());
+    members.number("line", finding.line);
+    members.flag("whole", false);
+    put_count(members, "other", finding.fault.other());
+    put_count(members, "passed", finding.passed);
+}
+
+/// Puts what the faulty line is about.
+fn put_object(members: &mut Members, object: Option<Object<'_>>)
+    ensures { Puts members.old members.new (told_object.with_object object.entry) }
+{
+    match object {
+        None => {}
+        Some(Object::Step { action, address }) => {
+            members.text("address", address);
+            members.text("action", action.word());
+        }
+        Some(Object::Provisioner { name, address }) => {
+            members.text("address", address);
+            if let Some(name) = name {
+                members.text("provisioner", name);
+            }
+        }
+    }
+}
+
+/// Puts what belongs to some faults alone.
+fn put_details(members: &mut Members, told: &Told<'_>)
+    ensures { Puts members.old members.new (told_object.with_details told.now) }
+{
+    match told.finding.fault {
+        Fault::NotJson | Fault::NoType => put_front(members, told.text, told.is_cut_off),
+        Fault::Malformed(path, _) => members.text("member", path.text()),
+        Fault::WrongTotals(says, counted) | Fault::WrongPlanTotals(says, counted) => {
+            put_totals(members, "says", says);
+            put_totals(members, "counted", counted);
+        }
+        Fault::Unended => put_open(members, told.open),
+        _ => {}
+    }
+}
+
+/// Puts the front of a line that is no message.
+fn put_front(members: &mut Members, text: &[u8], is_cut_off: bool)
+    ensures { Puts members.old members.new (object.with_front text.now is_cut_off) }
+{
+    members.readable("text", front(text, LINE_FRONT));
+    members.flag("cut_off", is_cut_off);
+}
+
+/// Puts totals, as an object of their own.
+fn put_totals(members: &mut Members, name: &str, totals: Totals)
+    ensures { Puts members.old members.new (object.with_totals name.now totals) }
+{
+    let value = totals_object(members.alloc(), totals);
+    members.made(name, value);
+}
+
+/// Totals as an object.
+fn totals_object(alloc: Global, totals: Totals) -> Result<Value, AllocError>
+    ensures { IfOk result (λ value. view value ≡ object.totals_object totals) }
+{
+    let mut members = Members::new(alloc);
+    members.number("add", totals.added);
+    members.number("change", totals.changed);
+    members.number("remove", totals.removed);
+    members.object()
+}
+
+/// Puts all that stands open.
+fn put_open(members: &mut Members, entries: &[OpenEntry<'_>])
+    ensures { Puts members.old members.new (told_object.with_open entries.now) }
+{
+    let value = open_array(members.alloc(), entries);
+    members.made("open", value);
+}
+
+/// All that stands open, as an array.
+fn open_array(alloc: Global, entries: &[OpenEntry<'_>]) -> Result<Value, AllocError>
+    ensures { IfOk result (λ value. view value ≡ told_object.open_array entries.now) }
+{
+    let mut values = Vec::new(alloc);
+    for entry in entries {
+        values.push(entry_object(alloc, entry)?)?;
+    }
+    Ok(Value::Array(values))
+}
+
+/// One of the things that stand open, as an object.
+fn entry_object(alloc: Global, entry: &OpenEntry<'_>) -> Result<Value, AllocError>
+    ensures { IfOk result (λ value. view value ≡ told_object.entry_object entry.now) }
+{
+    let mut members = Members::new(alloc);
+    members.text("address", entry.address);
+    members.text("kind", entry.kind.word());
+    members.number("line", entry.line);
+    members.object()
+}

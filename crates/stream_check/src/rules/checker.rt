@@ -1,0 +1,138 @@
+//! A checker of the lines of a stream.
+
+ghost use Rattle.std.specs.Prelude.{◌≡◌, ◌<◌, ◌^◌, ◌↔◌, List, [], false};
+ghost use Rattle.std.specs.List.{list_any};
+ghost use Rattle.stream_check.specs.Small.{IsSmall};
+
+use crate::lines::found::piece_of;
+use crate::messages::line_slots::message_in;
+use crate::rules::fault::Fault;
+use crate::rules::limits::{MAX_BYTES, MAX_LINES};
+use crate::rules::mode::Mode;
+use crate::rules::open_steps::OpenSteps;
+use crate::rules::tally::Tally;
+use apply_json::Scratch;
+use std::alloc::{AllocError, Global};
+
+/// What is needed of the lines so far: it grows only with the number of addresses at which something stands open, and
+/// with the longest line.
+#[derive(Drop)]
+pub struct Checker {
+    pub(crate) tally: Tally,
+    pub(crate) pending: OpenSteps,
+    // Kept from line to line, so that reading one takes no memory of its own. It is boxed, since a line takes it out.
+    scratch: Option<Box<Scratch>>,
+    ghost small: { IsSmall tally },
+}
+
+impl Checker {
+    ghost use Rattle.stream_check.specs.Checking.{Continues, HasRead, lines_read};
+    ghost use Rattle.stream_check.specs.Lines.{next, passed_of, read_line, read_text};
+    ghost use Rattle.stream_check.specs.Message.{Message as said, foreign};
+    ghost use Rattle.stream_check.specs.Tally.{is_error};
+
+    /// No line was read.
+    pub fn new(alloc: Global) -> Self
+        ensures { HasRead result [] }
+    {
+        Checker {
+            tally: Tally::new(),
+            pending: OpenSteps::new(alloc),
+            scratch: None,
+        }
+    }
+
+    /// Takes the next line, without its line feed; of a line of a log, the message that is found in it. An `Err` says its
+    /// first fault, and the checker stands where it stood.
+    pub fn line(&mut self, alloc: Global, mode: Mode, text: &[u8]) -> Result<(), Fault>
+        requires { lines_read self.old < 2 ^ 32 }
+        ensures { Continues self.old self.new (λ messages. read_line mode.find messages text.now) result }
+    {
+        if text.len() > MAX_BYTES {
+            return Err(Fault::TooLong);
+        }
+        match piece_of(mode.find, text) {
+            Ok(Some(piece)) => self.text(alloc, mode.find, piece),
+            Ok(None) => self.foreign(),
+            Err(fault) => Err(fault),
+        }
+    }
+
+    /// Takes a line of a log in which no message begins.
+    fn foreign(&mut self) -> Result<(), Fault>
+        requires { lines_read self.old < 2 ^ 32 }
+        ensures { Continues self.old self.new (λ messages. next messages foreign) result }
+    {
+        self.tally = self.tally.with_foreign();
+        Ok(())
+    }
+
+    /// Takes the text of a message.
+    fn text(&mut self, alloc: Global, find: bool, text: &[u8]) -> Result<(), Fault>
+        requires { lines_read self.old < 2 ^ 32 }
+        ensures { Continues self.old self.new (λ messages. read_text find messages text.now) result }
+    {
+        // The message borrows from the scratch while the checker changes.
+        let mut scratch = taken(alloc, &mut self.scratch)?;
+        let answer = self.text_with(alloc, &mut *scratch, find, text);
+        self.scratch = Some(scratch);
+        answer
+    }
+
+    /// Does what `text` does, with a scratch of its own.
+    fn text_with(
+        &mut self,
+        alloc: Global,
+        scratch: &mut Scratch,
+        find: bool,
+        text: &[u8],
+    ) -> Result<(), Fault>
+        requires { lines_read self.old < 2 ^ 32 }
+        ensures { Continues self.old self.new (λ messages. read_text find messages text.now) result }
+    {
+        match message_in(alloc, scratch, find, text) {
+            Ok(message) => self.message(alloc, message),
+            Err(fault) => Err(fault),
+        }
+    }
+
+    /// The number of lines that were taken.
+    pub fn count(&self) -> u64
+        ensures { result ≡ lines_read self.now }
+    {
+        self.tally.lines
+    }
+
+    /// Whether no further line is taken.
+    pub fn is_full(&self) -> bool
+        ensures { result ≡ false ↔ lines_read self.now < 2 ^ 32 }
+    {
+        self.tally.lines >= MAX_LINES
+    }
+
+    /// Whether a diagnostic with severity `error` was read.
+    pub fn has_failed(&self) -> bool
+        ensures { (messages : List said) → HasRead self.now messages → result ≡ list_any is_error messages }
+    {
+        self.tally.has_failed
+    }
+
+    /// How many lines were passed over, where they may be.
+    pub fn passed(&self, mode: Mode) -> Option<u64>
+        ensures { (messages : List said) → HasRead self.now messages → result ≡ passed_of mode messages }
+    {
+        if mode.find {
+            Some(self.tally.foreign)
+        } else {
+            None
+        }
+    }
+}
+
+/// Takes the scratch that is kept, or makes one.
+fn taken(alloc: Global, kept: &mut Option<Box<Scratch>>) -> Result<Box<Scratch>, AllocError> {
+    match kept.take() {
+        Some(scratch) => Ok(scratch),
+        None => Ok(Box::new(alloc, Scratch::new(alloc))?),
+    }
+}

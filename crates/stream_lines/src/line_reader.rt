@@ -1,0 +1,83 @@
+//! Reading a stream line by line, with no more of a line in memory than a line may have and what the reader shows at
+//! once.
+
+ghost use Rattle.std.specs.Prelude.{◌≡◌, ◌≢◌, ◌<◌, ◌≤◌, ◌++◌, ℕ, List, All, Some, IfOk, IfSome, length, take, slice_get};
+ghost use Rattle.stream_lines.specs.Reading.{Gives, Shows};
+
+use crate::failed_read::FailedRead;
+use crate::limits::MAX_BYTES;
+use crate::line_end::LineEnd;
+use crate::line_fault::LineFault;
+use crate::piece::Piece;
+use memchr::memchr;
+use std::io::{BufRead, ErrorKind};
+
+/// Reads the next line, without its line feed, in place of what `line` had. A line is read no further than it is seen to be
+/// too long.
+///
+/// `Err` with `LineFault::Unread` where a read fails, and with `LineFault::Memory` where memory is refused; a read that a
+/// signal interrupted is tried again.
+pub fn next_line<R: BufRead>(reader: &mut R, line: &mut Vec<u8>) -> Result<LineEnd, LineFault>
+    ensures { IfOk result (λ next. IfSome (R.remaining reader.old)
+        (Gives next line.new.items (R.remaining reader.new))) }
+{
+    line.clear();
+    'parts: for _ in 0..u64::MAX {
+        let piece = append_shown(reader, line)?;
+        if line.len() > MAX_BYTES {
+            return Ok(LineEnd::TooLong);
+        }
+        match piece {
+            Piece::Part => {}
+            Piece::Line => return Ok(LineEnd::Line { has_feed: true }),
+            Piece::End => {
+                return Ok(if line.is_empty() {
+                    LineEnd::End
+                } else {
+                    LineEnd::Line { has_feed: false }
+                });
+            }
+        }
+    }
+    Err(LineFault::Unread(FailedRead::for_tries()))
+}
+
+/// Appends what the reader shows of the line. Nothing of it where a signal interrupts the read.
+fn append_shown<R: BufRead>(reader: &mut R, line: &mut Vec<u8>) -> Result<Piece, LineFault>
+    ensures { IfOk result (λ shown. (piece : List ℕ)
+        × (line.new.items ≡ line.old.items ++ piece)
+        × All (λ byte. byte ≢ 10) piece
+        × Shows shown piece (R.remaining reader.old) (R.remaining reader.new)) }
+{
+    let available = match reader.fill_buf() {
+        Ok(available) => available,
+        Err(error) => {
+            return if error.kind() == ErrorKind::Interrupted {
+                Ok(Piece::Part)
+            } else {
+                Err(LineFault::Unread(FailedRead::of(&error)))
+            };
+        }
+    };
+    let count = available.len();
+    let len = len_before_feed(available);
+    line.extend_from_slice(&available[..len])?;
+    if len < count {
+        reader.consume(len + 1);
+        return Ok(Piece::Line);
+    }
+    reader.consume(len);
+    Ok(if len == 0 { Piece::End } else { Piece::Part })
+}
+
+/// How many bytes stand before the first line feed, or how many there are where there is none.
+fn len_before_feed(bytes: &[u8]) -> usize
+    ensures bound { result ≤ length bytes.now }
+    ensures before { All (λ byte. byte ≢ 10) (take result bytes.now) }
+    ensures feed { result < length bytes.now → slice_get bytes.now result ≡ Some 10 }
+{
+    match memchr(b'\n', bytes) {
+        Some(len) => len,
+        None => bytes.len(),
+    }
+}

@@ -1,0 +1,15 @@
+use Rattle.std.proofs.Common.{◌≡◌, ◌∙◌, ap, codes, true}
+use Rattle.clap.specs.Simple.{App, app_of, app_of_fields, new_app, on_top}
+use Rattle.stream_play.proofs.command.arguments.command.Goals as goal
+
+-- the command before its options, whose words are those behind `play`
+abbrev no_options : App
+no_options = on_top (λ shape. record shape { no_binary_name = true }) (new_app (codes "applystream play"))
+
+pub returns : goal.returns
+returns c =
+    let none : app_of c.after_help.result ≡ no_options =
+    ap app_of_fields c.after_help.ensures ∙ ap app_of_fields c.about.ensures ∙ ap app_of_fields c.no_binary_name.ensures
+    ∙ ap (on_top (λ shape. record shape { no_binary_name = true })) c.new.ensures.app in
+    let speed = c.with_option.ensures no_options _ none c.speed.ensures.0 c.speed.ensures.1 in
+    c.with_option-2.ensures _ _ speed c.file.ensures.0 c.file.ensures.1

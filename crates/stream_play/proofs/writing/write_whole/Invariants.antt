@@ -1,0 +1,10 @@
+-- So many of the first bytes were written.
+use Rattle.std.proofs.Common.{◌≤◌, length, take}
+use Rattle.std.specs.Io.KnownBytes.{Appends}
+use Rattle.stream_play.proofs.writing.write_whole.Given as goal
+
+abbrev pub invariant-writes : goal.invariant-writes
+invariant-writes g l = record {
+  within : l.written ≤ length l.bytes;
+  appended : Appends (g.W.Write.contents l.initial.output) (g.W.Write.contents l.output) (take l.written l.bytes);
+}

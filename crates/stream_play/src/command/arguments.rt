@@ -1,0 +1,87 @@
+//! The words of the command line.
+
+ghost use Rattle.std.specs.Prelude.{◌≡◌, false, IfErr, IfOk, IfSome, codes, map, string_bytes};
+ghost use Rattle.clap.specs.Matches.{found_of};
+ghost use Rattle.clap.specs.Simple.{app_of};
+ghost use Rattle.clap.specs.Walk.{one_of, rows_of, rule_of};
+ghost use Rattle.stream_tool.specs.Words.{WereRefused};
+ghost use Rattle.stream_play.specs.CommandLine.{AreSaid, HaveSaid, IsSpeed, command_line, speed_rule};
+
+use crate::command::settings::Settings;
+use crate::speed::Speed;
+use clap::{Arg, ArgMatches, Command, value_parser};
+use std::alloc::{AllocError, Global};
+use stream_tool::{Usage, file, file_of, matches_of, with_option};
+
+const ABOUT: &str =
+    "Writes a stream of `terraform apply -json` line by line, unchanged, each line at its own time.
+
+Standard input: the stream, unless FILE is named. It is read to its end, so that the program that writes it is never stopped.
+Standard output: the same bytes.
+Standard error: errors.";
+
+const AFTER: &str = r#"Example of a stream in its own time:
+  applystream --parallelism 10 --script script.json < plan.json | applystream play | my-dashboard
+
+Example of an hour in a minute:
+  applystream play --speed 60 stream.jsonl | my-dashboard
+
+Exit status:
+  0  the whole stream was written; or help was printed
+  2  wrong options, a file or a stream that can't be read, or a line that is too long
+  3  out of memory, or the output could not be written"#;
+
+/// The settings that the words behind `play` say. `Err` with `Usage::Help` where they ask for help, with `Usage::Words` where
+/// they are none of this command, and with `Usage::Memory` where memory is refused.
+pub fn read_words(alloc: Global, words: &[String]) -> Result<Settings, Usage>
+    ensures said { IfOk result (HaveSaid (map string_bytes words.now)) }
+    ensures refused { IfErr result (WereRefused command_line (map string_bytes words.now)) }
+{
+    let command = command(alloc)?;
+    match matches_of(alloc, command, words) {
+        Ok(matches) => Ok(settings_of(alloc, &matches)?),
+        Err(usage) => Err(usage),
+    }
+}
+
+/// The options, and their help.
+fn command<'a>(alloc: Global) -> Result<Command<'a>, AllocError>
+    ensures { IfOk result (λ command. app_of command ≡ command_line) }
+{
+    let line = Ok(
+        Command::new(alloc, "applystream play")
+            .no_binary_name(true)
+            .about(ABOUT)
+            .after_help(AFTER),
+    );
+    with_option(with_option(line, speed(alloc)), file(alloc))
+}
+
+fn speed<'a>(alloc: Global) -> Arg<'a>
+    ensures { (rule_of result ≡ speed_rule) × (result.global ≡ false) }
+{
+    Arg::new(alloc, "speed")
+        .long("speed")
+        .value_name("N")
+        .value_parser(value_parser!(u32).range(1..=86400))
+        .default_value("1")
+        .help("How many times as fast, 1 to 86400")
+}
+
+/// What the matches say.
+fn settings_of(alloc: Global, matches: &ArgMatches<'_>) -> Result<Settings, AllocError>
+    ensures { IfOk result (AreSaid (rows_of (found_of matches.now))) }
+{
+    let file = file_of(alloc, matches)?;
+    Ok(Settings {
+        speed: speed_of(matches),
+        file,
+    })
+}
+
+/// The speed. The parser has tested the number, so that the bounds here do not change it.
+fn speed_of(matches: &ArgMatches<'_>) -> Speed
+    ensures { IfSome (one_of (codes "speed") (rows_of (found_of matches.now))) (λ text. IsSpeed text result) }
+{
+    Speed::new(matches.get_one::<u32>("speed").unwrap_or(1))
+}

@@ -1,0 +1,49 @@
+//! Why a stream was not played to its end.
+
+ghost use Rattle.std.specs.Prelude.{◌≡◌};
+ghost use Rattle.std.specs.Io.KnownBytes.{Keeps};
+ghost use Rattle.stream_play.specs.CommandLine.{IsFaultStatus, fault_status_of};
+ghost use Rattle.stream_play.specs.declared.play_fault.PlayFault.TheVariants.{Gone};
+
+use crate::play_fault::PlayFault;
+use std::alloc::Global;
+use std::io::Write;
+use stream_tool::{FAILED, REFUSED, refuse_unread, report};
+
+/// Says why the stream was not played to its end, of a file where it has a name, and answers the exit status. Nothing is said
+/// where the reader of the output is gone: whoever ended it, as `head` ends, knows that.
+pub fn refuse<E: Write>(alloc: Global, faults: &mut E, name: Option<&str>, fault: PlayFault) -> u8
+    ensures status { IsFaultStatus name.entry fault result }
+    ensures gone { fault ≡ Gone → Keeps (E.contents faults.old) (E.contents faults.new) }
+{
+    match (fault, name) {
+        (PlayFault::Gone, _) => FAILED,
+        (PlayFault::Unread(failed), Some(name)) => refuse_unread(alloc, faults, name, failed),
+        _ => {
+            report(faults, fault);
+            fault_status(fault)
+        }
+    }
+}
+
+/// The exit status of a fault.
+fn fault_status(fault: PlayFault) -> u8
+    ensures { result ≡ fault_status_of fault }
+{
+    match fault {
+        PlayFault::TooLong(_) | PlayFault::TooMany | PlayFault::Unread(_) => REFUSED,
+        PlayFault::Memory | PlayFault::Gone | PlayFault::Unwritten => FAILED,
+    }
+}
+
+/// Sends on the lines that were played before the fault. Behind a write that failed nothing is written.
+pub fn send_on<W: Write>(out: &mut W, fault: PlayFault)
+    ensures { Keeps (W.contents out.old) (W.contents out.new) }
+{
+    match fault {
+        PlayFault::Gone | PlayFault::Unwritten => {}
+        _ => {
+            let _ = out.flush();
+        }
+    }
+}

@@ -1,0 +1,20 @@
+use Rattle.std.proofs.Common.{◌≡◌, ◌∙◌, ap, codes, true}
+use Rattle.clap.specs.Simple.{App, app_of, app_of_fields, new_app, on_top}
+use Rattle.stream_view.proofs.command.arguments.command_of.Goals as goal
+
+-- the command before its options, whose words are those behind `view`
+abbrev no_options : App
+no_options = on_top (λ shape. record shape { no_binary_name = true }) (new_app (codes "applystream view"))
+
+pub returns : goal.returns
+returns c is_svg svg_alone is_all all_alone =
+    let none : app_of c.after_help.result ≡ no_options =
+    ap app_of_fields c.after_help.ensures ∙ ap app_of_fields c.about.ensures ∙ ap app_of_fields c.no_binary_name.ensures
+    ∙ ap (on_top (λ shape. record shape { no_binary_name = true })) c.new.ensures.app in
+    let svg = c.with_option-line.ensures no_options _ none is_svg svg_alone in
+    let rows = c.with_option-line-2.ensures _ _ svg c.rows.ensures.0 c.rows.ensures.1 in
+    let all = c.with_option-line-3.ensures _ _ rows is_all all_alone in
+    let width = c.with_option-line-4.ensures _ _ all c.width.ensures.0 c.width.ensures.1 in
+    let colours = c.color.ensures in
+    let color = c.with_option-line-5.ensures _ _ width colours.2 colours.3 in
+    (colours.0, colours.1, c.with_option.ensures _ _ color c.file.ensures.0 c.file.ensures.1)

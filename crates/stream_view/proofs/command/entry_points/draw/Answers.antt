@@ -1,0 +1,25 @@
+use Rattle.std.proofs.Common.{◌∙◌, ap, sym}
+use Rattle.stream_view.proofs.Drawn.{picture_written, svg_drawn, text_drawn}
+use Rattle.stream_view.proofs.command.entry_points.draw.Goals as goal
+use Rattle.stream_view.proofs.command.entry_points.draw.Goals.{in-Text, in-Svg}
+
+pub returns-in-Ok-drawn-clause-rows : goal.returns-in-Ok-drawn-clause-rows
+returns-in-Ok-drawn-clause-rows g c = record {
+  picture = c.in-Ok.picture;
+  is_told = c.in-Ok.ensures.told;
+  moments = c.in-Ok.ensures.moments;
+  numbers = c.in-Ok.ensures.numbers;
+  rows = c.in-Ok.ensures.rows;
+  drawn = elim c.match-form.branch [
+    | in-Text w ↦ text_drawn c.args.form w.in-Text.width w.in-Text.colour c.args.is_colour_wanted c.in-Ok.picture _ _ _ w.is_on.result
+        w.draw_text-drawn.result w.in-Text.is w.is_on.ensures (sym w.drawn-is ∙ c.in-Ok-drawn.is) (ap g.W.Write.contents w.out-is)
+        w.draw_text-drawn.ensures.rows
+    | in-Svg w ↦ svg_drawn c.args.form c.args.is_colour_wanted c.in-Ok.picture _ _ _ w.draw_svg-drawn.result w.in-Svg.is
+        (sym w.drawn-is ∙ c.in-Ok-drawn.is) (ap g.W.Write.contents w.out-is) w.draw_svg-drawn.ensures.rows
+  ];
+}
+
+pub returns-in-Ok-drawn-clause-drawn : goal.returns-in-Ok-drawn-clause-drawn
+returns-in-Ok-drawn-clause-drawn g c =
+    let of = returns-in-Ok-drawn-clause-rows g c in
+    picture_written c.args.form c.args.is_colour_wanted of.picture _ _ of.drawn

@@ -1,0 +1,6 @@
+-- What contracts see of the axis of an SVG, for private clauses.
+use Rattle.stream_view.specs.Markup.{Axis}
+use Rattle.stream_view.specs.declared.svg.scale.Scale.{Scale}
+
+abbrev pub axis_in : Scale → Axis
+axis_in scale = record { left = scale.left; right = scale.right }

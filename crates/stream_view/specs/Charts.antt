@@ -1,0 +1,6 @@
+-- What contracts see of the columns of the rows, for private clauses.
+use Rattle.stream_view.specs.Rows.{Layout}
+use Rattle.stream_view.specs.declared.text.chart.Chart.{Chart}
+
+abbrev pub layout_in : Chart → Layout
+layout_in chart = record { action = chart.action; label = chart.label; cells = chart.cells }

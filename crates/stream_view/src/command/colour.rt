@@ -1,0 +1,27 @@
+//! When a text has colours.
+
+ghost use Rattle.std.specs.Prelude.{◌≡◌};
+
+/// When a text has colours.
+#[derive(Clone, Copy, Debug, PartialEq, Eq)]
+pub enum Colour {
+    /// Where somebody sees it on a terminal, and wants them.
+    Auto,
+    Always,
+    Never,
+}
+
+impl Colour {
+    ghost use Rattle.stream_view.specs.Viewed.{is_on};
+
+    /// Whether a text has colours; `is_wanted` says whether somebody sees it on a terminal, and wants them.
+    pub fn is_on(self, is_wanted: bool) -> bool
+        ensures { result ≡ is_on is_wanted self }
+    {
+        match self {
+            Colour::Auto => is_wanted,
+            Colour::Always => true,
+            Colour::Never => false,
+        }
+    }
+}

@@ -1,0 +1,10 @@
+pub mod Blanks
+pub mod Bytewise
+pub mod Escapes
+pub mod Fits
+pub mod Lines
+pub mod Longest
+pub mod Pieces
+pub mod Plain
+pub mod Rooms
+pub mod Texts

@@ -1,0 +1,10 @@
+use Rattle.term_text.proofs.Bytewise.{shown_text-encode, shown_text-byte, readable_text-encode, readable_text-byte}
+use Rattle.term_text.proofs.laws.each_byte_of_no_character_stands_for_itself.Goals as goal
+
+pub returns : goal.returns
+returns c = record {
+  shown_character = shown_text-encode;
+  shown_byte = shown_text-byte;
+  readable_character = readable_text-encode;
+  readable_byte = readable_text-byte;
+}

@@ -1,0 +1,7 @@
+pub mod Columns
+pub mod Escaped
+pub mod Fitted
+pub mod Fitting
+pub mod Fronts
+pub mod Pieces
+pub mod Shown

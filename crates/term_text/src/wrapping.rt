@@ -1,0 +1,83 @@
+//! Texts that take several lines.
+
+ghost use Rattle.std.specs.Prelude.{◌≡◌, ◌≤◌, ◌<◌, ◌∷◌, [], IfOk, length};
+ghost use Rattle.term_text.specs.Columns.{columns_of};
+ghost use Rattle.term_text.specs.Fitting.{without_blanks};
+
+use crate::columns::columns_of;
+use crate::shown_text::{ShownText, without_blanks};
+use std::alloc::{AllocError, Global};
+
+/// The text in lines of at most so many columns each: broken at the last blank that fits, else where a line is full. There is
+/// one line at least. `Err` where memory is refused.
+pub fn wrapped(alloc: Global, text: &ShownText, limit: usize) -> Result<Vec<ShownText>, AllocError>
+    ensures { IfOk result (λ lines. columns_of text.now ≤ limit → lines.items ≡ without_blanks text.now ∷ []) }
+{
+    let mut lines = Vec::new(alloc);
+    let (line, mut rest) = split_line(text.characters(), limit);
+    lines.push(ShownText::copied(alloc, line)?)?;
+    'lines: while !rest.is_empty() {
+        let (line, more) = split_line(rest, limit);
+        lines.push(ShownText::copied(alloc, line)?)?;
+        rest = more;
+    }
+    Ok(lines)
+}
+
+/// The first line of characters, and those behind it; blanks between them are dropped.
+fn split_line(characters: &[char], limit: usize) -> (&[char], &[char])
+    ensures line { columns_of characters.now ≤ limit → result.0.now ≡ without_blanks characters.now }
+    ensures rest { columns_of characters.now ≤ limit → result.1.now ≡ [] }
+    ensures shorter { 1 ≤ length characters.now → length result.1.now < length characters.now }
+{
+    let len = line_len(characters, full_len(characters, limit));
+    let line = without_blanks(&characters[..len]);
+    (line, without_front_blanks(&characters[len..]))
+}
+
+/// How many of the first characters fit, and one at least.
+fn full_len(characters: &[char], limit: usize) -> usize
+    ensures within { result ≤ length characters.now }
+    ensures some { 1 ≤ length characters.now → 1 ≤ result }
+    ensures all { columns_of characters.now ≤ limit → result ≡ length characters.now }
+{
+    let mut left = limit;
+    for (len, character) in characters.iter().enumerate() {
+        let columns = columns_of(*character);
+        if columns > left {
+            return len.max(1);
+        }
+        left -= columns;
+    }
+    characters.len()
+}
+
+/// How many characters stand on a line into which so many fit: those before the last blank of these.
+fn line_len(characters: &[char], full: usize) -> usize
+    ensures within { result ≤ length characters.now }
+    ensures some { 1 ≤ length characters.now → 1 ≤ full → 1 ≤ result }
+    ensures all { length characters.now ≤ full → result ≡ length characters.now }
+{
+    if full >= characters.len() {
+        return characters.len();
+    }
+    let mut len = full;
+    'back: while len > 1 {
+        len -= 1;
+        if characters[len] == ' ' {
+            return len;
+        }
+    }
+    full
+}
+
+/// Characters without the blanks at their front.
+fn without_front_blanks(characters: &[char]) -> &[char]
+    ensures { length result.now ≤ length characters.now }
+{
+    let mut len = 0;
+    'front: while len < characters.len() && characters[len] == ' ' {
+        len += 1;
+    }
+    &characters[len..]
+}

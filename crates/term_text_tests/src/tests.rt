@@ -1,0 +1,195 @@
+//! What no clause says: that the definitions are the ones that were meant, and that calls succeed with ample memory.
+//!
+//! A test is proved before it runs, and a proof grows with each literal and with each place at which something has to be
+//! dropped: rows are texts, and what they stand for is kept until the test ends.
+
+use std::alloc::{AllocError, Global};
+use std::process::Abort;
+use term_text::{front, push_shown, readable, shown, shown_within};
+
+/// What stands before the first mark of a row, and behind it.
+fn parted<'a>(rt: &impl Abort, row: &'a str) -> (&'a str, &'a str) {
+    row.split_once(" => ").expect(rt, row)
+}
+
+/// Adds more bytes.
+fn push(rt: &impl Abort, bytes: &mut Vec<u8>, more: &[u8]) {
+    bytes.extend_from_slice(more).expect(rt, "memory");
+}
+
+/// Adds the byte whose number the first two digits are, and gives what stands behind them.
+fn push_byte<'a>(rt: &impl Abort, bytes: &mut Vec<u8>, part: &'a str) -> &'a str {
+    let (digits, rest) = part.split_at_checked(2).expect(rt, part);
+    let byte = u8::from_str_radix(digits, 16).ok().expect(rt, part);
+    push(rt, bytes, &[byte]);
+    rest
+}
+
+/// Adds what a part of a cell stands for, which begins with the number of a byte where it stands behind a mark.
+fn push_part(rt: &impl Abort, bytes: &mut Vec<u8>, part: &str, is_marked: bool) {
+    let plain = if is_marked {
+        push_byte(rt, bytes, part)
+    } else {
+        part
+    };
+    push(rt, bytes, plain.as_bytes());
+}
+
+/// The bytes that a cell stands for: `\xHH` for the byte of that number, and anything else for itself.
+fn bytes_of(rt: &impl Abort, alloc: Global, cell: &str) -> &'static [u8] {
+    let mut bytes = Vec::new(alloc);
+    let mut is_marked = false;
+    for part in cell.split("\\x") {
+        push_part(rt, &mut bytes, part, is_marked);
+        is_marked = true;
+    }
+    &*bytes.leak()
+}
+
+/// The bytes of a row, and those that are wanted.
+fn cells(rt: &impl Abort, alloc: Global, row: &str) -> (&'static [u8], &'static [u8]) {
+    let (bytes, wanted) = parted(rt, row);
+    (bytes_of(rt, alloc, bytes), bytes_of(rt, alloc, wanted))
+}
+
+/// The number; the greatest one for `max`.
+fn limit_of(rt: &impl Abort, limit: &str) -> usize {
+    match limit {
+        "max" => usize::MAX,
+        _ => limit.parse::<usize>().ok().expect(rt, limit),
+    }
+}
+
+/// The limit of a row, its bytes, and those that are wanted.
+fn limited(rt: &impl Abort, alloc: Global, row: &str) -> (usize, &'static [u8], &'static [u8]) {
+    let (limit, rest) = parted(rt, row);
+    let (bytes, wanted) = cells(rt, alloc, rest);
+    (limit_of(rt, limit), bytes, wanted)
+}
+
+/// The bytes of a text that has to have its memory.
+fn made(rt: &impl Abort, text: Result<String, AllocError>) -> &'static [u8] {
+    &*text.expect(rt, "memory").into_bytes().leak()
+}
+
+/// Fails where other bytes were found in the row.
+fn compare(rt: &impl Abort, row: &str, found: &[u8], wanted: &[u8]) {
+    assert!(rt; found == wanted, "at {row}");
+}
+
+/// Bytes, and what they are shown as: plain text, controls, characters that are not seen, no characters, and bytes of no
+/// character, each of which is one escape. One text has a character of one byte, of two, three and four, and five of one.
+const SHOWN: &str = r#"
+a \n "b" ~ => a \n "b" ~
+ => 
+a\xC3\xA9\xE2\x82\xAC\xF0\x9F\x98\x80bcdef => a\xC3\xA9\xE2\x82\xAC\xF0\x9F\x98\x80bcdef
+\x0A\x09\x0D\x00 => \n\t\u000d\u0000
+\x08|\x0B|\x1F|\x20|\x7E|\x7F => \u0008|\u000b|\u001f| |~|\u007f
+\xC2\x80|\xC2\x9F|\xC2\xA0 => \u0080|\u009f|\xC2\xA0
+\xD8\x9B|\xD8\x9C|\xD8\x9D => \xD8\x9B|\u061c|\xD8\x9D
+\xE2\x80\x8A|\xE2\x80\x8B|\xE2\x80\x8F|\xE2\x80\x90 => \xE2\x80\x8A|\u200b|\u200f|\xE2\x80\x90
+\xE2\x80\xA7|\xE2\x80\xA8|\xE2\x80\xAE|\xE2\x80\xAF => \xE2\x80\xA7|\u2028|\u202e|\xE2\x80\xAF
+\xE2\x81\x9F|\xE2\x81\xA0|\xE2\x81\xAF|\xE2\x81\xB0 => \xE2\x81\x9F|\u2060|\u206f|\xE2\x81\xB0
+\xEF\xBB\xBE|\xEF\xBB\xBF|\xEF\xBC\x80 => \xEF\xBB\xBE|\ufeff|\xEF\xBC\x80
+\xEF\xBF\xBD|\xEF\xBF\xBE|\xEF\xBF\xBF => \xEF\xBF\xBD|\ufffe|\uffff
+\xF0\x90\x80\x80|\xF4\x8F\xBF\xBF => \xF0\x90\x80\x80|\xF4\x8F\xBF\xBF
+a\x80b\xFF => a\ufffdb\ufffd
+\xC0\x80 => \ufffd\ufffd
+\xED\xA0\x80 => \ufffd\ufffd\ufffd
+\xF4\x90\x80\x80 => \ufffd\ufffd\ufffd\ufffd
+\xE2\x82 => \ufffd\ufffd
+\xF0\x9F\x98a\xC2 => \ufffd\ufffd\ufffda\ufffd
+"#;
+
+#[test]
+fn bytes_are_shown(rt: HostRuntime) {
+    let alloc = rt.alloc();
+    for row in SHOWN.trim().lines() {
+        let (bytes, wanted) = cells(&rt, alloc, row);
+        compare(&rt, row, made(&rt, shown(alloc, bytes)), wanted);
+    }
+}
+
+/// Bytes, and the text that they are.
+const READABLE: &str = r#"
+a\x0A\x1B[2J => a\x0A\x1B[2J
+ => 
+a\xC3\xA9\xE2\x82\xAC\xF0\x9F\x98\x80bcdef => a\xC3\xA9\xE2\x82\xAC\xF0\x9F\x98\x80bcdef
+a\x80b => a\xEF\xBF\xBDb
+\xC0\x80 => \xEF\xBF\xBD\xEF\xBF\xBD
+\xE2\x82 => \xEF\xBF\xBD\xEF\xBF\xBD
+\xED\xA0\x80 => \xEF\xBF\xBD\xEF\xBF\xBD\xEF\xBF\xBD
+"#;
+
+#[test]
+fn each_byte_of_no_character_reads_as_one(rt: HostRuntime) {
+    let alloc = rt.alloc();
+    for row in READABLE.trim().lines() {
+        let (bytes, wanted) = cells(&rt, alloc, row);
+        compare(&rt, row, made(&rt, readable(alloc, bytes)), wanted);
+    }
+}
+
+/// A limit, bytes, and what they are shown as within so many bytes. Dots have little room in the last rows.
+const WITHIN: &str = r#"
+max => a\xC3\xA9\xE2\x82\xAC\xF0\x9F\x98\x80bcdef => a\xC3\xA9\xE2\x82\xAC\xF0\x9F\x98\x80bcdef
+15 => a\xC3\xA9\xE2\x82\xAC\xF0\x9F\x98\x80bcdef => a\xC3\xA9\xE2\x82\xAC\xF0\x9F\x98\x80bcdef
+14 => a\xC3\xA9\xE2\x82\xAC\xF0\x9F\x98\x80bcdef => a\xC3\xA9\xE2\x82\xAC\xF0\x9F\x98\x80b...
+13 => a\xC3\xA9\xE2\x82\xAC\xF0\x9F\x98\x80bcdef => a\xC3\xA9\xE2\x82\xAC\xF0\x9F\x98\x80...
+12 => a\xC3\xA9\xE2\x82\xAC\xF0\x9F\x98\x80bcdef => a\xC3\xA9\xE2\x82\xAC...
+9 => a\xC3\xA9\xE2\x82\xAC\xF0\x9F\x98\x80bcdef => a\xC3\xA9\xE2\x82\xAC...
+8 => a\xC3\xA9\xE2\x82\xAC\xF0\x9F\x98\x80bcdef => a\xC3\xA9...
+6 => a\xC3\xA9\xE2\x82\xAC\xF0\x9F\x98\x80bcdef => a\xC3\xA9...
+5 => a\xC3\xA9\xE2\x82\xAC\xF0\x9F\x98\x80bcdef => a...
+4 => a\xC3\xA9\xE2\x82\xAC\xF0\x9F\x98\x80bcdef => a...
+3 => a\xC3\xA9\xE2\x82\xAC\xF0\x9F\x98\x80bcdef => ...
+2 => a\xC3\xA9\xE2\x82\xAC\xF0\x9F\x98\x80bcdef => ..
+1 => a\xC3\xA9\xE2\x82\xAC\xF0\x9F\x98\x80bcdef => .
+0 => a\xC3\xA9\xE2\x82\xAC\xF0\x9F\x98\x80bcdef => 
+0 =>  => 
+6 => \x1B => \u001b
+6 => \x1B\x80 => \u0...
+"#;
+
+#[test]
+fn long_texts_are_cut_between_characters(rt: HostRuntime) {
+    let alloc = rt.alloc();
+    for row in WITHIN.trim().lines() {
+        let (limit, bytes, wanted) = limited(&rt, alloc, row);
+        let found = made(&rt, shown_within(alloc, limit, bytes));
+        compare(&rt, row, found, wanted);
+    }
+}
+
+/// A limit, bytes, and their front.
+const FRONTS: &str = r#"
+0 => a\xC3\xA9\xE2\x82\xAC\xF0\x9F\x98\x80bcdef => 
+2 => a\xC3\xA9\xE2\x82\xAC\xF0\x9F\x98\x80bcdef => a
+3 => a\xC3\xA9\xE2\x82\xAC\xF0\x9F\x98\x80bcdef => a\xC3\xA9
+9 => a\xC3\xA9\xE2\x82\xAC\xF0\x9F\x98\x80bcdef => a\xC3\xA9\xE2\x82\xAC
+10 => a\xC3\xA9\xE2\x82\xAC\xF0\x9F\x98\x80bcdef => a\xC3\xA9\xE2\x82\xAC\xF0\x9F\x98\x80
+16 => a\xC3\xA9\xE2\x82\xAC\xF0\x9F\x98\x80bcdef => a\xC3\xA9\xE2\x82\xAC\xF0\x9F\x98\x80bcdef
+5 =>  => 
+1 => \xE2\x82 => \xE2
+"#;
+
+#[test]
+fn fronts_cut_no_character(rt: HostRuntime) {
+    for row in FRONTS.trim().lines() {
+        let (limit, bytes, wanted) = limited(&rt, rt.alloc(), row);
+        compare(&rt, row, front(bytes, limit), wanted);
+    }
+}
+
+/// Adds the bytes as they are shown.
+fn push_bytes(rt: &impl Abort, text: &mut String, bytes: &[u8]) {
+    push_shown(text, bytes).expect(rt, "memory");
+}
+
+#[test]
+fn what_is_shown_stands_behind_the_text(rt: HostRuntime) {
+    let mut text = String::from_str(rt.alloc(), "in ").expect(&rt, "memory");
+    push_bytes(&rt, &mut text, b"\x1B[2J");
+    push_bytes(&rt, &mut text, b"");
+    compare(&rt, "behind", text.as_bytes(), b"in \\u001b[2J");
+}
