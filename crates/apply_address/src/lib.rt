@@ -1,4 +1,4 @@
-//! The parts of a resource's address: what stands in a plan as one text is taken apart into module, type, name and key.
+//! Splits the address of a resource into module, type, name and instance key.
 #![tactic(auto)]
 
 mod address_parts;

@@ -1,4 +1,4 @@
-//! A bus of events from several workers to one receiver, and claims on numbers that workers draw.
+//! A bounded channel that carries events from workers to one receiver, and numbers for workers to draw.
 #![tactic(auto)]
 
 mod bus_error;

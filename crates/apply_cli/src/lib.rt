@@ -1,4 +1,4 @@
-//! The program `applystream`, from the words behind its name to its exit status, over any files and streams.
+//! The main command of `applystream`, from its arguments to its exit status.
 #![tactic(auto)]
 
 mod answer;

@@ -1,4 +1,4 @@
-//! What the words of the command line say: the settings of an apply, from the words that `clap` takes.
+//! Reads the command line of the main command into settings.
 #![tactic(auto)]
 
 mod arguments;

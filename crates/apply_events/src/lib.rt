@@ -1,5 +1,4 @@
-//! The events of an apply, one by one: what happens to each step of a plan's changes, and when. Beside them the laws of
-//! changes that are dealt out to workers, and of events that several workers report.
+//! The events of an apply: what happens to each step and when, by workers or in lanes.
 #![tactic(auto)]
 
 mod applied;

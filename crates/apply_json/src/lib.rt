@@ -1,5 +1,4 @@
-//! Reading JSON texts (RFC 8259) with no tree: what is looked at goes into places of the caller's, and the rest is checked and
-//! passed over; and values as their own texts.
+//! Reads JSON (RFC 8259) in one pass into slots of the caller, without building a tree.
 #![tactic(auto)]
 
 mod begun;

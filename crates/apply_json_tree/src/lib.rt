@@ -1,4 +1,4 @@
-//! JSON texts (RFC 8259) as trees: the whole of a text, or what of it is looked at; and looking into them.
+//! Builds a tree of the parts of a JSON text (RFC 8259) that a caller asks for, and looks into it.
 #![tactic(auto)]
 
 pub mod members;

@@ -1,5 +1,4 @@
-//! Makes one public call and prints what it answered, so that a check can refuse memory to that call alone, one
-//! allocation after the other. The first word names the call.
+//! A program that makes one public call, so that `checks/refuse_calls` can refuse it memory.
 //!
 //! The line before the answer begins with `call`, and tells what was there before. A call that could not be prepared has
 //! neither.

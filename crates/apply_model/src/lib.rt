@@ -1,4 +1,4 @@
-//! What saved Terraform plans (JSON Output Format 1.x) and scripts of outcomes are, apart from how they are read.
+//! The plan and the script as values: changes, steps, outcomes, provisioners, waits and details.
 #![tactic(auto)]
 
 mod details;

@@ -1,5 +1,4 @@
-//! How saved Terraform plans (JSON Output Format 1.x) and scripts of outcomes are read. What they are is `apply_model`'s,
-//! and is passed on.
+//! Reads a saved Terraform plan (JSON Output Format 1.x) and a script of outcomes.
 #![tactic(auto)]
 
 mod both_made;

@@ -1,4 +1,4 @@
-//! Reads what only Terraform's form needs of a plan (JSON Output Format 1.x) and of a script: planned changes, outputs, diagnostics.
+//! Reads what only Terraform's form needs of a plan and a script: details, outputs, diagnostics.
 #![tactic(auto)]
 
 mod changes;

@@ -1,4 +1,4 @@
-//! Tests of `apply_plan`, in a crate of their own, so that its code is not proved again beside them.
+//! Tests of `apply_plan`.
 #![tactic(auto)]
 
 #[cfg(test)]

@@ -1,4 +1,4 @@
-//! Finds what a script names in a plan: the change of an address, the step of an `after`, and the steps that can never begin.
+//! Finds what a script names in a plan: changes, steps, and steps that can never begin.
 #![tactic(auto)]
 
 mod beginning;

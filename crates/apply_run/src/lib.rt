@@ -1,4 +1,4 @@
-//! The run: workers apply a plan's changes in threads, and the caller writes what they report while they do.
+//! Runs an apply: workers or lanes apply the changes, and a collector writes their events.
 #![tactic(auto)]
 
 mod applying;

@@ -1,4 +1,4 @@
-//! The lines of a stream: what is said of an apply, as JSON, one message a line (Machine-Readable UI).
+//! The JSON lines of the default form: one message of the Machine-Readable UI for each event.
 #![tactic(auto)]
 
 mod applied_step;

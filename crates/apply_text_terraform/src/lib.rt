@@ -1,5 +1,4 @@
-//! The lines of a stream as Terraform itself would write them, members in its order and all: what is said of an apply, as
-//! JSON, one message a line (Machine-Readable UI).
+//! The JSON lines of Terraform's form: each message in Terraform's own bytes.
 #![tactic(auto)]
 
 mod cached_parts;

@@ -1,4 +1,4 @@
-//! Tests of `apply_text_terraform`, in a crate of their own, so that its code is not proved again beside them.
+//! Tests of `apply_text_terraform`.
 #![tactic(auto)]
 
 #[cfg(test)]

@@ -1,4 +1,4 @@
-//! The stream that is written: its lines in either form, what their events add up to, and the sink that takes the bytes.
+//! Writes the stream into a sink: head, lines, diagnostics and summary, in either form.
 #![tactic(auto)]
 
 mod fault;

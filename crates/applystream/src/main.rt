@@ -1,6 +1,4 @@
-//! Prints the stream of messages for applying a saved plan, which is read from standard input, as the words of the command
-//! line say; or checks such a stream, where the first of them is `check`, plays it, where it is `play`, or draws it, where it is
-//! `view`; or says every fault of a plan and of a script, where it is `validate`.
+//! The program `applystream`: starts the main command or the tool that its first argument names.
 #![tactic(auto)]
 
 use apply_cli::{Awaited, Usage, follow_standard, given_words, refuse_standard};

@@ -1,4 +1,4 @@
-//! Every fault of a saved plan and of a script at once, each with its place.
+//! Finds every error of a plan and a script at once, each with its place.
 #![tactic(auto)]
 
 mod beside;

@@ -1,4 +1,4 @@
-//! The command `validate`: every fault of a saved plan and of a script, for people.
+//! `applystream validate`: the command that prints the errors of a plan and a script.
 #![tactic(auto)]
 
 mod command;

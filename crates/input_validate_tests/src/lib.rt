@@ -1,5 +1,4 @@
-//! Tests of `input_validate` and `input_validate_cli`, in a crate of their own, so that their code is not proved again
-//! beside them.
+//! Tests of `input_validate` and `input_validate_cli`.
 #![tactic(auto)]
 
 #[cfg(test)]

@@ -1,5 +1,6 @@
-//! What a run writes a checker of streams accepts: laws over the lines that `apply_text` defines and the verdict that
-//! `stream_check` defines. Nothing here runs.
+//! Laws of `check`: it accepts every stream that a run writes, in both forms.
+//!
+//! Each function does nothing: its contract is the law. No program links this crate.
 #![tactic(auto)]
 
 mod applied;

@@ -1,5 +1,6 @@
-//! Laws of a run: what a user can rely on of plans, scripts, hooks, events, lines and time lines. Each function does nothing;
-//! its contract is the law. No program links this crate.
+//! Laws of a run: what holds of plans, scripts, hooks, events, lines, time lines and secrets.
+//!
+//! Each function does nothing: its contract is the law. No program links this crate.
 #![tactic(auto)]
 
 mod dealing;

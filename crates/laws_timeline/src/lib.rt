@@ -1,5 +1,6 @@
-//! What holds of what a stream tells, of its numbers and rows, and of a picture of one that is accepted. No code calls these
-//! laws, so that no program waits for their proofs.
+//! Laws of the time line that `view` draws: its totals, rows and limits, and those of `check`.
+//!
+//! Each function does nothing: its contract is the law. No program links this crate.
 #![tactic(auto)]
 
 ghost use Rattle.std.specs.Prelude.{◌≡◌, All, List, Ok, false, ℕ};

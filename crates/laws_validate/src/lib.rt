@@ -1,5 +1,6 @@
-//! What holds of what `validate` finds in plans and scripts. No code calls it, so that no program waits for its proof. Each function
-//! does nothing; its contract is the law.
+//! Laws of `validate`: it reports an error exactly where a run refuses the plan or the script.
+//!
+//! Each function does nothing: its contract is the law. No program links this crate.
 #![tactic(auto)]
 
 ghost use Rattle.std.specs.Prelude.{◌≡◌, ◌↔◌, [], ◌∷◌, ◌++◌, ℕ, All, Bool, List, Result, Some, false, is_some, length, nat_lt, slice_get, true};

@@ -1,5 +1,4 @@
-//! Whether a stream of the Machine-Readable UI is whole: each event of a step once, in its order, and totals that
-//! agree.
+//! `applystream check`: decides whether a stream is whole, and reports what is missing.
 #![tactic(auto)]
 
 mod command;

@@ -1,4 +1,4 @@
-//! The lines of a stream: reading them one by one, with no more in memory than a line may have.
+//! Reads a stream line by line, in the memory of one line.
 #![tactic(auto)]
 
 mod failed_read;

@@ -1,4 +1,4 @@
-//! Writes the lines of a stream as they stand, each when its time has come.
+//! `applystream play`: writes the lines of a stream at the times that their timestamps state.
 #![tactic(auto)]
 
 mod command;

@@ -1,5 +1,4 @@
-//! What the stream of an apply tells, and the numbers that a picture of it needs: which steps ran when, what ran beside
-//! what, and which of them get a row.
+//! Reads a stream into a time line: which step ran when, how many at once, and which get a row.
 #![tactic(auto)]
 
 mod bars;

@@ -1,4 +1,4 @@
-//! Tests of `stream_timeline`, in a crate of their own, so that its code is not proved again beside them.
+//! Tests of `stream_timeline`.
 #![tactic(auto)]
 
 #[cfg(test)]

@@ -1,4 +1,4 @@
-//! What the commands over a stream share: their file, why they are refused, and what is said then.
+//! What all tools share: the FILE argument, errors, their messages, and exit statuses.
 #![tactic(auto)]
 
 mod arguments;

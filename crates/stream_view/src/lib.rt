@@ -1,4 +1,4 @@
-//! What a stream of an apply tells, drawn for people: which steps ran when, as a text or as one SVG.
+//! `applystream view`: draws the time line of a stream, as text or as one SVG.
 #![tactic(auto)]
 
 mod column;

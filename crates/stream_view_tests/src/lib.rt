@@ -1,4 +1,4 @@
-//! Tests of `stream_view`, in a crate of their own, so that its code is not proved again beside them.
+//! Tests of `stream_view`.
 #![tactic(auto)]
 
 #[cfg(test)]

@@ -1,4 +1,4 @@
-//! Texts for a terminal: escapes what would steer it, measures columns, and fits, wraps and marks up text.
+//! Text for a terminal: escapes control characters, measures columns, and fits, wraps and marks up.
 #![tactic(auto)]
 
 mod columns;

@@ -1,4 +1,4 @@
-//! Tests of `term_text`, in a crate of their own, so that its code is not proved again beside them.
+//! Tests of `term_text`.
 #![tactic(auto)]
 
 #[cfg(test)]
