@@ -61,7 +61,7 @@ digit_at (digit ∷ digits) (suc i) all within = digit_at digits i all.1 (omega 
 pub digit_ascii : (digit : ℕ) → digit_value digit < 16 → digit < 128
 digit_ascii digit small = grind (arith, nat_tests)
 
--- a text can be cut behind digits
+-- a text can be cut after digits
 pub digits_boundary : (text : List ℕ) (count code : ℕ) → IsUtf8 text → count ≤ length text → hexadecimal (take count text) ≡ Some code → 0 < count → IsCharBoundary text count
 digits_boundary text count code utf8 within is some =
     let all = (hexadecimal-all (take count text) code is).0 in

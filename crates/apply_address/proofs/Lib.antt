@@ -1,8 +1,8 @@
 pub mod Digits
-pub mod FoundAddresses
-pub mod FoundNames
-pub mod FoundPieces
-pub mod Marks
+pub mod LocatedAddresses
+pub mod LocatedNames
+pub mod LocatedPieces
+pub mod Delimiters
 pub mod Modules
 pub mod Numbers
 pub mod Quotes

@@ -30,17 +30,17 @@ pub record IsWhole (text : List ℕ) (number : ℤ) : Type 0 where
   pub fits : FitsSigned w64 number
   pub written : text ≡ signed_decimal number
 
-found : (text : List ℕ) (b : Bool) → (is_64_bits (number_of text) && bytes_eq (signed_decimal (number_of text)) text) ≡ b → (number : ℤ)
+answer : (text : List ℕ) (b : Bool) → (is_64_bits (number_of text) && bytes_eq (signed_decimal (number_of text)) text) ≡ b → (number : ℤ)
     → cond b (Some (number_of text)) None ≡ Some number → IsWhole text number
-found text true e number is =
+answer text true e number is =
     let same : number_of text ≡ number = cc in
     let both = and_parts _ _ e in
     subst (λ (z : ℤ). IsWhole text z) same (record { fits = fits (number_of text) both.0; written = sym ((bytes_eq-Decides (signed_decimal (number_of text)) text).0 both.1) })
-found text false e number is = absurd cc
+answer text false e number is = absurd cc
 
-pub whole_number-found : (text : List ℕ) (number : ℤ) → whole_number text ≡ Some number → IsWhole text number
+pub whole_number-answer : (text : List ℕ) (number : ℤ) → whole_number text ≡ Some number → IsWhole text number
 unfolding whole_number
-whole_number-found text number is = found text _ refl number is
+whole_number-answer text number is = answer text _ refl number is
 
 -- a number that stands as it is written is read
 pub whole_number-written : (text : List ℕ) → FitsSigned w64 (number_of text) → signed_decimal (number_of text) ≡ text → whole_number text ≡ Some (number_of text)
@@ -56,7 +56,7 @@ not_some (Some x) never = absurd (never x refl)
 pub whole_number-err : {E : Type 0} (text : List ℕ) (r : Result ℤ E) → ParsesSigned w64 10 text r → result_ok r ≡ None → None ≡ whole_number text
 whole_number-err text (Ok number) parsed none = absurd cc
 whole_number-err text (Err e) parsed none = not_some (whole_number text) (λ number is.
-    let whole = whole_number-found text number is in
+    let whole = whole_number-answer text number is in
     let ok = parse-signed_decimal w64 number text (Err e) whole.fits whole.fits.sfits whole.written parsed in
     cc)
 
@@ -74,7 +74,7 @@ canonical_written (negsuc n) small = let less : n < 2 ^ 63 = small.sfits in cano
 -- nor what is written otherwise
 pub whole_number-odd : (text : List ℕ) → is_canonical text ≡ false → None ≡ whole_number text
 whole_number-odd text odd = not_some (whole_number text) (λ number is.
-    let whole = whole_number-found text number is in
+    let whole = whole_number-answer text number is in
     let fine = canonical_written number whole.fits in
     let fine_here : is_canonical text ≡ true = ap is_canonical whole.written ∙ fine in
     cc)

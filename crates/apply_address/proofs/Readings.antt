@@ -6,23 +6,23 @@ use Rattle.apply_address.specs.declared.address_parts.AddressParts.{AddressParts
 use Rattle.apply_address.specs.Address.{Address, IsAddress, parts_of, written}
 use Rattle.apply_address.specs.Parts.{parts_view}
 use Rattle.apply_address.specs.Reading.{parts_in}
-use Rattle.apply_address.proofs.FoundAddresses.{address_found}
+use Rattle.apply_address.proofs.LocatedAddresses.{address_located}
 use Rattle.apply_address.proofs.WrittenAddresses.{address_read}
 
 -- the parts are those of an address that is written so
 abbrev IsOfAddress : List ℕ → AddressParts → Type 0
 IsOfAddress text parts = (address : Address) × IsAddress address × (text ≡ written address) × (parts_view parts ≡ parts_of address)
 
-some_found : (text : List ℕ) (found : Option AddressParts) → IsUtf8 text → option_map parts_view found ≡ parts_in text → IfSome found (IsOfAddress text)
-some_found text None utf8 is = tt
-some_found text (Some parts) utf8 is = address_found text (parts_view parts) utf8 (sym is)
+some_located : (text : List ℕ) (answer : Option AddressParts) → IsUtf8 text → option_map parts_view answer ≡ parts_in text → IfSome answer (IsOfAddress text)
+some_located text None utf8 is = tt
+some_located text (Some parts) utf8 is = address_located text (parts_view parts) utf8 (sym is)
 
-pub all_found : {E : Type 0} (text : List ℕ) (r : Result (Option AddressParts) E) → IsUtf8 text → IfOk r (λ found. option_map parts_view found ≡ parts_in text)
-    → IfOk r (λ found. IfSome found (IsOfAddress text))
-all_found text (Ok found) utf8 is = some_found text found utf8 is
-all_found text (Err e) utf8 is = tt
+pub all_located : {E : Type 0} (text : List ℕ) (r : Result (Option AddressParts) E) → IsUtf8 text → IfOk r (λ answer. option_map parts_view answer ≡ parts_in text)
+    → IfOk r (λ answer. IfSome answer (IsOfAddress text))
+all_located text (Ok answer) utf8 is = some_located text answer utf8 is
+all_located text (Err e) utf8 is = tt
 
-pub only_found : {E : Type 0} (text : List ℕ) (r : Result (Option AddressParts) E) → IfOk r (λ found. option_map parts_view found ≡ parts_in text)
-    → IfOk r (λ found. (address : Address) → IsAddress address → text ≡ written address → option_map parts_view found ≡ Some (parts_of address))
-only_found text (Ok found) is = λ address fits same. is ∙ ap parts_in same ∙ address_read address fits
-only_found text (Err e) is = tt
+pub only_located : {E : Type 0} (text : List ℕ) (r : Result (Option AddressParts) E) → IfOk r (λ answer. option_map parts_view answer ≡ parts_in text)
+    → IfOk r (λ answer. (address : Address) → IsAddress address → text ≡ written address → option_map parts_view answer ≡ Some (parts_of address))
+only_located text (Ok answer) is = λ address fits same. is ∙ ap parts_in same ∙ address_read address fits
+only_located text (Err e) is = tt

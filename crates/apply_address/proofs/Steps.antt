@@ -36,9 +36,9 @@ pub map_or_some : {A B : Type 0} (f : A → B) (o : Option A) (d z : B) → opti
 map_or_some f None d z e = inr (refl, e)
 map_or_some f (Some x) d z e = inl (x, refl, e)
 
-pub after_prefix-found : (prefix text found : List ℕ) → after_prefix prefix text ≡ Some found → text ≡ prefix ++ found
-after_prefix-found prefix text found e =
-    let both = cond_some (starts_with nat_eq text prefix) (drop (length prefix) text) found e in
+pub after_prefix-answer : (prefix text answer : List ℕ) → after_prefix prefix text ≡ Some answer → text ≡ prefix ++ answer
+after_prefix-answer prefix text answer e =
+    let both = cond_some (starts_with nat_eq text prefix) (drop (length prefix) text) answer e in
     (starts_is Decides-eqb text prefix (starts_with nat_eq text prefix) refl).0 both.0 ∙ ap (λ rest. prefix ++ rest) both.1
 
 pub after_prefix-at : (prefix rest : List ℕ) → after_prefix prefix (prefix ++ rest) ≡ Some rest
@@ -46,8 +46,8 @@ after_prefix-at prefix rest =
     let begins : starts_with nat_eq (prefix ++ rest) prefix ≡ true = (starts_is Decides-eqb (prefix ++ rest) prefix (starts_with nat_eq (prefix ++ rest) prefix) refl).1 rest refl in
     rw (begins, drop_at prefix rest (length prefix) refl) refl
 
--- behind ASCII a text is a text
-pub utf8_behind : (front behind : List ℕ) → AllByRecursion (λ byte. byte < 128) front → IsUtf8 (front ++ behind) → IsUtf8 behind
-utf8_behind [] behind all utf8 = utf8
-utf8_behind (byte ∷ front) behind all utf8 =
-    utf8_behind front behind all.1 (IsUtf8-past_char (byte ∷ (front ++ behind)) (front ++ behind) byte utf8 (sym (ap (λ bytes. bytes ++ (front ++ behind)) (encode_ascii byte all.0))))
+-- after ASCII bytes the rest of a text is a text
+pub utf8_after : (front remainder : List ℕ) → AllByRecursion (λ byte. byte < 128) front → IsUtf8 (front ++ remainder) → IsUtf8 remainder
+utf8_after [] remainder all utf8 = utf8
+utf8_after (byte ∷ front) remainder all utf8 =
+    utf8_after front remainder all.1 (IsUtf8-past_char (byte ∷ (front ++ remainder)) (front ++ remainder) byte utf8 (sym (ap (λ bytes. bytes ++ (front ++ remainder)) (encode_ascii byte all.0))))

@@ -13,11 +13,11 @@ use Rattle.std.proofs.lemmas.Str.Parse.{without_leading_plus_none}
 use Rattle.apply_model.specs.declared.plan.key.Key.TheVariants as key
 use Rattle.apply_model.specs.Plan.Address.{after_prefix}
 use Rattle.apply_address.specs.Address.{IsNamed, Named, written_named}
-use Rattle.apply_address.specs.Keys.{IsKey, WrittenKey, no_key, number_key, said_key, text_key, written_key}
-use Rattle.apply_address.specs.Names.{IsName, is_mark}
-use Rattle.apply_address.specs.Pieces.{IsPiece, Piece, said_text, written_text}
-use Rattle.apply_address.specs.Reading.{cut_at_bracket, key_at, name_at, named_at, number_key_at, said_in, text_key_at, whole_number}
-use Rattle.apply_address.proofs.FoundNames.{said_named}
+use Rattle.apply_address.specs.Keys.{IsKey, WrittenKey, no_key, number_key, meant_key, text_key, written_key}
+use Rattle.apply_address.specs.Names.{IsName, is_delimiter}
+use Rattle.apply_address.specs.Pieces.{IsPiece, Piece, unescaped_text, written_text}
+use Rattle.apply_address.specs.Reading.{cut_at_bracket, key_at, name_at, named_at, number_key_at, unescaped_in, text_key_at, whole_number}
+use Rattle.apply_address.proofs.LocatedNames.{meant_named}
 use Rattle.apply_address.proofs.Numbers.{whole_number-written}
 use Rattle.apply_address.proofs.Steps.{after_prefix-at}
 use Rattle.apply_address.proofs.WrittenPieces.{AreRead, length-written, pieces_read}
@@ -29,32 +29,32 @@ abbrev pub EndsAt : (ℕ → Bool) → List ℕ → Type 0
 EndsAt passes [] = Unit {0}
 EndsAt passes (byte ∷ bytes) = passes byte ≡ true
 
-position-front : (passes : ℕ → Bool) (front behind : List ℕ) → AllByRecursion (λ byte. passes byte ≡ false) front → EndsAt passes behind
-    → position_or_len passes (front ++ behind) ≡ length front
+position-front : (passes : ℕ → Bool) (front remainder : List ℕ) → AllByRecursion (λ byte. passes byte ≡ false) front → EndsAt passes remainder
+    → position_or_len passes (front ++ remainder) ≡ length front
 position-front passes [] [] none ends = refl
-position-front passes [] (byte ∷ behind) none ends = rw ends refl
-position-front passes (byte ∷ front) behind none ends =
-    rw none.0 (omega (arith, position-front passes front behind none.1 ends))
+position-front passes [] (byte ∷ remainder) none ends = rw ends refl
+position-front passes (byte ∷ front) remainder none ends =
+    rw none.0 (omega (arith, position-front passes front remainder none.1 ends))
 
-before-front : (passes : ℕ → Bool) (front behind : List ℕ) → AllByRecursion (λ byte. passes byte ≡ false) front → EndsAt passes behind
-    → before_first passes (front ++ behind) ≡ front
-before-front passes front behind none ends =
-    ap (λ k. take k (front ++ behind)) (position-front passes front behind none ends) ∙ take_at front behind (length front) refl
+before-front : (passes : ℕ → Bool) (front remainder : List ℕ) → AllByRecursion (λ byte. passes byte ≡ false) front → EndsAt passes remainder
+    → before_first passes (front ++ remainder) ≡ front
+before-front passes front remainder none ends =
+    ap (λ k. take k (front ++ remainder)) (position-front passes front remainder none ends) ∙ take_at front remainder (length front) refl
 
 -- ---- names
 
 some_length : (size : ℕ) → 0 < size → (size == 0) ≡ false
 some_length size some = grind (arith, nat_tests)
 
-pub name_written : (name behind : List ℕ) → IsName name → EndsAt is_mark behind → name_at (name ++ behind) ≡ Some (name, behind)
+pub name_written : (name remainder : List ℕ) → IsName name → EndsAt is_delimiter remainder → name_at (name ++ remainder) ≡ Some (name, remainder)
 unfolding name_at
-name_written name behind is ends =
-    let place = position-front is_mark name behind is.plain ends in
-    let some : (position_or_len is_mark (name ++ behind) == 0) ≡ false = ap (λ k. k == 0) place ∙ some_length (length name) is.some in
-    let front = before-front is_mark name behind is.plain ends in
-    let rest : drop (position_or_len is_mark (name ++ behind)) (name ++ behind) ≡ behind = ap (λ k. drop k (name ++ behind)) place ∙ drop_at name behind (length name) refl in
-    ap (λ b. cond b None (Some (before_first is_mark (name ++ behind), drop (position_or_len is_mark (name ++ behind)) (name ++ behind)))) some
-    ∙ ap (λ (t : List ℕ). Some (t, drop (position_or_len is_mark (name ++ behind)) (name ++ behind))) front ∙ ap (λ (t : List ℕ). Some (name, t)) rest
+name_written name remainder is ends =
+    let place = position-front is_delimiter name remainder is.plain ends in
+    let some : (position_or_len is_delimiter (name ++ remainder) == 0) ≡ false = ap (λ k. k == 0) place ∙ some_length (length name) is.some in
+    let front = before-front is_delimiter name remainder is.plain ends in
+    let rest : drop (position_or_len is_delimiter (name ++ remainder)) (name ++ remainder) ≡ remainder = ap (λ k. drop k (name ++ remainder)) place ∙ drop_at name remainder (length name) refl in
+    ap (λ b. cond b None (Some (before_first is_delimiter (name ++ remainder), drop (position_or_len is_delimiter (name ++ remainder)) (name ++ remainder)))) some
+    ∙ ap (λ (t : List ℕ). Some (t, drop (position_or_len is_delimiter (name ++ remainder)) (name ++ remainder))) front ∙ ap (λ (t : List ℕ). Some (name, t)) rest
 
 -- ---- numbers
 
@@ -117,94 +117,94 @@ whole_number-at number small =
     let text = signed_decimal number in
     whole_number-written text (subst (FitsSigned w64) (sym is.value) small) (ap signed_decimal is.value) ∙ ap (λ z. Some z) is.value
 
-cut_written : (front behind : List ℕ) → AllByRecursion (λ byte. (byte == 93) ≡ false) front → cut_at_bracket (front ++ 93 ∷ behind) ≡ Some (front, behind)
+cut_written : (front remainder : List ℕ) → AllByRecursion (λ byte. (byte == 93) ≡ false) front → cut_at_bracket (front ++ 93 ∷ remainder) ≡ Some (front, remainder)
 unfolding cut_at_bracket
-cut_written front behind plain =
+cut_written front remainder plain =
     let is_bracket : ℕ → Bool = λ byte. byte == 93 in
-    let place : position_or_len (λ byte. byte == 93) (front ++ 93 ∷ behind) ≡ length front = position-front (λ byte. byte == 93) front (93 ∷ behind) plain refl in
-    let within : nat_lt (position_or_len (λ byte. byte == 93) (front ++ 93 ∷ behind)) (length (front ++ 93 ∷ behind)) ≡ true =
-    let whole = length-append front (93 ∷ behind) in grind (arith, nat_tests) in
-    let before : before_first (λ byte. byte == 93) (front ++ 93 ∷ behind) ≡ front = before-front (λ byte. byte == 93) front (93 ∷ behind) plain refl in
-    let joined : front ++ 93 ∷ behind ≡ (front ++ 93 ∷ []) ++ behind = sym (append_assoc front (93 ∷ []) behind) in
+    let place : position_or_len (λ byte. byte == 93) (front ++ 93 ∷ remainder) ≡ length front = position-front (λ byte. byte == 93) front (93 ∷ remainder) plain refl in
+    let within : nat_lt (position_or_len (λ byte. byte == 93) (front ++ 93 ∷ remainder)) (length (front ++ 93 ∷ remainder)) ≡ true =
+    let whole = length-append front (93 ∷ remainder) in grind (arith, nat_tests) in
+    let before : before_first (λ byte. byte == 93) (front ++ 93 ∷ remainder) ≡ front = before-front (λ byte. byte == 93) front (93 ∷ remainder) plain refl in
+    let joined : front ++ 93 ∷ remainder ≡ (front ++ 93 ∷ []) ++ remainder = sym (append_assoc front (93 ∷ []) remainder) in
     let long : length (front ++ 93 ∷ []) ≡ length front + 1 = length-append front (93 ∷ []) in
-    let after : after_first (λ byte. byte == 93) (front ++ 93 ∷ behind) ≡ behind =
-    ap (λ k. drop (k + 1) (front ++ 93 ∷ behind)) place ∙ ap (λ t. drop (length front + 1) t) joined ∙ drop_at (front ++ 93 ∷ []) behind (length front + 1) long in
-    ap (λ b. cond b (Some (before_first (λ byte. byte == 93) (front ++ 93 ∷ behind), after_first (λ byte. byte == 93) (front ++ 93 ∷ behind))) None) within
-    ∙ ap (λ (t : List ℕ). Some (t, after_first (λ byte. byte == 93) (front ++ 93 ∷ behind))) before ∙ ap (λ (t : List ℕ). Some (front, t)) after
+    let after : after_first (λ byte. byte == 93) (front ++ 93 ∷ remainder) ≡ remainder =
+    ap (λ k. drop (k + 1) (front ++ 93 ∷ remainder)) place ∙ ap (λ t. drop (length front + 1) t) joined ∙ drop_at (front ++ 93 ∷ []) remainder (length front + 1) long in
+    ap (λ b. cond b (Some (before_first (λ byte. byte == 93) (front ++ 93 ∷ remainder), after_first (λ byte. byte == 93) (front ++ 93 ∷ remainder))) None) within
+    ∙ ap (λ (t : List ℕ). Some (t, after_first (λ byte. byte == 93) (front ++ 93 ∷ remainder))) before ∙ ap (λ (t : List ℕ). Some (front, t)) after
 
-number_key_written : (number : ℤ) (behind : List ℕ) → FitsSigned w64 number → number_key_at (signed_decimal number ++ 93 ∷ behind) ≡ Some (key.Number number, behind)
+number_key_written : (number : ℤ) (remainder : List ℕ) → FitsSigned w64 number → number_key_at (signed_decimal number ++ 93 ∷ remainder) ≡ Some (key.Number number, remainder)
 unfolding number_key_at
-number_key_written number behind small =
-    rw (cut_written (signed_decimal number) behind (number_is number small).plain, whole_number-at number small) refl
+number_key_written number remainder small =
+    rw (cut_written (signed_decimal number) remainder (number_is number small).plain, whole_number-at number small) refl
 
 -- ---- keys
 
-text_key_written : (pieces : List Piece) (behind : List ℕ) → AllByRecursion IsPiece pieces → text_key_at (written_text pieces ++ 34 ∷ 93 ∷ behind) ≡ Some (key.Name (said_text pieces), behind)
+text_key_written : (pieces : List Piece) (remainder : List ℕ) → AllByRecursion IsPiece pieces → text_key_at (written_text pieces ++ 34 ∷ 93 ∷ remainder) ≡ Some (key.Name (unescaped_text pieces), remainder)
 unfolding text_key_at
-text_key_written pieces behind are =
-    let text = written_text pieces ++ 34 ∷ 93 ∷ behind in
-    let room : length pieces ≤ length text = omega (arith, length-written pieces, length-append (written_text pieces) (34 ∷ 93 ∷ behind)) in
-    let read : AreRead (length text) pieces (93 ∷ behind) = pieces_read (length text) pieces (93 ∷ behind) are room in
-    ap (λ t. option_map (λ (b : List ℕ). (key.Name (said_in text), b)) (after_prefix (codes "\"]") t)) read.behind
-    ∙ ap (λ o. option_map (λ (b : List ℕ). (key.Name (said_in text), b)) o) (after_prefix-at (codes "\"]") behind)
-    ∙ ap (λ (t : List ℕ). Some (key.Name t, behind)) read.said
+text_key_written pieces remainder are =
+    let text = written_text pieces ++ 34 ∷ 93 ∷ remainder in
+    let room : length pieces ≤ length text = omega (arith, length-written pieces, length-append (written_text pieces) (34 ∷ 93 ∷ remainder)) in
+    let read : AreRead (length text) pieces (93 ∷ remainder) = pieces_read (length text) pieces (93 ∷ remainder) are room in
+    ap (λ t. option_map (λ (b : List ℕ). (key.Name (unescaped_in text), b)) (after_prefix (codes "\"]") t)) read.remainder
+    ∙ ap (λ o. option_map (λ (b : List ℕ). (key.Name (unescaped_in text), b)) o) (after_prefix-at (codes "\"]") remainder)
+    ∙ ap (λ (t : List ℕ). Some (key.Name t, remainder)) read.content
 
 -- nothing, or a dot in front
 abbrev pub EndsAtDot : List ℕ → Type 0
-EndsAtDot behind = EndsAt (λ byte. byte == 46) behind
+EndsAtDot remainder = EndsAt (λ byte. byte == 46) remainder
 
 dot_is : (byte : ℕ) → (byte == 46) ≡ true → byte ≡ 46
 dot_is byte e = grind (arith, nat_tests)
 
-no_bracket : (behind : List ℕ) → EndsAtDot behind → (after_prefix (codes "[\"") behind ≡ None) × (after_prefix (codes "[") behind ≡ None)
+no_bracket : (remainder : List ℕ) → EndsAtDot remainder → (after_prefix (codes "[\"") remainder ≡ None) × (after_prefix (codes "[") remainder ≡ None)
 no_bracket [] ends = (refl, refl)
-no_bracket (byte ∷ behind) ends =
-    let P : ℕ → Type 0 = λ first. (after_prefix (codes "[\"") (first ∷ behind) ≡ None) × (after_prefix (codes "[") (first ∷ behind) ≡ None) in
+no_bracket (byte ∷ remainder) ends =
+    let P : ℕ → Type 0 = λ first. (after_prefix (codes "[\"") (first ∷ remainder) ≡ None) × (after_prefix (codes "[") (first ∷ remainder) ≡ None) in
     subst P (sym (dot_is byte ends)) (refl, refl)
 
-no_quote_behind : (first : ℕ) (others : List ℕ) → first ≢ 34 → after_prefix (codes "[\"") (91 ∷ first ∷ others) ≡ None
-no_quote_behind first others not_quote =
+no_quote_after : (first : ℕ) (others : List ℕ) → first ≢ 34 → after_prefix (codes "[\"") (91 ∷ first ∷ others) ≡ None
+no_quote_after first others not_quote =
     let test : nat_eq 34 first ≡ false = grind (arith, nat_tests) in
     rw test refl
 
-number_quoteless : (number : ℤ) (behind : List ℕ) → FitsSigned w64 number → after_prefix (codes "[\"") (91 ∷ (signed_decimal number ++ behind)) ≡ None
-number_quoteless number behind small =
+number_quoteless : (number : ℤ) (remainder : List ℕ) → FitsSigned w64 number → after_prefix (codes "[\"") (91 ∷ (signed_decimal number ++ remainder)) ≡ None
+number_quoteless number remainder small =
     let is = number_is number small in
-    ap (λ t. after_prefix (codes "[\"") (91 ∷ (t ++ behind))) is.is ∙ no_quote_behind is.first (is.others ++ behind) is.no_quote
+    ap (λ t. after_prefix (codes "[\"") (91 ∷ (t ++ remainder))) is.is ∙ no_quote_after is.first (is.others ++ remainder) is.no_quote
 
-pub key_written : (written_as : WrittenKey) (behind : List ℕ) → IsKey written_as → EndsAtDot behind → key_at (written_key written_as ++ behind) ≡ Some (said_key written_as, behind)
+pub key_written : (written_as : WrittenKey) (remainder : List ℕ) → IsKey written_as → EndsAtDot remainder → key_at (written_key written_as ++ remainder) ≡ Some (meant_key written_as, remainder)
 unfolding key_at
-key_written no_key behind is ends =
-    let none = no_bracket behind ends in
-    ap (λ o. option_map_or text_key_at o (option_map_or number_key_at (after_prefix (codes "[") behind) (Some (key.None, behind)))) none.0
-    ∙ ap (λ o. option_map_or number_key_at o (Some (key.None, behind))) none.1
-key_written (number_key number) behind is ends =
-    let inside = signed_decimal number ++ 93 ∷ behind in
-    let whole : written_key (number_key number) ++ behind ≡ 91 ∷ inside = ap (λ t. 91 ∷ t) (append_assoc (signed_decimal number) (codes "]") behind) in
+key_written no_key remainder is ends =
+    let none = no_bracket remainder ends in
+    ap (λ o. option_map_or text_key_at o (option_map_or number_key_at (after_prefix (codes "[") remainder) (Some (key.None, remainder)))) none.0
+    ∙ ap (λ o. option_map_or number_key_at o (Some (key.None, remainder))) none.1
+key_written (number_key number) remainder is ends =
+    let inside = signed_decimal number ++ 93 ∷ remainder in
+    let whole : written_key (number_key number) ++ remainder ≡ 91 ∷ inside = ap (λ t. 91 ∷ t) (append_assoc (signed_decimal number) (codes "]") remainder) in
     ap key_at whole
-    ∙ ap (λ o. option_map_or text_key_at o (option_map_or number_key_at (after_prefix (codes "[") (91 ∷ inside)) (Some (key.None, 91 ∷ inside)))) (number_quoteless number (93 ∷ behind) is)
+    ∙ ap (λ o. option_map_or text_key_at o (option_map_or number_key_at (after_prefix (codes "[") (91 ∷ inside)) (Some (key.None, 91 ∷ inside)))) (number_quoteless number (93 ∷ remainder) is)
     ∙ ap (λ o. option_map_or number_key_at o (Some (key.None, 91 ∷ inside))) (after_prefix-at (codes "[") inside)
-    ∙ number_key_written number behind is
-key_written (text_key pieces) behind is ends =
-    let inside = written_text pieces ++ 34 ∷ 93 ∷ behind in
-    let whole : written_key (text_key pieces) ++ behind ≡ 91 ∷ 34 ∷ inside = ap (λ t. 91 ∷ 34 ∷ t) (append_assoc (written_text pieces) (codes "\"]") behind) in
+    ∙ number_key_written number remainder is
+key_written (text_key pieces) remainder is ends =
+    let inside = written_text pieces ++ 34 ∷ 93 ∷ remainder in
+    let whole : written_key (text_key pieces) ++ remainder ≡ 91 ∷ 34 ∷ inside = ap (λ t. 91 ∷ 34 ∷ t) (append_assoc (written_text pieces) (codes "\"]") remainder) in
     ap key_at whole
     ∙ ap (λ o. option_map_or text_key_at o (option_map_or number_key_at (after_prefix (codes "[") (91 ∷ 34 ∷ inside)) (Some (key.None, 91 ∷ 34 ∷ inside)))) (after_prefix-at (codes "[\"") inside)
-    ∙ text_key_written pieces behind is
+    ∙ text_key_written pieces remainder is
 
 -- ---- names with keys
 
--- a key, or a dot or nothing behind it, begins with a mark or is nothing
-mark_behind : (written_as : WrittenKey) (behind : List ℕ) → EndsAtDot behind → EndsAt is_mark (written_key written_as ++ behind)
-mark_behind no_key [] ends = tt
-mark_behind no_key (byte ∷ behind) ends = ap is_mark (dot_is byte ends)
-mark_behind (number_key number) behind ends = refl
-mark_behind (text_key pieces) behind ends = refl
+-- a key, followed by a dot or nothing, begins with a delimiter or is empty
+delimiter_after : (written_as : WrittenKey) (remainder : List ℕ) → EndsAtDot remainder → EndsAt is_delimiter (written_key written_as ++ remainder)
+delimiter_after no_key [] ends = tt
+delimiter_after no_key (byte ∷ remainder) ends = ap is_delimiter (dot_is byte ends)
+delimiter_after (number_key number) remainder ends = refl
+delimiter_after (text_key pieces) remainder ends = refl
 
-pub named_written : (named : Named) (behind : List ℕ) → IsNamed named → EndsAtDot behind → named_at (written_named named ++ behind) ≡ Some (said_named named, behind)
+pub named_written : (named : Named) (remainder : List ℕ) → IsNamed named → EndsAtDot remainder → named_at (written_named named ++ remainder) ≡ Some (meant_named named, remainder)
 unfolding named_at
-named_written named behind is ends =
-    let rest = written_key named.key ++ behind in
-    let name : name_at (written_named named ++ behind) ≡ Some (named.name, rest) =
-    ap name_at (append_assoc named.name (written_key named.key) behind) ∙ name_written named.name rest is.name (mark_behind named.key behind ends) in
-    rw (name, key_written named.key behind is.key ends) refl
+named_written named remainder is ends =
+    let rest = written_key named.key ++ remainder in
+    let name : name_at (written_named named ++ remainder) ≡ Some (named.name, rest) =
+    ap name_at (append_assoc named.name (written_key named.key) remainder) ∙ name_written named.name rest is.name (delimiter_after named.key remainder ends) in
+    rw (name, key_written named.key remainder is.key ends) refl

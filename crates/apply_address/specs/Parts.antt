@@ -1,18 +1,19 @@
--- What is told of an address.
+-- The parts of an address.
 use Rattle.std.specs.Prelude.{ℕ, List}
 use Rattle.apply_model.specs.declared.plan.key.Key.{Key}
 use Rattle.apply_address.specs.declared.address_parts.AddressParts.{AddressParts}
 
+-- The parts of an address.
 pub record Parts : Type 0 where
-  -- the address of the module, empty for the root module
+  -- The address of the module, empty for the root module.
   pub module_address : List ℕ
-  -- the address within the module
+  -- The address within the module.
   pub resource : List ℕ
   pub kind_name : List ℕ
   pub name : List ℕ
   pub key : Key
 
--- parts that are borrowed, by their texts
+-- Borrowed parts, by their texts.
 abbrev pub parts_view : AddressParts → Parts
 parts_view parts = record {
   module_address = parts.module_address.now;

@@ -1,26 +1,27 @@
-//! Instance keys as they stand in an address.
+//! Instance keys as an address writes them.
 
 ghost use Rattle.std.specs.Prelude.{◌≡◌, ◌≤◌, length, option_map, IfOk, IfSome};
 ghost use Rattle.apply_address.specs.Reading.{cut_at_bracket, key_at, number_key_at, text_key_at};
 ghost use Rattle.apply_address.specs.KeyTexts.{key_of};
 
 use crate::number::whole_number;
-use crate::quoted::{behind_text, unescaped};
+use crate::quoted::{after_text, unescaped};
 use apply_model::{Key, Text};
 use std::alloc::{AllocError, Global};
 
-/// An instance key as it stands in an address.
+/// An instance key as an address writes it.
 #[derive(Clone, Copy)]
 pub enum KeyText<'a> {
-    /// There is none.
+    /// There is no key.
     None,
     /// A whole number.
     Number(i64),
-    /// A text, which begins here, behind its first quote, and ends before the next quote that stands bare.
+    /// The text that begins after the opening quote. The key ends before the next quote without a
+    /// backslash.
     Quoted(&'a str),
 }
 
-/// What stands before the first `]`, and behind it. `None` where there is none.
+/// The texts before and after the first `]`. `None` where there is none.
 #[tactic(auto, unfolding(crate::specs::Reading::cut_at_bracket))]
 fn cut_at_bracket(text: &str) -> Option<(&str, &str)>
     ensures value { option_map (λ cut. (cut.0.now, cut.1.now)) result ≡ cut_at_bracket text.now }
@@ -30,8 +31,8 @@ fn cut_at_bracket(text: &str) -> Option<(&str, &str)>
 }
 
 impl<'a> KeyText<'a> {
-    /// The key in front of a text, none where no bracket stands there, and what stands behind it. `None` where what a
-    /// bracket begins is no key.
+    /// The key at the front of a text, and the text after the key. There is no key where the text
+    /// does not begin with a bracket. `None` where a bracket begins no valid key.
     #[tactic(auto, unfolding(crate::specs::Reading::key_at))]
     pub fn first(text: &'a str) -> Option<(KeyText<'a>, &'a str)>
         ensures value { option_map (λ first. (key_of first.0, first.1.now)) result ≡ key_at text.now }
@@ -46,28 +47,28 @@ impl<'a> KeyText<'a> {
         }
     }
 
-    /// A text as a key, and what stands behind its last quote and bracket.
+    /// The text key at the front, and the text after its closing quote and bracket.
     #[tactic(auto, unfolding(crate::specs::Reading::text_key_at))]
     fn first_quoted(text: &'a str) -> Option<(KeyText<'a>, &'a str)>
         ensures value { option_map (λ first. (key_of first.0, first.1.now)) result ≡ text_key_at text.now }
         ensures no_longer { IfSome result (λ first. length first.1.now ≤ length text.now) }
     {
-        let behind = behind_text(text).strip_prefix("\"]")?;
-        Some((KeyText::Quoted(text), behind))
+        let remainder = after_text(text).strip_prefix("\"]")?;
+        Some((KeyText::Quoted(text), remainder))
     }
 
-    /// A number as a key, and what stands behind its bracket.
+    /// The number key at the front, and the text after its bracket.
     #[tactic(auto, unfolding(crate::specs::Reading::number_key_at))]
     fn first_number(text: &'a str) -> Option<(KeyText<'a>, &'a str)>
         ensures value { option_map (λ first. (key_of first.0, first.1.now)) result ≡ number_key_at text.now }
         ensures no_longer { IfSome result (λ first. length first.1.now ≤ length text.now) }
     {
-        let (digits, behind) = cut_at_bracket(text)?;
+        let (digits, remainder) = cut_at_bracket(text)?;
         let number = whole_number(digits)?;
-        Some((KeyText::Number(number), behind))
+        Some((KeyText::Number(number), remainder))
     }
 
-    /// The key that is meant. `Err` where memory is refused.
+    /// The instance key. `Err` where memory is refused.
     pub fn to_key(self, alloc: Global) -> Result<Key, AllocError>
         ensures { IfOk result (λ key. key ≡ key_of self.entry) }
     {
@@ -75,8 +76,8 @@ impl<'a> KeyText<'a> {
             KeyText::None => Ok(Key::None),
             KeyText::Number(number) => Ok(Key::Number(number)),
             KeyText::Quoted(text) => {
-                let said = unescaped(alloc, text)?;
-                Ok(Key::Name(Text::new(alloc, said.as_str())?))
+                let content = unescaped(alloc, text)?;
+                Ok(Key::Name(Text::new(alloc, content.as_str())?))
             }
         }
     }

@@ -15,7 +15,7 @@ pub struct LastPart<'a> {
 }
 
 impl<'a> LastPart<'a> {
-    /// The last part that a text is. `None` where it is none.
+    /// The last part, if the whole text is one.
     #[tactic(auto, unfolding(crate::specs::Reading::last_in))]
     pub fn read(text: &'a str) -> Option<LastPart<'a>>
         ensures { option_map last_view result ≡ last_in text.now }
@@ -26,14 +26,14 @@ impl<'a> LastPart<'a> {
         }
     }
 
-    /// The type, the dot and the name with its key that a text is.
+    /// A type, a dot and a name with its key, if they are the whole text.
     #[tactic(auto, unfolding(crate::specs::Reading::typed_in))]
     fn read_typed(text: &'a str) -> Option<LastPart<'a>>
         ensures { option_map last_view result ≡ typed_in text.now }
     {
-        let (kind_name, behind) = first_name(text)?;
-        let (named, behind) = Named::first(behind.strip_prefix(".")?)?;
-        if behind.is_empty() {
+        let (kind_name, remainder) = first_name(text)?;
+        let (named, remainder) = Named::first(remainder.strip_prefix(".")?)?;
+        if remainder.is_empty() {
             Some(LastPart { kind_name, named })
         } else {
             None

@@ -15,14 +15,15 @@ pub struct Named<'a> {
 }
 
 impl<'a> Named<'a> {
-    /// The name with its key in front of a text, and what stands behind it. `None` where none stands there.
+    /// The name with its key at the front of a text, and the text after them. `None` where the text
+    /// begins with no name, or where a bracket after the name begins no valid key.
     #[tactic(auto, unfolding(crate::specs::Reading::named_at))]
     pub fn first(text: &'a str) -> Option<(Named<'a>, &'a str)>
         ensures value { option_map (λ first. (named_view first.0, first.1.now)) result ≡ named_at text.now }
         ensures shorter { IfSome result (λ first. length first.1.now < length text.now) }
     {
-        let (name, behind) = first_name(text)?;
-        let (key, behind) = KeyText::first(behind)?;
-        Some((Named { name, key }, behind))
+        let (name, remainder) = first_name(text)?;
+        let (key, remainder) = KeyText::first(remainder)?;
+        Some((Named { name, key }, remainder))
     }
 }

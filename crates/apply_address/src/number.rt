@@ -3,7 +3,8 @@
 ghost use Rattle.std.specs.Prelude.{◌≡◌};
 ghost use Rattle.apply_address.specs.Reading.{is_canonical, whole_number as number_of};
 
-/// Whether no digit is a zero in front of others, and no sign a plus, or a minus in front of a zero.
+/// Whether JSON writes the number so: no plus, no zero before other digits, and no minus before a
+/// zero.
 fn is_canonical(text: &str) -> bool
     ensures { result ≡ is_canonical text.now }
 {
@@ -14,7 +15,7 @@ fn is_canonical(text: &str) -> bool
     }
 }
 
-/// The whole number of 64 bits with a sign that the text is, as JSON writes it. `None` where it is none.
+/// The signed 64-bit number that the text writes as JSON does. `None` where the text is none.
 pub fn whole_number(text: &str) -> Option<i64>
     ensures { result ≡ number_of text.now }
 {

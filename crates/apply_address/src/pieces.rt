@@ -1,10 +1,10 @@
-//! The pieces of a text between quotes, each of which stands for one character.
+//! The pieces of a text between quotes. Each piece stands for one character.
 
 ghost use Rattle.std.specs.Prelude.{◌≡◌, ◌≤◌, ◌<◌, option_map, length, IfSome};
 ghost use Rattle.apply_address.specs.Reading.{character_at, code_at, escape_at, piece_at};
 ghost use Rattle.apply_address.specs.Reading.{hexadecimal as number_of_digits};
 
-/// The first character, and what stands behind it. `None` where the text is empty.
+/// The first character, and the text after it. `None` where the text is empty.
 #[tactic(auto, unfolding(crate::specs::Reading::character_at))]
 fn first_character(text: &str) -> Option<(char, &str)>
     ensures value { option_map (λ first. (first.0, first.1.now)) result ≡ character_at text.now }
@@ -15,7 +15,7 @@ fn first_character(text: &str) -> Option<(char, &str)>
     Some((character, characters.as_str()))
 }
 
-/// The number that hexadecimal digits are. `None` where one of the bytes is none.
+/// The value of hexadecimal digits. `None` where a byte is no such digit.
 fn hexadecimal(digits: &[u8]) -> Option<u32>
     requires { length digits.now ≤ 8 }
     ensures { result ≡ number_of_digits digits.now }
@@ -27,8 +27,8 @@ fn hexadecimal(digits: &[u8]) -> Option<u32>
     Some(value)
 }
 
-/// The character whose code so many hexadecimal digits are, and what stands behind them. `None` where the text does not
-/// begin with as many, or there is no such character.
+/// The character whose code the first `count` hexadecimal digits give, and the text after them.
+/// `None` where the text begins with fewer digits, or no character has the code.
 #[tactic(auto, unfolding(crate::specs::Reading::code_at))]
 fn code(text: &str, count: usize) -> Option<(char, &str)>
     requires { count ≤ 8 }
@@ -43,35 +43,36 @@ fn code(text: &str, count: usize) -> Option<(char, &str)>
     Some((character, &text[count..]))
 }
 
-/// The character that stands behind a backslash, and what stands behind that.
+/// The character of an escape whose backslash was read, and the text after the escape. `None` where
+/// there is no such escape.
 #[tactic(auto, unfolding(crate::specs::Reading::escape_at))]
 fn escape(text: &str) -> Option<(char, &str)>
     ensures value { option_map (λ first. (first.0, first.1.now)) result ≡ escape_at text.now }
     ensures shorter { IfSome result (λ first. length first.1.now < length text.now) }
 {
-    let (letter, behind) = first_character(text)?;
+    let (letter, remainder) = first_character(text)?;
     match letter {
-        '"' | '\\' => Some((letter, behind)),
-        'n' => Some(('\n', behind)),
-        'r' => Some(('\r', behind)),
-        't' => Some(('\t', behind)),
-        'u' => code(behind, 4),
-        'U' => code(behind, 8),
+        '"' | '\\' => Some((letter, remainder)),
+        'n' => Some(('\n', remainder)),
+        'r' => Some(('\r', remainder)),
+        't' => Some(('\t', remainder)),
+        'u' => code(remainder, 4),
+        'U' => code(remainder, 8),
         _ => None,
     }
 }
 
-/// The character that the first piece stands for, and what stands behind the piece. `None` where the text is empty, and
-/// where it begins with a quote, or with a backslash that is no escape.
+/// The character of the first piece, and the text after the piece. `None` where the text is empty,
+/// or begins with a quote or an invalid escape.
 #[tactic(auto, unfolding(crate::specs::Reading::piece_at))]
 pub fn first_piece(text: &str) -> Option<(char, &str)>
     ensures value { option_map (λ first. (first.0, first.1.now)) result ≡ piece_at text.now }
     ensures shorter { IfSome result (λ first. length first.1.now < length text.now) }
 {
-    let (character, behind) = first_character(text)?;
+    let (character, remainder) = first_character(text)?;
     match character {
         '"' => None,
-        '\\' => escape(behind),
-        _ => Some((character, behind)),
+        '\\' => escape(remainder),
+        _ => Some((character, remainder)),
     }
 }

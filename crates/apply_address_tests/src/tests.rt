@@ -1,13 +1,15 @@
-//! What no clause says: that the definitions are the ones that were meant, and that calls succeed with ample memory.
+//! Checks what no contract states: the definitions mean what they should, and calls succeed with
+//! enough memory.
 //!
-//! Rows stand in texts, a row a line, since a test is proved before it runs, and a row of a text costs nothing there.
+//! Rows stand in texts, one in a line. A test is proved before it runs, and a row of a text costs
+//! the proof nothing.
 
 use apply_address::{AddressParts, an_address_has_one_reading, parts_of};
 use apply_model::Key;
 use std::alloc::Global;
 use std::process::Abort;
 
-/// A key that is awaited.
+/// An expected key.
 #[derive(Clone, Copy)]
 enum Awaited<'a> {
     None,
@@ -24,7 +26,7 @@ fn is_key(key: &Key, awaited: Awaited<'_>) -> bool {
     }
 }
 
-/// Fails where it is not so.
+/// Fails if the condition is false.
 fn holds(rt: &impl Abort, case: &str, is_so: bool) {
     assert!(rt; is_so, "{case}");
 }
@@ -38,7 +40,7 @@ fn parts<'a>(rt: &impl Abort, alloc: Global, address: &'a str) -> AddressParts<'
     }
 }
 
-/// Whether the first of the cells is an address with the parts that the others are, and no key.
+/// Whether the first cell is an address with the parts in the other cells, and no key.
 fn has_parts(rt: &impl Abort, alloc: Global, row: &str) -> bool {
     let mut cells = row.split(" | ");
     let parts = parts(rt, alloc, cells.next().unwrap_or(""));
@@ -49,7 +51,7 @@ fn has_parts(rt: &impl Abort, alloc: Global, row: &str) -> bool {
         && is_key(&parts.key, Awaited::None)
 }
 
-/// Each row has an address, and its module, last part, type and name.
+/// Fails if a row does not hold. A row has an address, and its module, last part, type and name.
 fn have_parts(rt: &impl Abort, alloc: Global, table: &str) {
     for row in table.trim().lines() {
         holds(rt, row, has_parts(rt, alloc, row));
@@ -61,7 +63,7 @@ fn has_key(rt: &impl Abort, alloc: Global, address: &str, key: Awaited<'_>) -> b
     is_key(&parts(rt, alloc, address).key, key)
 }
 
-/// The address has that number for a key.
+/// Fails if the address has another key than that number.
 fn has_number(rt: &impl Abort, alloc: Global, address: &str, number: i64) {
     holds(
         rt,
@@ -70,7 +72,7 @@ fn has_number(rt: &impl Abort, alloc: Global, address: &str, number: i64) {
     );
 }
 
-/// The address has that text for a key.
+/// Fails if the address has another key than that text.
 fn has_name(rt: &impl Abort, alloc: Global, address: &str, name: &str) {
     holds(
         rt,
@@ -79,7 +81,7 @@ fn has_name(rt: &impl Abort, alloc: Global, address: &str, name: &str) {
     );
 }
 
-/// Each row has an address, and the text that is its key.
+/// Fails if a row does not hold. A row has an address, and the text that is its key.
 fn have_names(rt: &impl Abort, alloc: Global, table: &str) {
     for row in table.trim().lines() {
         let (address, name) = row.split_once(" => ").expect(rt, row);
@@ -90,19 +92,19 @@ fn have_names(rt: &impl Abort, alloc: Global, table: &str) {
 /// Whether the text is no address.
 fn is_none(rt: &impl Abort, alloc: Global, text: &str) -> bool {
     match parts_of(alloc, text) {
-        Ok(found) => found.is_none(),
+        Ok(matched) => matched.is_none(),
         Err(_) => panic!(rt; "memory"),
     }
 }
 
-/// No row is an address.
+/// Fails if a row is an address.
 fn are_none(rt: &impl Abort, alloc: Global, table: &str) {
     for row in table.trim().lines() {
         holds(rt, row, is_none(rt, alloc, row));
     }
 }
 
-/// Whether the provider of a type is that one.
+/// Whether the type of the address implies that provider.
 fn has_provider(rt: &impl Abort, alloc: Global, address: &str, provider: &str) -> bool {
     parts(rt, alloc, address).provider() == provider
 }
@@ -113,13 +115,13 @@ const MOVED: &str = r#"module.old["x.y"].module.in[0].aws_instance.web["k\"1$${z
 #[test]
 fn a_moved_resource(rt: HostRuntime) {
     let parts = parts(&rt, rt.alloc(), MOVED);
-    let found = parts.module_address == r#"module.old["x.y"].module.in[0]"#
+    let matched = parts.module_address == r#"module.old["x.y"].module.in[0]"#
         && parts.resource == r#"aws_instance.web["k\"1$${z}"]"#
         && parts.provider() == "aws"
         && parts.kind_name == "aws_instance"
         && parts.name == "web"
         && is_key(&parts.key, Awaited::Name(r#"k"1${z}"#));
-    holds(&rt, MOVED, found);
+    holds(&rt, MOVED, matched);
 }
 
 const MODULES_AND_LAST_PARTS: &str = r#"

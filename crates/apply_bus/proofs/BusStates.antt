@@ -1,4 +1,5 @@
--- The rule of a bus in a form that proofs take apart: of each worker, what was taken and queued of it, and nothing of what it sent beside.
+-- The rule of a bus in a layout that proofs take apart: for each worker, what was taken and queued
+-- from it, and that it sent nothing else.
 use Rattle.std.proofs.Common.{◌≡◌, ◌≢◌, ℕ, ◌<◌, ◌≤◌, true, List, [], ◌∷◌, ◌++◌, sym, refl, ◌∙◌, subst, ⊎_elim, arith}
 use Rattle.std.proofs.lemmas.Bool.Decides.{eqb_tells}
 use Rattle.std.specs.List.{AllByRecursion}
@@ -84,7 +85,7 @@ from_plain queue views h =
       ),
     )
 
--- what a look at the plain rule tells
+-- what a look at the plain rule ensures
 abbrev pub Learned : Knowledge → List Item → Type 0
 Learned v queue = Orderly v.workers (v.taken ++ queue) × AllByRecursion (λ k. (k.worker < v.workers) × (items_of k.worker (v.taken ++ queue) ≡ k.sent)) v.senders
 

@@ -8,7 +8,8 @@ use Rattle.apply_bus.specs.ClaimsRule.{KnowsAll, IsLawful}
 use Rattle.apply_bus.specs.ClaimsState.{marks}
 use Rattle.apply_bus.proofs.Views.{AtEach}
 
--- each number below x and the limit falls to a worker, and the workers with the mark number x less the limit
+-- each number below x and the limit is dealt to a worker, and x less the limit workers have met the
+-- end
 abbrev pub Counted : (ℕ → ℕ) → (ℕ → Bool) → ℕ → ℕ → ℕ → Type 0
 Counted who met n w x = (w ≤ 8) × (n < 4294967296) × ((k : ℕ) → k < min x n → who k < w) × (marks met w ≡ x - n)
 

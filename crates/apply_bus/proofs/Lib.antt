@@ -3,7 +3,7 @@ pub mod BusSteps
 pub mod ClaimsStates
 pub mod ClaimsSteps
 pub mod Each
-pub mod Gathered
+pub mod JoinedDrawers
 pub mod Items
 pub mod Marks
 pub mod NewDrawers

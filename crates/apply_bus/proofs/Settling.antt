@@ -1,4 +1,4 @@
--- What the rule of a bus tells of a sender that is joined to what was taken.
+-- What the rule of a bus ensures for a sender that is joined to what was taken.
 use Rattle.std.proofs.Common.{◌≡◌, ◌≢◌, ℕ, zero, suc, ◌+◌, ◌<◌, ◌≤◌, List, [], ◌∷◌, ◌++◌, sym, refl, ap, ◌∙◌, subst, ⊎_elim, append_assoc, append-nil, map, All, lt_of_not-le, arith}
 use Rattle.std.proofs.lemmas.Bool.Decides.{eqb_tells}
 use Rattle.std.proofs.lemmas.List.Elements.{All-head, All-push, All-tail}

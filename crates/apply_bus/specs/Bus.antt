@@ -1,4 +1,4 @@
--- What contracts see of a bus's ends.
+-- The ends of a bus as contracts see them.
 use Rattle.std.specs.Prelude.{◌≡◌, ℕ, ◌<◌, zero, suc, List, [], ◌∷◌, ◌++◌, All}
 use mathlib.Core.List.{IsPrefix}
 use Rattle.atomic_table.specs.Seated.{TableId}
@@ -17,12 +17,13 @@ max_workers = 8
 abbrev pub max_capacity : ℕ
 max_capacity = 1024
 
--- which bus it is, among all
+-- a bus, told from all others
 pub record BusName : Type 0 where
   pub table : TableId
   pub key : Badge (Key Item)
 
--- a sender, open or closed: its bus, how many items that holds at most, its worker, and the events that it has sent
+-- a sender, open or closed: its bus, the capacity of that bus, its worker, and the events that it
+-- has sent
 pub record Sender : Type 0 where
   pub bus : BusName
   pub capacity : ℕ
@@ -64,11 +65,11 @@ new_senders bus capacity (suc n) =
 abbrev pub AreOf : BusName → List Sender → Type 0
 AreOf bus senders = All (λ sender. sender.bus ≡ bus) senders
 
--- the events taken of the worker are those that it sent
+-- the events taken from the worker are those that it sent
 abbrev pub IsTakenWhole : List Item → SentList → Type 0
 IsTakenWhole taken sent_list = of_worker sent_list.worker (events taken) ≡ sent_list.sent
 
--- the events taken of the worker are a prefix of those that it sent
+-- the events taken from the worker are a prefix of those that it sent
 abbrev pub IsTakenInPart : List Item → SentList → Type 0
 IsTakenInPart taken sent_list = IsPrefix (of_worker sent_list.worker (events taken)) sent_list.sent
 

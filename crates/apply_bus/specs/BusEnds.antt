@@ -1,4 +1,4 @@
--- What the ends of a bus keep in their passes.
+-- What is known in the passes of the ends of a bus.
 use Rattle.std.specs.Prelude.{◌≡◌, ℕ, ◌+◌, ◌<◌, ◌≤◌, ◌++◌, List, [], ◌∷◌, All, length, map, true}
 use Rattle.crossbeam_channel.specs.Claims.{view, Pass}
 use Rattle.apply_events.specs.declared.event.Event.{Event}
@@ -23,21 +23,21 @@ abbrev pub as_items : List Event → List Item
 as_items [] = []
 as_items (event ∷ rest) = EventItem event ∷ as_items rest
 
--- the view of a sender that is open: it has sent events alone
+-- the view of an open sender: it has sent only events
 abbrev pub IsOpen : ℕ → Knowledge → Type 0
 IsOpen worker v = v ≡ sending worker (as_items (sent_by v))
 
--- the view of a sender that is closed: it has sent events and then its close
+-- the view of a closed sender: it has sent events, and then its close
 abbrev pub IsClosed : ℕ → Knowledge → Type 0
 IsClosed worker v = v ≡ sending worker (as_items (sent_by v) ++ Close worker ∷ [])
 
--- the view of a receiver that still lacks as many closes
+-- the view of a receiver that has not taken so many closes
 pub record IsReceiving (left : ℕ) (v : Knowledge) : Type 0 where
   pub receives : v.receives ≡ true
   pub missing : left + closes v.taken ≡ v.workers
   pub named : All (λ item. worker_of item < v.workers) v.taken
 
--- the items taken are as many as were counted, and no more than may be
+-- the number of items taken is the count, and at most the maximum
 pub record IsCounted (count : ℕ) (v : Knowledge) : Type 0 where
   pub counted : count ≡ length v.taken
   pub few : length v.taken ≤ max_taken
@@ -45,7 +45,7 @@ pub record IsCounted (count : ℕ) (v : Knowledge) : Type 0 where
 abbrev pub sent_list_from : Known → SentList
 sent_list_from k = record { worker = k.worker; sent = events k.sent }
 
--- what the senders that were taken in have sent
+-- what each joined sender has sent
 abbrev pub sent_lists_in : Knowledge → List SentList
 sent_lists_in v = map sent_list_from v.senders
 

@@ -1,5 +1,5 @@
--- The rule of a bus: the queue, the receiver's view and the senders' views are consistent. A sender's view lies in the
--- pass of its sender, and once that was joined, in the pass that took it in.
+-- The rule of a bus: the queue, the receiver's view and the senders' views are consistent. A
+-- sender's view lies in its pass; after a join it lies in the pass that joined it.
 use Rattle.std.specs.Prelude.{◌≡◌, ℕ, ◌+◌, ◌<◌, Bool, true, false, List, [], ◌∷◌, ◌++◌}
 use Rattle.std.specs.List.{AllByRecursion}
 use mathlib.Core.Option.{some}
@@ -17,7 +17,7 @@ abbrev pub knowledge : Bool → List Item → ℕ → List Known → Knowledge
 knowledge receives taken workers senders =
     record { receives = receives; taken = taken; workers = workers; senders = senders }
 
--- the receiver's pass, with the senders that it took in
+-- the receiver's pass, with the senders that were joined to it
 abbrev pub receiving : List Item → ℕ → List Known → Knowledge
 receiving taken workers senders = knowledge true taken workers senders
 
@@ -25,15 +25,15 @@ receiving taken workers senders = knowledge true taken workers senders
 abbrev pub sending : ℕ → List Item → Knowledge
 sending worker sent = knowledge false [] 0 (known worker sent ∷ [])
 
--- a pass whose view another took in
+-- a pass whose view was joined to another
 abbrev pub spent : Knowledge
 spent = knowledge false [] 0 []
 
--- a sender more was made
+-- one more sender was made
 abbrev pub with_one_more : Knowledge → Knowledge
 with_one_more v = knowledge v.receives v.taken (v.workers + 1) v.senders
 
--- the views of the second were taken in
+-- the first pass with the views of the second joined to it
 abbrev pub with_senders_of : Knowledge → Knowledge → Knowledge
 with_senders_of v w = knowledge v.receives v.taken v.workers (v.senders ++ w.senders)
 
@@ -41,7 +41,7 @@ abbrev pub first_with : Item → List Known → List Known
 first_with item [] = []
 first_with item (k ∷ ks) = known k.worker (k.sent ++ item ∷ []) ∷ ks
 
--- its sender has sent the item
+-- the sender of the pass has sent the item
 abbrev pub after_send : Knowledge → Item → Knowledge
 after_send v item = knowledge v.receives v.taken v.workers (first_with item v.senders)
 
@@ -49,11 +49,11 @@ after_send v item = knowledge v.receives v.taken v.workers (first_with item v.se
 abbrev pub after_take : Knowledge → Item → Knowledge
 after_take v item = knowledge v.receives (v.taken ++ item ∷ []) v.workers v.senders
 
--- the view is what its worker sent, and lies in the pass of that number alone
+-- the view is what its worker has sent, and lies only in the pass of that number
 abbrev pub Knows : (owner : ℕ → ℕ) → (sent : ℕ → List Item) → (workers pass : ℕ) → Known → Type 0
 Knows owner sent workers pass k = (owner k.worker ≡ pass) × (k.worker < workers) × (k.sent ≡ sent k.worker)
 
--- what a pass knows is so
+-- what the pass knows is true
 abbrev pub KnowsAll :
     (reader : ℕ) → (owner : ℕ → ℕ) → (taken : List Item) → (sent : ℕ → List Item) → (workers pass : ℕ) → Knowledge
     → Type 0
@@ -68,15 +68,16 @@ IsLawful queue views =
     × IsConsistent workers taken queue sent
     × ((pass : ℕ) (v : Knowledge) → get_elem? views pass ≡ some v → KnowsAll reader owner taken sent workers pass v)
 
--- what a receive tells: the item joins the list taken, its worker is one of the bus, and no close of that worker was
--- taken before
+-- what a receive ensures: the item joins the list taken, its worker is one of the bus, and no close
+-- of that worker was taken before
 abbrev pub IsTaken : Knowledge → Item → Knowledge → Type 0
 IsTaken v item w =
     (w ≡ after_take v item)
     × (worker_of item < v.workers)
     × (closes (items_of (worker_of item) v.taken) ≡ 0)
 
--- what a look at the rule tells, with the queue at that moment: each view that was taken in is what its worker sent
+-- what a look at the rule ensures, with the queue at that time: each view that was joined is what
+-- its worker has sent
 abbrev pub IsBorneOut : Knowledge → List Item → Type 0
 IsBorneOut v queue =
     (sent : ℕ → List Item)

@@ -1,15 +1,17 @@
--- What contracts see of claims and drawers.
+-- Claims and drawers as contracts see them.
 use Rattle.std.specs.Prelude.{◌≡◌, ℕ, ◌≤◌, zero, suc, Bool, true, false, List, [], ◌∷◌, ◌++◌, All, map}
 use Rattle.atomic_table.specs.Seated.{TableId}
 use Rattle.apply_events.specs.Partition.{IsPartition, NamesEachWorkerOnce}
 
--- which claims they are, among all; the numbers are those below the limit, and each of the workers has a drawer
+-- some claims, told from all others by their table; the numbers are those below the limit, and each
+-- worker has a drawer
 pub record ClaimsName : Type 0 where
   pub table : TableId
   pub limit : ℕ
   pub workers : ℕ
 
--- a drawer: its claims, its worker, the numbers that it has drawn, and whether a draw has found none left
+-- a drawer: its claims, its worker, the numbers that it has drawn, and whether a draw has met the
+-- end
 pub record Drawing : Type 0 where
   pub claims : ClaimsName
   pub worker : ℕ
@@ -17,7 +19,7 @@ pub record Drawing : Type 0 where
   pub met_none : Bool
 
 -- claims, and those of their drawers that were joined
-pub record Gathered : Type 0 where
+pub record JoinedDrawers : Type 0 where
   pub claims : ClaimsName
   pub drawings : List Drawing
 
@@ -39,7 +41,7 @@ pub record IsOneForEach (claims : ClaimsName) (drawings : List Drawing) : Type 0
   pub of_claims : All (λ drawing. drawing.claims ≡ claims) drawings
   pub each : NamesEachWorkerOnce claims.workers (workers_of drawings)
 
--- the lists share out the numbers below m, which is the limit where a drawer has met none
+-- the lists share out the numbers below m; if a drawer has met the end, m is the limit
 pub record IsDealtOut (claims : ClaimsName) (drawings : List Drawing) (m : ℕ) : Type 0 where
   pub within : m ≤ claims.limit
   pub partition : IsPartition claims.workers m (lists_drawn drawings)

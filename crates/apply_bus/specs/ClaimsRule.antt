@@ -1,5 +1,5 @@
--- The rule of claims: the word and the drawers' views are consistent. A drawer's view lies in its seat, and once it was
--- joined, in the seat that took it in.
+-- The rule of claims: the word and the drawers' views are consistent. A drawer's view lies in its
+-- seat; after a join it lies in the seat that joined it.
 use Rattle.std.specs.Prelude.{◌≡◌, ℕ, zero, suc, ◌^◌, ◌<◌, ◌≤◌, min, nat_lt, Bool, true, false, List, [], ◌∷◌, ◌++◌, All, if◌then◌else◌}
 use Rattle.std.specs.List.{AllByRecursion}
 use mathlib.Core.Option.{some}
@@ -22,7 +22,7 @@ hand shares = record { shares = shares }
 abbrev pub drawer : (worker limit workers : ℕ) → (drawn : List ℕ) → (met_none : Bool) → Hand
 drawer worker limit workers drawn met_none = hand (share worker limit workers drawn met_none ∷ [])
 
--- the shares of n workers, the first of that number, before any draw
+-- the shares of n workers, starting with the worker `first`, before any draw
 abbrev pub new_shares : (limit workers first n : ℕ) → List Share
 new_shares limit workers first zero = []
 new_shares limit workers first (suc n) = share first limit workers [] false ∷ new_shares limit workers (suc first) n
@@ -35,15 +35,15 @@ abbrev pub first_alone : List Share → List Share
 first_alone [] = []
 first_alone (s ∷ shares) = s ∷ []
 
--- a hand that another took in
+-- a hand that was joined to another
 abbrev pub spent : Hand
 spent = hand []
 
--- the shares of the second were taken in
+-- the first hand with the shares of the second joined to it
 abbrev pub with_shares_of : Hand → Hand → Hand
 with_shares_of v w = hand (v.shares ++ w.shares)
 
--- a number below the limit is drawn, any other sets the mark
+-- a number below the limit is drawn; any other means that the end was met
 abbrev pub share_after : Share → ℕ → Share
 share_after s number =
     if nat_lt number s.limit
@@ -54,24 +54,24 @@ abbrev pub first_after : List Share → ℕ → List Share
 first_after [] number = []
 first_after (s ∷ shares) number = share_after s number ∷ shares
 
--- what a draw tells: the number is above all that were drawn before
+-- what a draw ensures: the number is above all that were drawn before
 abbrev pub IsDrawn : Me ℕ Hand → ℕ → Me ℕ Hand → Type 0
 IsDrawn me number after =
     (after ≡ (hand (first_after me.0.shares number), []))
     × AllByRecursion (λ s. All (λ earlier. earlier < number) s.drawn) me.0.shares
 
--- the share is that of its worker, and lies in the seat of that number alone
+-- the share is that of its worker, and lies only in the seat of that number
 abbrev pub Knows : (owner falls_to : ℕ → ℕ) → (met_none : ℕ → Bool) → (limit workers word seat : ℕ) → Share → Type 0
 Knows owner falls_to met_none limit workers word seat s =
     (owner s.worker ≡ seat) × (s.worker < workers) × (s.limit ≡ limit) × (s.workers ≡ workers)
     × (s.drawn ≡ numbers_of falls_to s.worker (min word limit)) × (s.met_none ≡ met_none s.worker)
 
--- what a seat knows is so
+-- what the seat knows is true
 abbrev pub KnowsAll : (owner falls_to : ℕ → ℕ) → (met_none : ℕ → Bool) → (limit workers word seat : ℕ) → Hand → Type 0
 KnowsAll owner falls_to met_none limit workers word seat v =
     AllByRecursion (Knows owner falls_to met_none limit workers word seat) v.shares
 
--- the word cannot wrap, and each number that was drawn falls to a worker
+-- the word cannot wrap, and each number that was drawn is dealt to a worker
 pub record IsInRange (limit workers word : ℕ) (falls_to : ℕ → ℕ) : Type 0 where
   pub few : workers ≤ max_workers
   pub small : limit < 2 ^ 32
@@ -87,7 +87,8 @@ IsLawful limit workers s =
     × ((seat : ℕ) (v : Hand) → get_elem? s.views seat ≡ some v
     → KnowsAll owner falls_to met_none limit workers word seat v)
 
--- the share is its worker's, where the numbers below m fall to the workers; m is the limit where the share has the mark
+-- the share is its worker's, if the numbers below m are dealt to the workers; m is the limit if the
+-- share has met the end
 abbrev pub IsDealt : (falls_to : ℕ → ℕ) → (m : ℕ) → Share → Type 0
 IsDealt falls_to m s =
     (m ≤ s.limit)
@@ -95,6 +96,6 @@ IsDealt falls_to m s =
     × (s.drawn ≡ numbers_of falls_to s.worker m)
     × (s.met_none ≡ true → m ≡ s.limit)
 
--- what a look at the rule tells of the shares of a seat
+-- what a look at the rule ensures about the shares of a seat
 abbrev pub AreDealt : Hand → Type 0
 AreDealt v = (falls_to : ℕ → ℕ) × (m : ℕ) × AllByRecursion (IsDealt falls_to m) v.shares

@@ -1,4 +1,4 @@
--- Names of no bus and of no claims, for what has to be given some name.
+-- A name for no bus, and one for no claims, where some name is needed.
 use Rattle.std.specs.Prelude.{[]}
 use Rattle.atomic_table.specs.Seated.{TableId}
 use Rattle.apply_bus.specs.Bus.{BusName}

@@ -1,28 +1,28 @@
-//! The rule of a bus, and what each kind of step under it tells.
+//! The rule of a bus, and what each kind of step under the rule ensures.
 
 use crate::item::Item;
 use crossbeam_channel::protocol::{Join, Lesson, Outcome, Protocol, Split};
 use std::collections::LinkedList;
 
-/// What a worker has sent. No value of it is made: it stands in proofs alone.
+/// What a worker has sent. Only proofs use this type; no value of it exists.
 pub struct Known {
     pub worker: u8,
     pub sent: LinkedList<Item>,
 }
 
-/// What a pass of a bus knows. No value of it is made: it stands in proofs alone.
+/// What a pass of a bus knows. Only proofs use this type; no value of it exists.
 pub struct Knowledge {
-    /// It is the receiver's.
+    /// Whether it is the receiver's pass.
     pub receives: bool,
-    /// What was taken.
+    /// The items that were taken.
     pub taken: LinkedList<Item>,
     /// How many senders were made.
     pub workers: u8,
-    /// What the senders that are known have sent.
+    /// What each known sender has sent.
     pub senders: LinkedList<Known>,
 }
 
-/// The rule: what was taken and what lies in the queue agree with what was sent.
+/// The rule: what was taken, and then the queue, agrees with what was sent.
 pub struct BusRule;
 
 impl Protocol<Item, Knowledge> for BusRule {
@@ -34,7 +34,7 @@ impl Protocol<Item, Knowledge> for BusRule {
     ghost first = { receiving [] 0 [] };
 }
 
-/// The making of a sender.
+/// The step that makes a sender.
 pub struct AddsSender;
 
 impl Split<Knowledge> for AddsSender {
@@ -46,7 +46,7 @@ impl Split<Knowledge> for AddsSender {
     ghost right = { λ v. sending v.workers [] };
 }
 
-/// The joining of a sender.
+/// The step that joins a sender.
 pub struct JoinsSender;
 
 impl Join<Knowledge> for JoinsSender {
@@ -57,7 +57,7 @@ impl Join<Knowledge> for JoinsSender {
     ghost spent = { spent };
 }
 
-/// The sending of an item.
+/// The step that sends an item.
 pub struct Sends;
 
 impl Outcome<Item, Knowledge> for Sends {
@@ -73,7 +73,7 @@ impl Lesson<Item, Knowledge> for Sends {
     ghost fact = { λ v queue. ⊤ };
 }
 
-/// The taking of an item.
+/// The step that takes an item.
 pub struct Takes;
 
 impl Outcome<Item, Knowledge> for Takes {
@@ -88,7 +88,7 @@ impl Lesson<Item, Knowledge> for Takes {
     ghost fact = { λ v queue. ⊤ };
 }
 
-/// A look at the rule.
+/// The step that only looks at the rule.
 pub struct Looks;
 
 impl Lesson<Item, Knowledge> for Looks {

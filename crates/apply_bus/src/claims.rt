@@ -1,4 +1,4 @@
-//! Claims.
+//! Claims: the numbers of changes, each of which one worker draws.
 
 ghost use Rattle.std.specs.Prelude.{◌≡◌, ◌<◌, ◌++◌, ◌∷◌, [], ◌⊎◌, ◌↔◌, true, All, Err, IfOk, IfSome, IsNone, IfNone};
 ghost use Rattle.apply_bus.specs.Bus.{max_workers};
@@ -12,8 +12,8 @@ use atomic_table::Table;
 use std::alloc::Global;
 use std::marker::Model;
 
-/// The numbers below a limit, of which each is drawn by one drawer. Contracts see them as the limit and the number of
-/// the drawers, and know them from any others. Threads may share them.
+/// The numbers below a limit, each of which one drawer draws. Contracts see the limit and the
+/// number of drawers, and tell these claims from any others. Threads may share them.
 #[derive(Drop)]
 pub struct Claims {
     pub(crate) table: Table<u8, Hand, (u32, u8), ClaimsRule, Global>,
@@ -35,10 +35,11 @@ impl Model for Claims {
 }
 
 impl Claims {
-    /// Opens claims on the numbers below `n`, with a drawer for each of the workers, 1 to 8, in their order.
+    /// Opens claims on the numbers below `n`, with a drawer for each of 1 to 8 workers, in their
+    /// order.
     ///
-    /// `Err` with `BadSize` where the number of workers is out of range, and otherwise with `Memory` where memory is
-    /// refused. No later call takes any.
+    /// `Err` with `BadSize` if the number of workers is out of range, else with `Memory` if memory
+    /// is refused. No later call takes memory.
     pub fn open(alloc: Global, workers: u8, n: u32) -> Result<(Claims, Vec<Drawer>), BusError>
         ensures sizes { (result ≡ Err BusError.BadSize) ↔ ((workers < 1) ⊎ (max_workers < workers)) }
         ensures claims { IfOk result (λ opened. (opened.0.limit ≡ n) × (opened.0.workers ≡ workers)) }
@@ -73,12 +74,14 @@ impl Claims {
         Ok((claims, drawers))
     }
 
-    /// Draws the next number that nobody has drawn, by a drawer of these claims. `None` where none is left, and from then
-    /// on for this drawer. It waits for nobody: whatever takes a lock takes a handle that may wait, and this takes none.
+    /// Draws the next number that nobody has drawn, with a drawer of these claims. `None` if none
+    /// is left, and from then on for this drawer.
+    ///
+    /// A draw never waits: it takes no handle that may wait, and so no lock.
     pub fn draw(&self, drawer: &mut Drawer) -> Option<u32>
         requires { drawer.old.claims ≡ self.now }
 
-        // It is below the limit, and above all that this drawer has drawn.
+        // The number is below the limit, and above all that this drawer has drawn before.
         ensures some { IfSome result
             (λ number. drawer.new ≡ record drawer.old { drawn = drawer.old.drawn ++ number ∷ [] }) }
         ensures below { IfSome result (λ number. number < self.now.limit) }
@@ -90,9 +93,9 @@ impl Claims {
         if drawer.met_none {
             return None;
         }
-        let found = self.table.shared.fetch_add::<Draws>(&mut drawer.seat, 0, 1);
-        if found < u64::from(self.limit) {
-            Some(found as u32)
+        let previous = self.table.shared.fetch_add::<Draws>(&mut drawer.seat, 0, 1);
+        if previous < u64::from(self.limit) {
+            Some(previous as u32)
         } else {
             drawer.met_none = true;
             None

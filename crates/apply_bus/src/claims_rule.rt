@@ -1,12 +1,12 @@
-//! The rule of claims, and what each kind of step under it tells.
+//! The rule of claims, and what each kind of step under the rule ensures.
 
 use atomic_table::{Join, Play, Split, TableRule};
 use std::collections::LinkedList;
 
-/// What a drawer has drawn. No value of it is made: it stands in proofs alone.
+/// What a drawer has drawn. Only proofs use this type; no value of it exists.
 pub struct Share {
     pub worker: u8,
-    /// The numbers are those below it.
+    /// The numbers are below this limit.
     pub limit: u32,
     /// How many drawers there are.
     pub workers: u8,
@@ -14,12 +14,12 @@ pub struct Share {
     pub met_none: bool,
 }
 
-/// What a seat knows. No value of it is made: it stands in proofs alone.
+/// What a seat knows. Only proofs use this type; no value of it exists.
 pub struct Hand {
     pub shares: LinkedList<Share>,
 }
 
-/// The rule: the word agrees with what was drawn.
+/// The rule: the word of the table agrees with what was drawn.
 pub struct ClaimsRule;
 
 impl TableRule<u8, Hand, (u32, u8)> for ClaimsRule {
@@ -30,7 +30,7 @@ impl TableRule<u8, Hand, (u32, u8)> for ClaimsRule {
     ghost first = { λ key. hand (new_shares key.0 key.1 0 key.1) };
 }
 
-/// The making of a drawer.
+/// The step that makes a drawer.
 pub struct DealsShare;
 
 impl Split<Hand> for DealsShare {
@@ -41,7 +41,7 @@ impl Split<Hand> for DealsShare {
     ghost right = { λ v. hand (first_alone v.shares) };
 }
 
-/// The joining of a drawer.
+/// The step that joins a drawer.
 pub struct JoinsShares;
 
 impl Join<Hand> for JoinsShares {
@@ -52,31 +52,31 @@ impl Join<Hand> for JoinsShares {
     ghost spent = { spent };
 }
 
-/// The drawing of a number.
+/// The step that draws a number.
 pub struct Draws;
 
 impl Play<u8, Hand> for Draws {
     ghost use Rattle.apply_bus.specs.ClaimsRule.{IsDrawn};
 
-    ghost then = { λ _ me found after. IsDrawn me found after };
+    ghost then = { λ _ me previous after. IsDrawn me previous after };
 }
 
-/// A look at the rule.
+/// The step that only looks at the rule.
 pub struct LooksAtShares;
 
 impl Play<u8, Hand> for LooksAtShares {
     ghost use Rattle.std.specs.Prelude.{◌≡◌};
     ghost use Rattle.apply_bus.specs.ClaimsRule.{AreDealt};
 
-    ghost then = { λ _ me found after. (after ≡ me) × AreDealt me.0 };
+    ghost then = { λ _ me previous after. (after ≡ me) × AreDealt me.0 };
 }
 
-/// The making of a seat with no share.
+/// The step that makes a seat without a share.
 pub struct EntersEmpty;
 
 impl Play<u8, Hand> for EntersEmpty {
     ghost use Rattle.std.specs.Prelude.{◌≡◌, []};
     ghost use Rattle.apply_bus.specs.ClaimsRule.{spent};
 
-    ghost then = { λ _ me found after. after ≡ (spent, []) };
+    ghost then = { λ _ me previous after. after ≡ (spent, []) };
 }

@@ -1,13 +1,14 @@
-//! Senders that are closed.
+//! A closed sender.
 
 use crate::bus_rule::{BusRule, Knowledge};
 use crate::item::Item;
 use crossbeam_channel::{Pass, RuledSender};
 use std::marker::Model;
 
-/// A sender that was closed: its close is the last item that it sent. Contracts see it as they see a `Tx`.
+/// A sender that was closed: its close is the last item that it sent. Contracts see it like a `Tx`.
 ///
-/// It keeps its end of the channel, since only a sender's end can join what it knows to what the receiver knows.
+/// It holds its end of the channel, since only a sender's end can join its knowledge to the
+/// receiver's.
 #[derive(Drop)]
 pub struct Closed {
     pub(crate) end: RuledSender<Item, Knowledge, BusRule>,

@@ -1,4 +1,4 @@
-//! What the drawers of claims have drawn.
+//! The numbers that the drawers of claims have drawn.
 
 ghost use Rattle.std.specs.Prelude.{◌≡◌, ℕ};
 ghost use Rattle.apply_bus.specs.Claims.{lists_drawn, IsDealtOut, IsOneForEach};
@@ -7,12 +7,12 @@ ghost use Rattle.apply_bus.specs.Seats.{seat_lists};
 use crate::claims::Claims;
 use crate::claims_rule::Hand;
 use crate::drawer::Drawer;
-use crate::joined_drawers::Gathering;
+use crate::drawer_join::DrawerJoin;
 use atomic_table::Seat;
 use std::marker::Model;
 
-/// The numbers that each drawer of some claims has drawn, in the order in which the drawers were joined. Contracts alone
-/// see it.
+/// The numbers that each drawer of some claims has drawn, in the order in which the drawers were
+/// joined. Only contracts see the value.
 #[derive(Drop)]
 pub struct Shared {
     seat: Seat<u8, Hand>,
@@ -29,7 +29,7 @@ impl Model for Shared {
 }
 
 impl Shared {
-    /// What the shares of the seat say.
+    /// Takes the numbers from the shares of the seat.
     pub(crate) fn of(seat: Seat<u8, Hand>) -> Shared
         ensures { result ≡ seat_lists seat }
     {
@@ -37,16 +37,16 @@ impl Shared {
     }
 }
 
-/// Joins one drawer for each worker of the claims: their lists share out the numbers below some m, which is the limit
-/// where a drawer has met the end.
+/// Joins one drawer for each worker of the claims. The drawers' lists share out the numbers below
+/// some m. If a drawer has met the end, m is the limit.
 pub fn finish(claims: Claims, drawers: Vec<Drawer>) -> Shared
     requires { IsOneForEach claims drawers.items }
     ensures lists { result ≡ lists_drawn drawers.items }
     ensures dealt_out { (m : ℕ) × IsDealtOut claims drawers.items m }
 {
-    let mut gathering = Gathering::begin(&claims);
+    let mut drawer_join = DrawerJoin::begin(&claims);
     for drawer in drawers {
-        gathering.join(&claims, drawer);
+        drawer_join.join(&claims, drawer);
     }
-    gathering.finish(&claims)
+    drawer_join.finish(&claims)
 }

@@ -1,4 +1,4 @@
-//! Drawers.
+//! The drawers of claims.
 
 ghost use Rattle.std.specs.Prelude.{◌≡◌};
 
@@ -6,8 +6,8 @@ use crate::claims_rule::Hand;
 use atomic_table::Seat;
 use std::marker::Model;
 
-/// The drawer of one worker. Contracts see it as its claims, its worker, the numbers that it has drawn, which are kept
-/// nowhere, and whether it has met the end.
+/// The drawer of one worker. Contracts see its claims, its worker, the numbers that it has drawn,
+/// and whether it has met the end. No memory holds these numbers.
 #[derive(Drop)]
 pub struct Drawer {
     pub(crate) seat: Seat<u8, Hand>,
@@ -33,14 +33,14 @@ impl Model for Drawer {
 }
 
 impl Drawer {
-    /// The worker that draws by it.
+    /// Returns the worker that draws with this drawer.
     pub fn worker(&self) -> u8
         ensures { result ≡ self.now.worker }
     {
         self.worker
     }
 
-    /// Whether a draw has found no number left.
+    /// Whether a draw has met the end: no number was left.
     pub fn met_none(&self) -> bool
         ensures { result ≡ self.now.met_none }
     {

@@ -1,20 +1,20 @@
-//! What goes through a bus.
+//! The items that a bus carries.
 
 ghost use Rattle.std.specs.Prelude.{◌≡◌};
 ghost use Rattle.apply_bus.specs.Items.{close_count};
 
 use apply_events::Event;
 
-/// What goes through a bus.
+/// An item that a bus carries.
 #[derive(Clone, Copy, Debug, PartialEq, Eq)]
 pub enum Item {
-    /// An event of the worker that it names.
+    /// An event. It names its worker.
     Event(Event),
-    /// The worker sends nothing more.
+    /// The worker with this number sends nothing more.
     Close(u8),
 }
 
-/// How many closes the item is.
+/// Returns 1 for a close, and 0 for an event.
 pub(crate) fn close_count(item: &Item) -> u8
     ensures { result ≡ close_count item.now }
 {

@@ -1,8 +1,9 @@
-//! Items that do not come.
+//! A take that failed.
 
 use thiserror::Error;
 
-/// Nothing was taken: the senders are gone, as the channel says, or 2^29 items were taken before.
+/// Nothing was taken: the channel reported that the senders are gone, or 2^29 items were taken
+/// before.
 #[derive(Clone, Copy, Debug, Drop, Error, PartialEq, Eq)]
 #[error("nothing more can be taken")]
 pub struct Lost;

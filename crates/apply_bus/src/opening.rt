@@ -1,4 +1,4 @@
-//! The opening of a bus.
+//! Opens a bus.
 
 ghost use Rattle.std.specs.Prelude.{◌≡◌, ◌<◌, ◌⊎◌, ◌↔◌, [], Err, IfOk};
 ghost use Rattle.apply_bus.specs.Bus.{max_capacity, max_workers, new_senders};
@@ -11,17 +11,17 @@ use crate::tx::Tx;
 use crossbeam_channel::bounded_with;
 use std::alloc::Global;
 
-/// The greatest number of workers.
+/// The greatest number of workers of a bus, and of claims.
 pub const MAX_WORKERS: u8 = 8;
 
 /// The greatest capacity of a bus.
 pub const MAX_CAPACITY: u16 = 1024;
 
-/// Opens a bus that holds as many items as the capacity says, 1 to 1,024, and makes a sender for each of the workers, 1
-/// to 8, in their order.
+/// Opens a bus for 1 to 8 workers that holds `capacity` items, 1 to 1,024. Returns a sender for
+/// each worker, in their order, and the receiver.
 ///
-/// `Err` with `BadSize` where a size is out of range, and otherwise with `Memory` where memory is refused. No later call
-/// takes any.
+/// `Err` with `BadSize` if a size is out of range, else with `Memory` if memory is refused. No
+/// later call takes memory.
 pub fn open(alloc: Global, workers: u8, capacity: u16) -> Result<(Vec<Tx>, Rx), BusError>
     ensures sizes { (result ≡ Err BusError.BadSize)
         ↔ ((workers < 1) ⊎ (max_workers < workers) ⊎ (capacity < 1) ⊎ (max_capacity < capacity)) }

@@ -12,14 +12,16 @@ use crate::retry_pause::pause_awake;
 use crossbeam_channel::{Pass, RuledReceiver};
 use std::sync::Wait;
 
-/// The pauses before a receiver goes to sleep: seven spins, and one in which other threads run. With more of those,
-/// workers that find no room would run as often as the one that has an item.
+/// The number of pauses before a receiver sleeps: seven spins, and one in which other threads run.
+/// With more pauses, blocked workers would run as often as the one that has an item.
 const PAUSES_AWAKE: u32 = 8;
 
-/// Takes the next item, and waits while there is none. The receiver lets other threads run before it goes to sleep on
-/// the channel: where processors are few, a sender fills the channel meanwhile, and not each item costs it a wake-up.
+/// Takes the next item, and waits while there is none.
 ///
-/// `Err` where the channel says that the senders are gone: then nothing was taken.
+/// The receiver lets other threads run before it sleeps on the channel. With few processors, a
+/// sender fills the channel meanwhile, so that not every item costs a wake-up.
+///
+/// `Err` if the channel reports that the senders are gone. Then nothing was taken.
 pub(crate) fn take_item<R: Wait>(
     rt: &R,
     end: &RuledReceiver<Item, Knowledge, BusRule>,

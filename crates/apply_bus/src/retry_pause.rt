@@ -1,4 +1,4 @@
-//! Short waits in which a thread does not go to sleep.
+//! Short waits in which a thread does not sleep.
 
 use std::{hint, thread};
 

@@ -1,4 +1,4 @@
-//! Receivers.
+//! The receiver of a bus.
 
 ghost use Rattle.std.specs.Prelude.{◌≡◌, ◌<◌, ◌≤◌, ◌+◌, ◌++◌, ◌∷◌, [], length, IfOk, IsErr, OnErr};
 ghost use Rattle.apply_bus.specs.Bus.{account_of, NamesWorkersBelow};
@@ -16,8 +16,8 @@ use std::sync::Wait;
 /// The greatest number of items that a receiver takes, 2^29.
 pub const MAX_TAKEN: u32 = 536_870_912;
 
-/// The receiver of a bus. Contracts see it as its bus, the number of its workers, and the items that it has taken, which
-/// are kept nowhere.
+/// The receiver of a bus. Contracts see its bus, the number of its workers, and the items that it
+/// has taken; no memory holds these items.
 #[derive(Drop)]
 pub struct Rx {
     pub(crate) end: RuledReceiver<Item, Knowledge, BusRule>,
@@ -49,7 +49,7 @@ impl Model for Rx {
 }
 
 impl Rx {
-    /// How many workers' closes were not taken yet.
+    /// Returns how many workers' closes were not taken yet.
     pub fn open_left(&self) -> u8
         ensures left { result + closes self.now.taken ≡ self.now.workers }
         ensures few { length self.now.taken ≤ max_taken }
@@ -59,14 +59,14 @@ impl Rx {
 
     /// Takes the next item, and waits while there is none.
     ///
-    /// `Err` where 2^29 items were taken before, or the channel says that the senders are gone: then the receiver is as
-    /// before. No clause says when the channel says so.
+    /// `Err` if 2^29 items were taken before, or if the channel reports that the senders are gone.
+    /// Then the receiver is unchanged. No clause states when the channel reports that.
     pub fn take<R: Wait>(&mut self, rt: &R) -> Result<Item, Lost>
         requires { closes self.old.taken < self.old.workers }
         ensures ok { IfOk result (λ item. self.new ≡ record self.old { taken = self.old.taken ++ item ∷ [] }) }
         ensures err { OnErr result (self.new ≡ self.old) }
 
-        // It is of one of the workers, and of none whose close was taken before.
+        // The item is of one of the workers, and of none whose close was taken before.
         ensures named { IfOk result (λ item. worker_of item < self.old.workers) }
         ensures before_close { IfOk result (λ item. closes (items_of (worker_of item) self.old.taken) ≡ 0) }
 
@@ -86,7 +86,8 @@ impl Rx {
         }
     }
 
-    /// Ends the receiving, and keeps what was taken. From now on nothing can be sent.
+    /// Ends the receiving, and returns the account of what was taken. From now on nothing can be
+    /// sent.
     pub fn give_up(self) -> Taken
         ensures taken { result ≡ account_of self }
         ensures named { NamesWorkersBelow self.workers self.taken }

@@ -1,4 +1,4 @@
-//! What was taken from a bus on which the receiving was given up.
+//! The account of a bus on which the receiver gave up.
 
 ghost use Rattle.std.specs.Prelude.{◌≡◌, ◌++◌, map, All};
 ghost use Rattle.apply_bus.specs.Bus.{sent_list_of, AreOf, IsTakenInPart};
@@ -8,7 +8,8 @@ use crate::taken::Taken;
 use crate::tx::Tx;
 use std::marker::Model;
 
-/// What was taken from a bus that was given up: of each sender a front of the list that it sent. Contracts alone see it.
+/// What was taken from a bus that was given up: a prefix of the list of each sender. Only contracts
+/// see the value.
 #[derive(Drop)]
 pub struct Salvaged {
     taken: Taken,
@@ -22,8 +23,8 @@ impl Model for Salvaged {
     ghost view = { λ s. s.taken };
 }
 
-/// Joins senders of a bus, closed or not, to what was taken of it: the events taken of each worker are a prefix of those
-/// that it sent.
+/// Joins senders of a bus, closed or not, to what was taken from it. The events taken from each
+/// worker are a prefix of those that it sent.
 pub fn salvage(mut taken: Taken, closed: Vec<Closed>, open: Vec<Tx>) -> Salvaged
     requires closed { AreOf taken.bus closed.items }
     requires not_closed { AreOf taken.bus «open».items }

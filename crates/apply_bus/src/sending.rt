@@ -1,4 +1,4 @@
-//! How a sender waits for room.
+//! How a sender waits for room in the channel.
 
 ghost use Rattle.std.specs.Prelude.{◌≡◌, MatchBool};
 ghost use Rattle.crossbeam_channel.specs.Claims.{view, IsSeatAt};
@@ -18,7 +18,8 @@ use std::time::Duration;
 /// The last pause, counted from 0, before a sender goes to sleep.
 const PAUSES_AWAKE: u32 = 200;
 
-/// Sends an item, and waits while the channel is full. `false` where the receiving has ended: then nothing was sent.
+/// Sends an item, and waits while the channel is full. `false` if the receiver is gone: then
+/// nothing was sent.
 pub(crate) fn send_item<R: Wait>(
     rt: &R,
     end: &RuledSender<Item, Knowledge, BusRule>,
@@ -47,8 +48,10 @@ pub(crate) fn send_item<R: Wait>(
     unreachable!()
 }
 
-/// Waits a little, longer each time: spins, then yields, then sleeps. It never sleeps on the channel, so that the
-/// receiver has nobody to wake. The answer is one more than the pauses so far.
+/// Waits a little, longer each time: spins, then yields, then sleeps. Returns the number of pauses
+/// so far, with this one.
+///
+/// A sender never sleeps on the channel, so the receiver has nobody to wake.
 fn pause<R: Wait>(rt: &R, pauses: u32) -> u32 {
     if pauses <= PAUSES_AWAKE {
         pause_awake(pauses);

@@ -1,4 +1,4 @@
-//! What was taken from a bus whose senders are all closed.
+//! The account of a bus whose senders were all closed.
 
 ghost use Rattle.std.specs.Prelude.{◌≡◌, map, All};
 ghost use Rattle.apply_bus.specs.Bus.{account_of, sent_list_of, AreOf, IsTakenWhole, NamesWorkersBelow};
@@ -9,8 +9,8 @@ use crate::rx::Rx;
 use crate::taken::Taken;
 use std::marker::Model;
 
-/// What was taken from a bus whose senders have all closed: of each sender the whole list that it sent. Contracts alone
-/// see it.
+/// What was taken from a bus whose senders have all closed: the whole list of each sender. Only
+/// contracts see the value.
 #[derive(Drop)]
 pub struct Settled {
     taken: Taken,
@@ -24,8 +24,8 @@ impl Model for Settled {
     ghost view = { λ s. s.taken };
 }
 
-/// Joins closed senders of a bus to its receiver, which has taken every close: the events taken of each worker are those
-/// that it sent.
+/// Joins closed senders of a bus to its receiver, which has taken every close. The events taken
+/// from each worker are those that it sent.
 pub fn settle(rx: Rx, closed: Vec<Closed>) -> Settled
     requires left { closes rx.taken ≡ rx.workers }
     requires bus { AreOf rx.bus closed.items }

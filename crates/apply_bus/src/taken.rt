@@ -1,4 +1,4 @@
-//! What was taken.
+//! The account of what was taken from a bus.
 
 ghost use Rattle.std.specs.Prelude.{◌≡◌, ◌+◌, ◌++◌, ◌∷◌, [], map, All};
 ghost use Rattle.apply_bus.specs.Bus.{sent_list_of, AreOf, IsTakenInPart, IsTakenWhole, NamesWorkersBelow};
@@ -11,8 +11,9 @@ use crate::tx::Tx;
 use crossbeam_channel::Pass;
 use std::marker::Model;
 
-/// What was taken from a bus whose receiving has ended, to which its senders are joined one by one. Contracts see it as
-/// the bus, the number of its workers, the items that were taken, and what each sender that was joined has sent.
+/// What was taken from a bus whose receiver has ended. Its senders are joined to this account one
+/// by one. Contracts see the bus, the number of its workers, the items that were taken, and what
+/// each joined sender has sent.
 #[derive(Drop)]
 pub struct Taken {
     pub(crate) pass: Pass<Item, Knowledge>,
@@ -38,7 +39,7 @@ impl Model for Taken {
 }
 
 impl Taken {
-    /// How many workers' closes were not taken.
+    /// Returns how many workers' closes were not taken.
     pub fn open_left(&self) -> u8
         ensures left { result + closes self.now.taken ≡ self.now.workers }
         ensures named { NamesWorkersBelow self.now.workers self.now.taken }
@@ -46,8 +47,8 @@ impl Taken {
         self.left
     }
 
-    /// Joins a closed sender of this bus: the events taken of its worker are a prefix of those that it sent, and all of
-    /// them where every close was taken.
+    /// Joins a closed sender of this bus. The events taken from its worker are a prefix of those
+    /// that it sent, and all of them if every close was taken.
     pub fn join_closed(&mut self, closed: Closed)
         requires { closed.bus ≡ self.old.bus }
         ensures joined { self.new ≡ record self.old { sent_lists = self.old.sent_lists ++ sent_list_of closed ∷ [] } }
@@ -63,9 +64,9 @@ impl Taken {
         end.learn_as::<Looks>(&mut self.pass);
     }
 
-    /// Joins a sender of this bus that was not closed: the events taken of its worker are a prefix of those that it
-    /// sent.
-    pub fn join_open(&mut self, tx: Tx)
+    /// Joins a sender of this bus that was not closed. The events taken from its worker are a
+    /// prefix of those that it sent.
+    pub fn join_unclosed(&mut self, tx: Tx)
         requires { tx.bus ≡ self.old.bus }
         ensures joined { self.new ≡ record self.old { sent_lists = self.old.sent_lists ++ sent_list_of tx ∷ [] } }
         ensures part { IsTakenInPart self.old.taken (sent_list_of tx) }
@@ -99,7 +100,7 @@ impl Taken {
         ensures part { All (IsTakenInPart self.old.taken) (map sent_list_of «open».items) }
     {
         for tx in open {
-            self.join_open(tx);
+            self.join_unclosed(tx);
         }
     }
 }

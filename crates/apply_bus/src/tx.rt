@@ -1,4 +1,4 @@
-//! Senders.
+//! The senders of a bus.
 
 ghost use Rattle.std.specs.Prelude.{◌≡◌, ◌++◌, ◌∷◌, [], IfErr, IfOk, OnErr, OnOk};
 
@@ -12,8 +12,8 @@ use crossbeam_channel::{Pass, RuledSender};
 use std::marker::Model;
 use std::sync::Wait;
 
-/// The sender of one worker of a bus. Contracts see it as its bus, its worker, and the events that it has sent, which
-/// are kept nowhere.
+/// The sender of one worker. Contracts see its bus, its worker, and the events that it has sent; no
+/// memory holds these events.
 #[derive(Drop)]
 pub struct Tx {
     pub(crate) end: RuledSender<Item, Knowledge, BusRule>,
@@ -41,15 +41,17 @@ impl Model for Tx {
 }
 
 impl Tx {
-    /// The worker whose events it sends.
+    /// Returns the worker whose events this sender sends.
     pub fn worker(&self) -> u8
         ensures { result ≡ self.now.worker }
     {
         self.worker
     }
 
-    /// Sends an event of this worker, and waits while the bus is full. `Err` with the event where the channel says that the
-    /// receiving has ended: then the sender is as before. No clause says when the channel says so.
+    /// Sends an event of this worker, and waits while the bus is full.
+    ///
+    /// `Err` with the event if the channel reports that the receiver is gone. Then the sender is
+    /// unchanged. No clause states when the channel reports that.
     pub fn send<R: Wait>(&mut self, rt: &R, event: Event) -> Result<(), Undelivered>
         requires { event.worker ≡ self.old.worker }
         ensures ok { OnOk result (self.new ≡ record self.old { sent = self.old.sent ++ event ∷ [] }) }
@@ -63,8 +65,10 @@ impl Tx {
         }
     }
 
-    /// Tells the receiver that this worker sends nothing more, and waits while the bus is full. `Err` with the sender as
-    /// it was where the channel says that the receiving has ended. No clause says when the channel says so.
+    /// Tells the receiver that this worker sends nothing more, and waits while the bus is full.
+    ///
+    /// `Err` with the unchanged sender if the channel reports that the receiver is gone. No clause
+    /// states when the channel reports that.
     pub fn close<R: Wait>(self, rt: &R) -> Result<Closed, Tx>
         ensures ok { IfOk result (λ closed. closed ≡ self) }
         ensures err { IfErr result (λ tx. tx ≡ self) }

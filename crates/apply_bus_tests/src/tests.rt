@@ -1,4 +1,5 @@
-//! What no clause says: that calls succeed where there is memory, and that items and numbers come in any schedule.
+//! Tests what no clause states: calls succeed while there is memory, and items and numbers arrive
+//! in any schedule.
 
 ghost use Rattle.std.specs.Prelude.{◌≡◌};
 
@@ -19,7 +20,7 @@ use std::sync::atomic::{AtomicU64, Ordering};
 use std::thread;
 use std::thread::{Threads, yield_now};
 
-/// An event that tells its worker and its number.
+/// An event that shows its worker and its number.
 fn event(worker: u8, change: u32) -> Event
     ensures { result.worker ≡ worker }
 {
@@ -32,17 +33,18 @@ fn event(worker: u8, change: u32) -> Event
     }
 }
 
-/// Fails where it is not so. A proof grows by each assertion, and by less where it is a call.
+/// Fails unless the fact holds. A call makes proofs grow less than an assertion.
 fn holds(rt: &impl Abort, case: &str, is_so: bool) {
     assert!(rt; is_so, "{case}");
 }
 
-/// Fails where a number is another.
-fn number_is(rt: &impl Abort, case: &str, found: u32, wanted: u32) {
-    holds(rt, case, found == wanted);
+/// Fails if a number differs.
+fn number_is(rt: &impl Abort, case: &str, actual: u32, wanted: u32) {
+    holds(rt, case, actual == wanted);
 }
 
-/// Fails where a bus of these sizes opens otherwise than with that many closes to come, of none as one that is out of range.
+/// Fails unless a bus of these sizes opens with that many closes to come, or is refused if there
+/// are none.
 fn opens(rt: &impl Abort, alloc: Global, workers: u8, capacity: u16, wanted: u32) {
     match open(alloc, workers, capacity) {
         Ok((_senders, rx)) => number_is(rt, "a bus", u32::from(rx.open_left()), wanted),
@@ -50,7 +52,8 @@ fn opens(rt: &impl Abort, alloc: Global, workers: u8, capacity: u16, wanted: u32
     }
 }
 
-/// Fails where claims of these sizes open otherwise than with that many drawers, of none as those that are out of range.
+/// Fails unless claims of these sizes open with that many drawers, or are refused if there are
+/// none.
 fn claims_open(rt: &impl Abort, alloc: Global, workers: u8, n: u32, wanted: usize) {
     match Claims::open(alloc, workers, n) {
         Ok((_claims, drawers)) => holds(rt, "claims", drawers.len() == wanted),
@@ -74,8 +77,8 @@ fn sizes_and_limits(rt: HostRuntime) {
     holds(&rt, "the most that is taken", MAX_TAKEN == 1 << 29);
 }
 
-/// Fails where the error has another text.
-fn says(rt: &impl Abort, alloc: Global, error: &impl Display, wanted: &str) {
+/// Fails if the error has another text.
+fn displays(rt: &impl Abort, alloc: Global, error: &impl Display, wanted: &str) {
     let text = error.to_string(alloc).expect(rt, "memory");
     holds(rt, wanted, text.as_str() == wanted);
 }
@@ -83,9 +86,9 @@ fn says(rt: &impl Abort, alloc: Global, error: &impl Display, wanted: &str) {
 #[test]
 fn errors_have_their_texts(rt: HostRuntime) {
     let alloc = rt.alloc();
-    says(&rt, alloc, &BusError::BadSize, "a size is out of range");
-    says(&rt, alloc, &BusError::Memory, "out of memory");
+    displays(&rt, alloc, &BusError::BadSize, "a size is out of range");
+    displays(&rt, alloc, &BusError::Memory, "out of memory");
     let undelivered = Undelivered(event(0, 0));
-    says(&rt, alloc, &undelivered, "the receiving has ended");
-    says(&rt, alloc, &Lost, "nothing more can be taken");
+    displays(&rt, alloc, &undelivered, "the receiving has ended");
+    displays(&rt, alloc, &Lost, "nothing more can be taken");
 }

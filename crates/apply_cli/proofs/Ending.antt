@@ -12,27 +12,27 @@ use Rattle.apply_events.specs.declared.event.Event.{Event}
 use Rattle.apply_events.specs.Step.{Work}
 use Rattle.apply_events.specs.WorkerEvents.{worker_events}
 use Rattle.apply_run.specs.Applied.{IsApplied}
-use Rattle.apply_run.specs.Bytes.{Given, IsRead, WasApplied, WasRefused}
+use Rattle.apply_run.specs.Bytes.{Inputs, IsRead, WasApplied, WasRefused}
 use Rattle.apply_run.specs.declared.options.Options.{Options}
 use Rattle.apply_run.specs.declared.refusal.Refusal.{Refusal}
 use Rattle.apply_run.specs.declared.refusal.Refusal.TheVariants as refusal
 use Rattle.apply_writer.specs.declared.report.Report.{Report}
 use Rattle.apply_writer.specs.declared.why.Why.{Why}
-use Rattle.apply_run.specs.Run.{HasFailed, Sight, plain_for, stream_for}
+use Rattle.apply_run.specs.Run.{HasFailed, SinkState, plain_for, stream_for}
 use Rattle.apply_writer.specs.Stream.Form.{plain_form}
 use Rattle.apply_cli.specs.Command.{HasApplied, HasBegun}
 use Rattle.apply_cli.specs.Status.{refusal_status_of, unfinished}
 use Rattle.apply_cli.proofs.Front.{too_large}
-use Rattle.apply_cli.proofs.Fronts.{HasFrontInForm, front_of_failed, front_of_streamed, whole_kept}
+use Rattle.apply_cli.proofs.Fronts.{HasFrontInForm, front_of_failed, front_of_streamed, whole_unchanged}
 
 -- what one worker reports
 abbrev pub OneWorkerInOrder : Type 0
 OneWorkerInOrder = (work : Work) (lists : List (List ℕ)) (events : List Event) → IsApplied work 1 lists events → events ≡ worker_events work 0 (range_with_len 0 (length work.plan.changes))
 
--- the whole stream was written, and a flush kept it
-pub applied_kept : OneWorkerInOrder → (given : Given) (options : Options) (report : Report) (before after after' : Sight) (status : ℕ) → Keeps after.bytes after'.bytes → after'.failed ≡ after.failed → (status ≡ 1) ↔ (0 < unfinished report.counts)
+-- the whole stream was written, and a flush left it unchanged
+pub applied_unchanged : OneWorkerInOrder → (given : Inputs) (options : Options) (report : Report) (before after after' : SinkState) (status : ℕ) → Keeps after.bytes after'.bytes → after'.failed ≡ after.failed → (status ≡ 1) ↔ (0 < unfinished report.counts)
     → WasApplied given options report before after → HasApplied given options before after' status
-applied_kept in_order given options report before after after' status kept failed is h = record {
+applied_unchanged in_order given options report before after after' status unchanged failed is h = record {
   report = report;
   applied = record {
     plan = h.plan;
@@ -44,15 +44,15 @@ applied_kept in_order given options report before after after' status kept faile
       lists = h.streamed.lists;
       events = h.streamed.events;
       applied = h.streamed.applied;
-      whole = whole_kept h.plan h.streamed.events (stream_for (record { plan = h.plan; script = h.script; hooks = given.hooks }) options h.streamed.events) report before after after' kept failed h.streamed.whole;
+      whole = whole_unchanged h.plan h.streamed.events (stream_for (record { plan = h.plan; script = h.script; hooks = given.hooks }) options h.streamed.events) report before after after' unchanged failed h.streamed.whole;
     };
   };
   alone = λ one. in_order (record { plan = h.plan; script = h.script; hooks = given.hooks }) h.streamed.lists h.streamed.events (subst (λ n. IsApplied (record { plan = h.plan; script = h.script; hooks = given.hooks }) n h.streamed.lists h.streamed.events) one h.streamed.applied);
-  told = is;
+  status_is = is;
 }
 
 -- a front in the default form
-begun_of_front : (given : Given) (options : Options) (before after : Sight) (plan : SavedPlan) (script : OutcomeMap) → IsRead given plan script
+begun_of_front : (given : Inputs) (options : Options) (before after : SinkState) (plan : SavedPlan) (script : OutcomeMap) → IsRead given plan script
     → HasFrontInForm (plain_form plan script options.start options.operation) (record { plan = plan; script = script; hooks = given.hooks }) options.workers before after → HasBegun given options before after
 begun_of_front given options before after plan script read h = record {
   plan = plan;
@@ -65,40 +65,40 @@ begun_of_front given options before after plan script read h = record {
   appended = h.appended;
 }
 
--- the whole stream was written, and then a flush failed
-pub begun_of_applied : (given : Given) (options : Options) (report : Report) (before after after' : Sight) → Keeps after.bytes after'.bytes → after.failed < after'.failed → WasApplied given options report before after → HasBegun given options before after'
-begun_of_applied given options report before after after' kept flushed h =
+-- the whole stream was written, and a flush left it unchanged
+pub begun_of_applied : (given : Inputs) (options : Options) (report : Report) (before after after' : SinkState) → Keeps after.bytes after'.bytes → after.failed < after'.failed → WasApplied given options report before after → HasBegun given options before after'
+begun_of_applied given options report before after after' unchanged flushed h =
     let work : Work = record { plan = h.plan; script = h.script; hooks = given.hooks } in
     begun_of_front given options before after' h.plan h.script h.read
-    (front_of_streamed (plain_for work options) work options.workers report before after after' kept flushed h.streamed)
+    (front_of_streamed (plain_for work options) work options.workers report before after after' unchanged flushed h.streamed)
 
-begun_of_fault : (cause : Why) (given : Given) (options : Options) (report : Report) (before after after' : Sight) (plan : SavedPlan) (script : OutcomeMap) → Keeps after.bytes after'.bytes → after.failed ≤ after'.failed → IsRead given plan script
+begun_of_fault : (cause : Why) (given : Inputs) (options : Options) (report : Report) (before after after' : SinkState) (plan : SavedPlan) (script : OutcomeMap) → Keeps after.bytes after'.bytes → after.failed ≤ after'.failed → IsRead given plan script
     → HasFailed cause (record { plan = plan; script = script; hooks = given.hooks }) options report before after → Keeps before.bytes after'.bytes ⊎ HasBegun given options before after'
-begun_of_fault cause given options report before after after' plan script kept more read h =
+begun_of_fault cause given options report before after after' plan script unchanged more read h =
     let work : Work = record { plan = plan; script = script; hooks = given.hooks } in
     ⊎_elim
     (λ same. inl same)
     (λ (front : HasFrontInForm (plain_for work options) work options.workers before after'). inr (begun_of_front given options before after' plan script read front))
-    (front_of_failed (plain_for work options) work options.workers report before after after' cause kept more h)
+    (front_of_failed (plain_for work options) work options.workers report before after after' cause unchanged more h)
 
 -- the output is as it was, or grew by a front of the stream
-pub begun_of_refused : (given : Given) (options : Options) (r : Refusal) (before after after' : Sight) → Keeps after.bytes after'.bytes → after.failed ≤ after'.failed → WasRefused given options r before after → Keeps before.bytes after'.bytes ⊎ HasBegun given options before after'
-begun_of_refused given options (refusal.Plan r) before after after' kept more h = inl (subst (λ s. Keeps s.bytes after'.bytes) h.1 kept)
-begun_of_refused given options (refusal.Script r) before after after' kept more h = inl (subst (λ s. Keeps s.bytes after'.bytes) h.3 kept)
-begun_of_refused given options refusal.Waits before after after' kept more h = inl (subst (λ s. Keeps s.bytes after'.bytes) h.4 kept)
-begun_of_refused given options refusal.Size before after after' kept more h = inl (subst (λ s. Keeps s.bytes after'.bytes) h.4 kept)
-begun_of_refused given options (refusal.Fault fault) before after after' kept more h = begun_of_fault fault.why given options fault.report before after after' h.0 h.1 kept more h.2 h.4
+pub begun_of_refused : (given : Inputs) (options : Options) (r : Refusal) (before after after' : SinkState) → Keeps after.bytes after'.bytes → after.failed ≤ after'.failed → WasRefused given options r before after → Keeps before.bytes after'.bytes ⊎ HasBegun given options before after'
+begun_of_refused given options (refusal.Plan r) before after after' unchanged more h = inl (subst (λ s. Keeps s.bytes after'.bytes) h.1 unchanged)
+begun_of_refused given options (refusal.Script r) before after after' unchanged more h = inl (subst (λ s. Keeps s.bytes after'.bytes) h.3 unchanged)
+begun_of_refused given options refusal.Waits before after after' unchanged more h = inl (subst (λ s. Keeps s.bytes after'.bytes) h.4 unchanged)
+begun_of_refused given options refusal.Size before after after' unchanged more h = inl (subst (λ s. Keeps s.bytes after'.bytes) h.4 unchanged)
+begun_of_refused given options (refusal.Fault fault) before after after' unchanged more h = begun_of_fault fault.why given options fault.report before after after' h.0 h.1 unchanged more h.2 h.4
 
 -- with 2 the output is as it was
-pub kept_of_refused : (given : Given) (options : Options) (r : Refusal) (before after : Sight) → refusal_status_of r ≡ 2 → WasRefused given options r before after → Keeps before.bytes after.bytes
-kept_of_refused given options (refusal.Plan r) before after is h = subst (λ s. Keeps s.bytes after.bytes) h.1 (Keeps-refl after.bytes)
-kept_of_refused given options (refusal.Script r) before after is h = subst (λ s. Keeps s.bytes after.bytes) h.3 (Keeps-refl after.bytes)
-kept_of_refused given options refusal.Waits before after is h = subst (λ s. Keeps s.bytes after.bytes) h.4 (Keeps-refl after.bytes)
-kept_of_refused given options refusal.Size before after is h = subst (λ s. Keeps s.bytes after.bytes) h.4 (Keeps-refl after.bytes)
-kept_of_refused given options (refusal.Fault fault) before after is h = absurd (omega arith)
+pub unchanged_of_refused : (given : Inputs) (options : Options) (r : Refusal) (before after : SinkState) → refusal_status_of r ≡ 2 → WasRefused given options r before after → Keeps before.bytes after.bytes
+unchanged_of_refused given options (refusal.Plan r) before after is h = subst (λ s. Keeps s.bytes after.bytes) h.1 (Keeps-refl after.bytes)
+unchanged_of_refused given options (refusal.Script r) before after is h = subst (λ s. Keeps s.bytes after.bytes) h.3 (Keeps-refl after.bytes)
+unchanged_of_refused given options refusal.Waits before after is h = subst (λ s. Keeps s.bytes after.bytes) h.4 (Keeps-refl after.bytes)
+unchanged_of_refused given options refusal.Size before after is h = subst (λ s. Keeps s.bytes after.bytes) h.4 (Keeps-refl after.bytes)
+unchanged_of_refused given options (refusal.Fault fault) before after is h = absurd (omega arith)
 
 -- too many bytes are refused with 2
-pub refused_large : (given : Given) (options : Options) (r : Refusal) (before after : Sight) → WasRefused given options r before after → max_bytes < length given.plan → refusal_status_of r ≡ 2
+pub refused_large : (given : Inputs) (options : Options) (r : Refusal) (before after : SinkState) → WasRefused given options r before after → max_bytes < length given.plan → refusal_status_of r ≡ 2
 refused_large given options (refusal.Plan r) before after h long =
     let refused = too_large given.plan long in
     ⊎_elim

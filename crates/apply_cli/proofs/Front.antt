@@ -1,4 +1,5 @@
--- A front of an input that is a plan is the whole input, where it has one byte more than a plan may have.
+-- If the first bytes of an input are a plan, and one byte more than a plan may have was asked for,
+-- they are the whole input.
 use Rattle.std.proofs.Common.{◌≡◌, ℕ, ◌+◌, ◌<◌, ◌≤◌, List, length, take, true, nat_lt, Option, None, Some, IfSome, Ok, Err, refl, sym, ◌∙◌, arith, take_all, ⊎_elim}
 use Rattle.std.proofs.lemmas.List.{length-take}
 use Rattle.std.proofs.lemmas.Bool.{cases_lt, lt-ltb}

@@ -1,4 +1,4 @@
-mod AsTold
+mod AsTerraform
 mod Ending
 mod Followed
 mod Front

@@ -7,9 +7,9 @@ use Rattle.apply_plan.specs.Plan.SavedPlan.{SavedPlan}
 use Rattle.apply_plan.specs.Script.OutcomeMap.{OutcomeMap, script_of}
 use Rattle.apply_text_terraform.specs.declared.form.Form.{Form}
 use Rattle.apply_text_terraform.specs.declared.form.Form.TheVariants.{Applystream, Terraform}
-use Rattle.apply_run.specs.Bytes.{Given, IsRead, given_script}
-use Rattle.apply_run.specs.Read.{IsTold, Told}
-use Rattle.apply_run.specs.Run.{Sight}
+use Rattle.apply_run.specs.Bytes.{Inputs, IsRead, given_script}
+use Rattle.apply_run.specs.Read.{IsStated, StatedInputs}
+use Rattle.apply_run.specs.Run.{SinkState}
 use Rattle.apply_cli_args.specs.declared.settings.Settings.{Settings}
 use Rattle.apply_cli.specs.Command.{AreOfName, IsFrontOfFile, OfFile}
 use Rattle.apply_cli.specs.Invocation.{HasAppliedAsAsked, HasBegunAsAsked}
@@ -23,28 +23,28 @@ small : (plan : SavedPlan) (script : OutcomeMap) (bytes : List ℕ) → script_o
 small plan script bytes is =
     ⊎_elim (λ (long : max_bytes < length bytes). let refused = too_large plan bytes long in absurd cc) (λ (short : length bytes ≤ max_bytes). short) (cases_lt max_bytes (length bytes))
 
-read_fits : (given : Given) (bytes : List ℕ) (plan : SavedPlan) (script : OutcomeMap) → given.script ≡ Some bytes → IsRead given plan script → length bytes ≤ max_bytes
+read_fits : (given : Inputs) (bytes : List ℕ) (plan : SavedPlan) (script : OutcomeMap) → given.script ≡ Some bytes → IsRead given plan script → length bytes ≤ max_bytes
 read_fits given bytes plan script is read = small plan script bytes (subst (λ s. given_script plan s ≡ Ok script) is read.script_is)
 
-told_fits : (given : Given) (bytes : List ℕ) (told : Told) → given.script ≡ Some bytes → IsTold given.plan given.script told → length bytes ≤ max_bytes
-told_fits given bytes told is read = small told.plan told.script bytes (subst (λ s. given_script told.plan s ≡ Ok told.script) is read.script_is)
+stated_fits : (given : Inputs) (bytes : List ℕ) (stated : StatedInputs) → given.script ≡ Some bytes → IsStated given.plan given.script stated → length bytes ≤ max_bytes
+stated_fits given bytes stated is read = small stated.plan stated.script bytes (subst (λ s. given_script stated.plan s ≡ Ok stated.script) is read.script_is)
 
 -- where a script was applied, or a part of it, there are not too many bytes
-pub applied_fits : (given : Given) (bytes : List ℕ) (settings : Settings) (parallelism : Option ℕ) (form : Form) (before after : Sight) (status : ℕ)
+pub applied_fits : (given : Inputs) (bytes : List ℕ) (settings : Settings) (parallelism : Option ℕ) (form : Form) (before after : SinkState) (status : ℕ)
     → given.script ≡ Some bytes → HasAppliedAsAsked given settings parallelism form before after status → length bytes ≤ max_bytes
 unfolding HasAppliedAsAsked
 applied_fits given bytes settings None Applystream before after status is h = read_fits given bytes h.applied.plan h.applied.script is h.applied.read
 applied_fits given bytes settings (Some lanes) Applystream before after status is h = read_fits given bytes h.applied.plan h.applied.script is h.applied.read
-applied_fits given bytes settings None Terraform before after status is h = told_fits given bytes h.applied.told is h.applied.read
-applied_fits given bytes settings (Some lanes) Terraform before after status is h = told_fits given bytes h.applied.told is h.applied.read
+applied_fits given bytes settings None Terraform before after status is h = stated_fits given bytes h.applied.stated is h.applied.read
+applied_fits given bytes settings (Some lanes) Terraform before after status is h = stated_fits given bytes h.applied.stated is h.applied.read
 
-pub begun_fits : (given : Given) (bytes : List ℕ) (settings : Settings) (parallelism : Option ℕ) (form : Form) (before after : Sight)
+pub begun_fits : (given : Inputs) (bytes : List ℕ) (settings : Settings) (parallelism : Option ℕ) (form : Form) (before after : SinkState)
     → given.script ≡ Some bytes → HasBegunAsAsked given settings parallelism form before after → length bytes ≤ max_bytes
 unfolding HasBegunAsAsked
 begun_fits given bytes settings None Applystream before after is h = read_fits given bytes h.plan h.script is h.read
 begun_fits given bytes settings (Some lanes) Applystream before after is h = read_fits given bytes h.plan h.script is h.read
-begun_fits given bytes settings None Terraform before after is h = told_fits given bytes h.told is h.read
-begun_fits given bytes settings (Some lanes) Terraform before after is h = told_fits given bytes h.told is h.read
+begun_fits given bytes settings None Terraform before after is h = stated_fits given bytes h.stated is h.read
+begun_fits given bytes settings (Some lanes) Terraform before after is h = stated_fits given bytes h.stated is h.read
 
 -- so nothing of the file was left
 whole_file : (known : Option (List ℕ)) (bytes : List ℕ) → length bytes ≤ max_bytes

@@ -14,21 +14,21 @@ pub of_input : (read : Result (Vec ℕ Global) InputFault) (known : Option (List
     → IfOk read (λ bytes. status ≤ 1 → P bytes.items)
     → IfErr read (λ fault. status ≡ input_status_of fault)
     → status ≤ 1 → OfInput known P
-of_input (Ok bytes) known status P reads front said unread good =
-    let found = said good in let plan = reads bytes.items found in
-    (bytes.items, found, whole known bytes.items plan.0 front plan.1)
-of_input (Err input.Read) known status P reads front said unread good = absurd (omega arith)
-of_input (Err input.Memory) known status P reads front said unread good = absurd (omega arith)
+of_input (Ok bytes) known status P reads front stated unread good =
+    let witness = stated good in let plan = reads bytes.items witness in
+    (bytes.items, witness, whole known bytes.items plan.0 front plan.1)
+of_input (Err input.Read) known status P reads front stated unread good = absurd (omega arith)
+of_input (Err input.Memory) known status P reads front stated unread good = absurd (omega arith)
 
 -- the same with 3, where the output may be as it was
-pub of_input_in_part : (read : Result (Vec ℕ Global) InputFault) (known : Option (List ℕ)) (status : ℕ) (Kept : Type 0) (P : List ℕ → Type 0) → ((bytes : List ℕ) → P bytes → (plan : SavedPlan) × (plan_of bytes ≡ Ok plan))
+pub of_input_in_part : (read : Result (Vec ℕ Global) InputFault) (known : Option (List ℕ)) (status : ℕ) (Unchanged : Type 0) (P : List ℕ → Type 0) → ((bytes : List ℕ) → P bytes → (plan : SavedPlan) × (plan_of bytes ≡ Ok plan))
     → IfOk read (λ bytes. IfSome known (λ all. bytes.items ≡ take (max_bytes + 1) all))
-    → IfOk read (λ bytes. status ≡ 3 → Kept ⊎ P bytes.items)
-    → IfErr read (λ fault. Kept)
-    → status ≡ 3 → Kept ⊎ OfInput known P
-of_input_in_part (Ok bytes) known status Kept P reads front said unread bad =
+    → IfOk read (λ bytes. status ≡ 3 → Unchanged ⊎ P bytes.items)
+    → IfErr read (λ fault. Unchanged)
+    → status ≡ 3 → Unchanged ⊎ OfInput known P
+of_input_in_part (Ok bytes) known status Unchanged P reads front stated unread bad =
     ⊎_elim
-    (λ (kept : Kept). inl kept)
-    (λ (found : P bytes.items). let plan = reads bytes.items found in inr (bytes.items, found, whole known bytes.items plan.0 front plan.1))
-    (said bad)
-of_input_in_part (Err fault) known status Kept P reads front said unread bad = inl unread
+    (λ (unchanged : Unchanged). inl unchanged)
+    (λ (witness : P bytes.items). let plan = reads bytes.items witness in inr (bytes.items, witness, whole known bytes.items plan.0 front plan.1))
+    (stated bad)
+of_input_in_part (Err fault) known status Unchanged P reads front stated unread bad = inl unread

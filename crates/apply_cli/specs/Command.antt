@@ -1,4 +1,4 @@
--- How the program has ended.
+-- How the main command ends.
 use Rattle.std.specs.Prelude.{◌≡◌, ◌<◌, ◌+◌, ◌↔◌, ◌⊎◌, ℕ, List, Option, None, Some, IfSome, length, take, ⊤}
 use Rattle.std.specs.List.{range_with_len}
 use Rattle.std.specs.Io.KnownBytes.{Appends}
@@ -11,29 +11,29 @@ use Rattle.apply_events.specs.Step.{Work}
 use Rattle.apply_events.specs.WorkerEvents.{worker_events}
 use Rattle.apply_run.specs.Applied.{IsApplied, IsAppliedInPart}
 use Rattle.apply_text.specs.Order.{as_written, hook_messages_of}
-use Rattle.apply_run.specs.Bytes.{Given, IsRead, WasApplied}
+use Rattle.apply_run.specs.Bytes.{Inputs, IsRead, WasApplied}
 use Rattle.apply_run.specs.declared.options.Options.{Options}
 use Rattle.apply_writer.specs.declared.report.Report.{Report}
-use Rattle.apply_run.specs.Run.{Sight}
+use Rattle.apply_run.specs.Run.{SinkState}
 use Rattle.apply_writer.specs.Sinks.{OverWriter}
 use Rattle.apply_writer.specs.Stream.Form.{StreamForm, lines_in, plain_form, stream_in}
 use Rattle.apply_cli.specs.Status.{unfinished}
 
--- the output, as the run sees it, where the writer tells these contents
-abbrev pub sight_of : {W : Type 0} → (contents : W → Option (List ℕ)) → OverWriter W → Sight
-sight_of contents output = record { bytes = contents output.writer; failed = output.failures }
+-- the output as the run sees it, from what the writer reveals
+abbrev pub sink_state : {W : Type 0} → (contents : W → Option (List ℕ)) → OverWriter W → SinkState
+sink_state contents output = record { bytes = contents output.writer; failed = output.failures }
 
--- what was given was applied, the output has all of its stream behind the bytes that it had, and the status is 1
--- exactly where a step failed or was halted; one worker applies all changes in the plan's order, so that the bytes are
--- known
-pub record HasApplied (given : Given) (options : Options) (before after : Sight) (status : ℕ) : Type 0 where
+-- the inputs were applied, the whole stream was written after the bytes that the output had, and
+-- the status is 1 if and only if a step failed or was halted. One worker applies all changes in the
+-- plan's order, so its bytes are known
+pub record HasApplied (given : Inputs) (options : Options) (before after : SinkState) (status : ℕ) : Type 0 where
   pub report : Report
   pub applied : WasApplied given options report before after
   pub alone : options.workers ≡ 1
       → applied.streamed.events ≡ worker_events
       (record { plan = applied.plan; script = applied.script; hooks = given.hooks }) 0
       (range_with_len 0 (length applied.plan.changes))
-  pub told : (status ≡ 1) ↔ (0 < unfinished report.counts)
+  pub status_is : (status ≡ 1) ↔ (0 < unfinished report.counts)
 
 -- all of the events, and a prefix of their stream
 pub record IsFrontOfStream (form : StreamForm) (work : Work) (workers : ℕ) (lists : List (List ℕ)) (events : List Event)
@@ -41,30 +41,32 @@ pub record IsFrontOfStream (form : StreamForm) (work : Work) (workers : ℕ) (li
   pub applied : IsApplied work workers lists events
   pub is_prefix : IsPrefix part (stream_in form events)
 
--- all of the events, and a prefix of their lines, without what comes last
+-- all of the events, and a prefix of their lines, without the tail
 pub record IsFrontOfAllLines (form : StreamForm) (work : Work) (workers : ℕ) (lists : List (List ℕ)) (events : List Event)
     (part : List ℕ) : Type 0 where
   pub applied : IsApplied work workers lists events
   pub is_prefix : IsPrefix part (lines_in form (as_written events))
 
--- a part of the events, and a prefix of the lines of their hook messages, without a note or what comes last
+-- prefixes of the workers' events, and a prefix of the lines of their hook messages, without
+-- diagnostics and tail
 pub record IsFrontOfLines (form : StreamForm) (work : Work) (workers : ℕ) (lists : List (List ℕ)) (events : List Event)
     (part : List ℕ) : Type 0 where
   pub applied : IsAppliedInPart work workers lists events
   pub is_prefix : IsPrefix part (lines_in form (hook_messages_of events))
 
--- so many bytes of a stream in some form: with what comes last only where a write or a flush has failed since
-abbrev pub IsFrontInForm : StreamForm → Work → (workers : ℕ) → (before after : Sight) → (lists : List (List ℕ)) → List Event
+-- these bytes are a prefix of a stream in this form; they include the tail only if a write or a
+-- flush has failed since
+abbrev pub IsFrontInForm : StreamForm → Work → (workers : ℕ) → (before after : SinkState) → (lists : List (List ℕ)) → List Event
     → (part : List ℕ) → Type 0
 IsFrontInForm form work workers before after lists events part =
     ((before.failed < after.failed) × IsFrontOfStream form work workers lists events part)
     ⊎ (IsFrontOfAllLines form work workers lists events part ⊎ IsFrontOfLines form work workers lists events part)
 
--- what was given was applied, or a part of it, and the output has a front of the stream behind the bytes that it had. A
--- summary may stand in it only where all was applied and a write or a flush has failed since, and then it is that of
--- all; where none has failed, as after want of memory, no summary does. A thread that was refused is no such beginning:
--- then the output is as it was
-pub record HasBegun (given : Given) (options : Options) (before after : Sight) : Type 0 where
+-- the inputs were applied, wholly or in part, and a prefix of the stream was written after the
+-- bytes that the output had. A summary may stand in that prefix only if everything was applied and
+-- a write or a flush has failed since; then it is the summary of everything. If memory was refused,
+-- there is no summary. A refused thread is no such beginning: then the output is unchanged
+pub record HasBegun (given : Inputs) (options : Options) (before after : SinkState) : Type 0 where
   pub plan : SavedPlan
   pub script : OutcomeMap
   pub read : IsRead given plan script
@@ -75,28 +77,27 @@ pub record HasBegun (given : Given) (options : Options) (before after : Sight) :
       (record { plan = plan; script = script; hooks = given.hooks }) options.workers before after lists events part
   pub appended : Appends before.bytes after.bytes part
 
--- it is so of some bytes, which are those of the input, where it tells them
+-- the fact holds of some bytes; they are those of the input, if the input reveals them
 abbrev pub OfInput : (known : Option (List ℕ)) → (List ℕ → Type 0) → Type 0
 OfInput known P = (bytes : List ℕ) × P bytes × IfSome known (λ all. all ≡ bytes)
 
--- they are all bytes of a file that was opened, where it tells them
+-- these are all bytes of a file that was opened, if the file reveals them
 abbrev pub IsWholeFile : {File : Type 0} → (remaining : File → Option (List ℕ)) → (bytes : List ℕ) → Type 0
 IsWholeFile {File = File} remaining bytes = (file : File) × IfSome (remaining file) (λ all. all ≡ bytes)
 
--- they are those of a file that was opened, up to one more than a script may have
+-- these are the bytes of a file that was opened, up to one byte more than a script may have
 abbrev pub IsFrontOfFile : {File : Type 0} → (remaining : File → Option (List ℕ)) → (bytes : List ℕ) → Type 0
 IsFrontOfFile {File = File} remaining bytes =
     (file : File) × IfSome (remaining file) (λ all. bytes ≡ take (max_bytes + 1) all)
 
--- there are bytes exactly where there is a name, and then it is so of them
+-- there are bytes if and only if there is a name, and then the fact holds of them
 abbrev pub AreOfName : (IsOfFile : List ℕ → Type 0) → (name bytes : Option (List ℕ)) → Type 0
 AreOfName IsOfFile None None = ⊤
 AreOfName IsOfFile None (Some bytes) = ⊥
 AreOfName IsOfFile (Some name) None = ⊥
 AreOfName IsOfFile (Some name) (Some bytes) = IsOfFile bytes
 
--- it is so of all bytes of a file that was opened, where a file is named, and of no bytes where none is; what such a file
--- has to give, `remaining` says
+-- the fact holds of some bytes; they are those of the input, if the input reveals them
 abbrev pub OfFile : {File : Type 0} → (remaining : File → Option (List ℕ)) → (name : Option (List ℕ))
     → (Option (List ℕ) → Type 0) → Type 0
 OfFile remaining name P = (bytes : Option (List ℕ)) × P bytes × AreOfName (IsWholeFile remaining) name bytes

@@ -1,4 +1,4 @@
--- How the program has ended, where the changes are under way in lanes.
+-- How the main command ends, if the changes run in lanes.
 use Rattle.std.specs.Prelude.{◌≡◌, ◌<◌, ◌↔◌, ◌⊎◌, ℕ, List}
 use Rattle.std.specs.Io.KnownBytes.{Appends}
 use mathlib.Core.List.{IsPrefix}
@@ -8,30 +8,31 @@ use Rattle.apply_events.specs.declared.event.Event.{Event}
 use Rattle.apply_events.specs.Waits.TimeLine.{IsTimeLine}
 use Rattle.apply_text.specs.declared.operation.Operation.{Operation}
 use Rattle.apply_text.specs.Order.{as_written}
-use Rattle.apply_run.specs.Bytes.{Given, IsRead}
+use Rattle.apply_run.specs.Bytes.{Inputs, IsRead}
 use Rattle.apply_writer.specs.declared.report.Report.{Report}
 use Rattle.apply_run.specs.Lanes.{WasAppliedInLanes}
-use Rattle.apply_run.specs.Run.{Sight}
+use Rattle.apply_run.specs.Run.{SinkState}
 use Rattle.apply_writer.specs.Stream.Form.{StreamForm, lines_in, plain_form, stream_in}
 use Rattle.apply_cli.specs.Status.{unfinished}
 
--- what was given was applied in so many lanes, the output has all of the stream of its time line behind the bytes that
--- it had, and the status is 1 exactly where a step failed or was halted
-pub record HasAppliedInLanes (given : Given) (lanes start : ℕ) (operation : Operation) (before after : Sight)
+-- the inputs were applied in so many lanes, the whole stream of the time line was written after the
+-- bytes that the output had, and the status is 1 if and only if a step failed or was halted
+pub record HasAppliedInLanes (given : Inputs) (lanes start : ℕ) (operation : Operation) (before after : SinkState)
     (status : ℕ) : Type 0 where
   pub report : Report
   pub applied : WasAppliedInLanes given lanes start operation report before after
-  pub told : (status ≡ 1) ↔ (0 < unfinished report.counts)
+  pub status_is : (status ≡ 1) ↔ (0 < unfinished report.counts)
 
--- so many bytes of the stream of a time line in some form: with what comes last only where a write or a flush has failed
-abbrev pub IsFrontOfTimeLine : StreamForm → (before after : Sight) → List Event → (part : List ℕ) → Type 0
+-- these bytes are a prefix of the stream of a time line in this form; they include the tail only if
+-- a write or a flush has failed
+abbrev pub IsFrontOfTimeLine : StreamForm → (before after : SinkState) → List Event → (part : List ℕ) → Type 0
 IsFrontOfTimeLine form before after events part =
     ((before.failed < after.failed) × IsPrefix part (stream_in form events)) ⊎ IsPrefix part (lines_in form (as_written events))
 
--- what was given was applied, and the output has a front of the stream of its time line behind the bytes that it had:
--- with a summary only where a write or a flush has failed
-pub record HasBegunInLanes (given : Given) (lanes start : ℕ) (operation : Operation)
-    (before after : Sight) : Type 0 where
+-- the inputs were applied, and a prefix of the stream of the time line was written after the bytes
+-- that the output had; it has a summary only if a write or a flush has failed
+pub record HasBegunInLanes (given : Inputs) (lanes start : ℕ) (operation : Operation)
+    (before after : SinkState) : Type 0 where
   pub plan : SavedPlan
   pub script : OutcomeMap
   pub read : IsRead given plan script

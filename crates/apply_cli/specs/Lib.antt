@@ -1,5 +1,5 @@
 pub mod Command
-pub mod CommandAsTold
+pub mod CommandAsTerraform
 pub mod CommandInForm
 pub mod CommandInLanes
 pub mod Invocation

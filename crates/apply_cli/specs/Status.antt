@@ -1,5 +1,5 @@
--- The exit status: 0 where all is well, 1 where a step failed or was halted, 2 where the words or the input are at
--- fault, and 3 where memory ran out or the run did not end well.
+-- The exit status: 0 after success, 1 if a step failed or was halted, 2 if the arguments or the
+-- inputs were refused, and 3 if memory was refused or the run failed.
 use Rattle.std.specs.Prelude.{ℕ, ◌+◌}
 use Rattle.apply_events.specs.declared.counts.Counts.{Counts}
 use Rattle.apply_hooks.specs.declared.hook_error.HookError.{HookError}
@@ -58,7 +58,7 @@ refusal_status_of Waits = 2
 refusal_status_of Size = 2
 refusal_status_of (Fault fault) = 3
 
--- how many steps failed and how many were halted
+-- the number of steps that failed or were halted
 abbrev pub unfinished : Counts → ℕ
 unfinished counts = counts.failed + counts.halted
 
@@ -66,7 +66,7 @@ abbrev pub usage_status_of : Usage → ℕ
 usage_status_of (usage.Help text) = 0
 usage_status_of usage.Version = 0
 usage_status_of (usage.Words text) = 2
-usage_status_of usage.Beside = 2
+usage_status_of usage.Conflict = 2
 usage_status_of (usage.Moment error) = 2
 usage_status_of usage.Hooks = 2
 usage_status_of usage.Memory = 3

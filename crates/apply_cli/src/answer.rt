@@ -1,19 +1,20 @@
-//! What is answered to words that say no invocation.
+//! Answers a command line that gives no invocation.
 
 ghost use Rattle.std.specs.Prelude.{◌≡◌, ◌≤◌};
 ghost use Rattle.std.specs.Io.KnownBytes.{Keeps};
 ghost use Rattle.apply_cli.specs.Status.{hook_status_of, usage_status_of};
 
-use crate::run::report;
+use crate::reporting::report;
 use crate::status::{FAILED, REFUSED};
 use apply_cli_args::{Usage, VERSION};
 use apply_hooks::HookError;
 use std::io::Write;
 
-/// Says why the words are not followed, and answers the exit status: 0 for help and the version, 3 where memory was refused, else 2.
+/// Reports why the arguments give no invocation, and returns the exit status: 0 for help and the
+/// version, 3 if memory was refused, else 2.
 ///
-/// Help and the version are printed on `out`, everything else on `faults`; the other one is as it was. A text that cannot be written is
-/// dropped.
+/// Help and the version are printed on `out`, everything else on `faults`; the other one is
+/// unchanged. A text that cannot be written is dropped.
 pub fn answer_usage<W: Write, E: Write>(usage: &Usage, out: &mut W, faults: &mut E) -> u8
     ensures status { result ≡ usage_status_of usage.now }
     ensures quiet { result ≡ 0 → Keeps (E.contents faults.old) (E.contents faults.new) }
@@ -34,7 +35,7 @@ pub fn answer_usage<W: Write, E: Write>(usage: &Usage, out: &mut W, faults: &mut
             let _ = faults.write_all(text.as_str().as_bytes());
             REFUSED
         }
-        Usage::Beside => {
+        Usage::Conflict => {
             report(
                 faults,
                 "--parallelism takes no --workers and no --queue beside it",
@@ -50,7 +51,7 @@ pub fn answer_usage<W: Write, E: Write>(usage: &Usage, out: &mut W, faults: &mut
     }
 }
 
-/// Says why a hook was not added, and answers the exit status.
+/// Reports why a hook was not added, and returns the exit status.
 pub fn report_hook<E: Write>(faults: &mut E, refused: HookError) -> u8
     ensures { result ≡ hook_status_of refused }
 {

@@ -1,4 +1,4 @@
-//! The bytes of the input.
+//! Reads the bytes of an input.
 
 ghost use Rattle.std.specs.Prelude.{◌≡◌, ◌<◌, ◌≤◌, ◌+◌, List, ℕ, ◌++◌, IfOk, IfSome, length, take, true};
 ghost use Rattle.std.specs.Io.KnownBytes.{Consumes, IsAtEnd};
@@ -9,13 +9,14 @@ use apply_plan::MAX_BYTES;
 use std::alloc::{AllocError, Global};
 use std::io::{self, Read};
 
-/// One byte more than a plan may have, so that a longer one is seen to be too long.
+/// One byte more than a plan may have, so that a longer plan is known to be too long.
 const MAX_READ: usize = MAX_BYTES + 1;
 
-/// How many bytes are asked for at once.
+/// How many bytes are read at once.
 const BUFFER_LEN: usize = 65_536;
 
-/// The bytes of the input up to its end, and no more than 67,108,865 of them. `Err` where a read fails, or memory is refused.
+/// Returns the bytes of the input up to its end, at most 67,108,865. `Err` if a read fails, or
+/// memory is refused.
 pub fn read_all<R: Read + Drop>(alloc: Global, mut input: R) -> Result<Vec<u8>, InputFault>
     ensures bytes { IfOk result
         (λ bytes. IfSome (R.remaining input) (λ all. bytes.items ≡ take (max_bytes + 1) all)) }
@@ -24,7 +25,8 @@ pub fn read_all<R: Read + Drop>(alloc: Global, mut input: R) -> Result<Vec<u8>, 
     read_input(alloc, &mut input).0
 }
 
-/// Does what `read_all` does, and leaves the input with the caller. Answers too whether it was read to its end.
+/// Does what `read_all` does, and leaves the input with the caller. The second value says whether
+/// the input was read to its end.
 pub(crate) fn read_input<R: Read>(
     alloc: Global,
     input: &mut R,
@@ -43,17 +45,18 @@ pub(crate) fn read_input<R: Read>(
     }
 }
 
-/// Reads what is left of the input and drops it: who writes into a pipe is stopped where nobody reads on. Answers whether
-/// the end was reached, and `false` only where a read failed.
+/// Reads the rest of the input and drops it, so that whoever writes into the pipe is not stopped.
+/// Returns whether the end was reached: `false` only after a failed read.
 ///
-/// A read that was interrupted by a signal is tried again. What is dropped takes no memory of the heap.
-pub fn drop_rest<R: Read>(input: &mut R) -> bool
+/// A read that a signal interrupted is repeated. No memory of the heap is taken.
+pub fn drain<R: Read>(input: &mut R) -> bool
     ensures { result ≡ true → IsAtEnd (R.remaining input.new) }
 {
     io::copy(input, &mut io::sink()).is_ok()
 }
 
-/// The first bytes of the input, up to the limit, read through a buffer of their own.
+/// Returns the first bytes of the input, up to the limit, read through a buffer that this function
+/// allocates. `Err` as in `read_all`.
 fn read_through_buffer<R: Read>(alloc: Global, input: &mut R) -> Result<Vec<u8>, InputFault>
     ensures bytes { IfOk result
         (λ bytes. IfSome (R.remaining input.old) (λ all. bytes.items ≡ take (max_bytes + 1) all)) }
@@ -65,14 +68,15 @@ fn read_through_buffer<R: Read>(alloc: Global, input: &mut R) -> Result<Vec<u8>,
     read_front(alloc, input, &mut buffer, MAX_READ)
 }
 
-/// So many zeros.
+/// Returns `count` zeros. `Err` if memory is refused.
 fn zeros(alloc: Global, count: usize) -> Result<Vec<u8>, AllocError>
     ensures { IfOk result (λ zeros. length zeros.items ≡ count) }
 {
     vec![in alloc; 0; count]
 }
 
-/// The first bytes of the input, up to the limit, read through the buffer.
+/// Returns the first bytes of the input, up to the limit, read through the buffer. `Err` as in
+/// `read_all`.
 fn read_front<R: Read>(
     alloc: Global,
     input: &mut R,
@@ -95,7 +99,8 @@ fn read_front<R: Read>(
     Ok(bytes)
 }
 
-/// Appends what one read gives, and says how many bytes that were: none at the end.
+/// Appends the bytes of one read, and returns how many they are: 0 at the end. `Err` as in
+/// `read_all`.
 fn read_some<R: Read>(
     input: &mut R,
     buffer: &mut [u8],

@@ -1,4 +1,4 @@
-//! Why the input was not read.
+//! Why an input could not be read.
 
 ghost use Rattle.std.specs.Prelude.{◌≡◌};
 ghost use Rattle.apply_cli.specs.declared.input_fault.InputFault.TheVariants.{Memory};
@@ -6,7 +6,7 @@ ghost use Rattle.apply_cli.specs.declared.input_fault.InputFault.TheVariants.{Me
 use std::alloc::{AllocError, AllocFailed};
 use thiserror::Error;
 
-/// Why the input was not read.
+/// Why an input could not be read.
 #[derive(Clone, Copy, Debug, Drop, Error, PartialEq, Eq)]
 pub enum InputFault {
     /// A read failed.

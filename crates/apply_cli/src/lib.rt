@@ -2,13 +2,13 @@
 #![tactic(auto)]
 
 mod answer;
-mod awaited;
-mod found_refusal;
 mod in_lanes;
 mod input;
 mod input_fault;
 mod options;
 mod program;
+mod prompting_reader;
+mod reporting;
 mod run;
 mod script_file;
 mod standard;
@@ -17,14 +17,15 @@ mod version;
 
 pub use answer::answer_usage;
 pub use apply_cli_args::{Halt, Invocation, Settings, Usage, VERSION, read_invocation, read_words};
-pub use awaited::Awaited;
 pub use in_lanes::{run_in_form_and_lanes, run_in_lanes};
-pub use input::{drop_rest, read_all};
+pub use input::{drain, read_all};
 pub use input_fault::InputFault;
 pub use options::run_options;
 pub use program::{follow, follow_invocation, given_words};
-pub use run::{report, run_bytes, run_command, run_command_in_form, run_input};
+pub use prompting_reader::PromptingReader;
+pub use reporting::report;
+pub use run::{run_bytes, run_command, run_command_in_form, run_input};
 pub use script_file::{read_file, report_script};
 pub use standard::{follow_standard, refuse_standard};
-pub use status::{input_status, refusal_status, told_status};
+pub use status::{input_status, refusal_status, run_status};
 pub use version::{answer_version, ask_for_version};

@@ -1,4 +1,4 @@
-//! From settings to the options of a run.
+//! Turns settings into the options of a run.
 
 ghost use Rattle.std.specs.Prelude.{◌≡◌};
 ghost use Rattle.apply_cli.specs.Options.{options_of};
@@ -6,7 +6,7 @@ ghost use Rattle.apply_cli.specs.Options.{options_of};
 use apply_cli_args::Settings;
 use apply_run::Options;
 
-/// How the run applies the plan.
+/// Returns the options with which a run applies the plan.
 pub fn run_options(settings: &Settings) -> Options
     ensures { result ≡ options_of settings.now }
 {

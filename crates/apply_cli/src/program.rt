@@ -1,15 +1,15 @@
-//! What the words behind the program's name say is done, from the words to the exit status.
+//! Runs the main command, from its arguments to its exit status.
 
 ghost use Rattle.std.specs.Prelude.{◌≡◌, ◌<◌, ◌≤◌, ◌-◌, ◌^◌, ◌⊎◌, false, map, option_map, string_bytes, true, IfOk};
 ghost use Rattle.std.specs.Io.KnownBytes.{Keeps};
 ghost use Rattle.std.specs.Option.{option_copied};
 ghost use Rattle.apply_hooks.specs.Registry.{rules_of};
-ghost use Rattle.apply_cli.specs.Command.{AreOfName, IsFrontOfFile, OfFile, OfInput, sight_of};
+ghost use Rattle.apply_cli.specs.Command.{AreOfName, IsFrontOfFile, OfFile, OfInput, sink_state};
 ghost use Rattle.apply_cli_args.specs.CommandLine.{AskForHelp, AskForHelpAlone};
 ghost use Rattle.apply_cli_args.specs.Halt.{hooks_of_halts, rules_of_halt};
 ghost use Rattle.apply_cli.specs.Invocation.{HasAppliedAsAsked, HasBegunAsAsked, WereApplied, WereBegun, unfailed};
 ghost use Rattle.apply_cli.specs.Status.{usage_status_of};
-ghost use Rattle.apply_cli.specs.Version.{AskForVersion, AskForVersionAlone, WasTold, WereToldVersion};
+ghost use Rattle.apply_cli.specs.Version.{AskForVersion, AskForVersionAlone, WasAnswered, WereAnsweredVersion};
 
 use crate::answer::{answer_usage, report_hook};
 use crate::in_lanes::run_in_form_and_lanes;
@@ -29,10 +29,10 @@ use std::rt::Files;
 use std::sync::Wait;
 use std::thread::Threads;
 
-/// The words of the command line, with the program's name.
+/// Returns the arguments of the command line, with the program's name.
 ///
-/// `Err` with `Usage::Words` where one is not UTF-8, and with `Usage::Memory` where memory is refused, or they could not
-/// be had.
+/// `Err` with `Usage::Words` if an argument is not UTF-8, and with `Usage::Memory` if memory is
+/// refused or the arguments are not available.
 pub fn given_words<R: Env + AllocGlobal>(rt: &R) -> Result<Vec<String>, Usage> {
     match std::env::args(rt) {
         Ok(words) => Ok(words.collect(rt.alloc())?),
@@ -43,11 +43,13 @@ pub fn given_words<R: Env + AllocGlobal>(rt: &R) -> Result<Vec<String>, Usage> {
     }
 }
 
-/// Does what the words behind the program's name say, and answers the exit status. The output comes back.
+/// Does what the arguments after the program's name ask for, and returns the output and the exit
+/// status.
 ///
-/// Words that ask for the version are answered as `answer_version` does, words that `read_invocation` refuses as `answer_usage`
-/// does, and all others as `follow_invocation` does. Where a write fails since the reader of the output is gone, nothing is
-/// said of it. Help that cannot be written is dropped, and no failure is counted for it.
+/// `answer_version` answers arguments that ask for the version, `answer_usage` those that
+/// `read_invocation` refuses, and `follow_invocation` all others. If a write fails since the reader
+/// of the output is gone, nothing is reported. Help that cannot be written is dropped, and does not
+/// count as a failure.
 pub fn follow<F: Files, R: Read + Drop, W: Write + Drop, E: Write, T: Threads + Wait + Sync>(
     rt: &T,
     files: &F,
@@ -58,19 +60,19 @@ pub fn follow<F: Files, R: Read + Drop, W: Write + Drop, E: Write, T: Threads + 
     faults: &mut E,
 ) -> (StdSink<W>, u8)
     ensures version { AskForVersion (map string_bytes words.now)
-        → WasTold (unfailed (W.contents output)) (sight_of W.contents result.0) result.1 }
+        → WasAnswered (unfailed (W.contents output)) (sink_state W.contents result.0) result.1 }
     ensures version_too { AskForVersionAlone (map string_bytes words.now)
-        → WasTold (unfailed (W.contents output)) (sight_of W.contents result.0) result.1
+        → WasAnswered (unfailed (W.contents output)) (sink_state W.contents result.0) result.1
         ⊎ ((result.1 ≡ 3) × Keeps (W.contents output) (W.contents result.0.writer)) }
     ensures applied { result.1 ≤ 1
-        → WereApplied F.File.remaining (map string_bytes words.now) (R.remaining input) (W.contents output) (sight_of W.contents result.0) result.1
-        ⊎ ((result.1 ≡ 0) × (WereToldVersion (map string_bytes words.now) (unfailed (W.contents output)) (sight_of W.contents result.0) result.1
+        → WereApplied F.File.remaining (map string_bytes words.now) (R.remaining input) (W.contents output) (sink_state W.contents result.0) result.1
+        ⊎ ((result.1 ≡ 0) × (WereAnsweredVersion (map string_bytes words.now) (unfailed (W.contents output)) (sink_state W.contents result.0) result.1
         ⊎ AskForHelp (map string_bytes words.now))) }
     ensures help { AskForHelpAlone (map string_bytes words.now) → (result.1 ≡ 0) ⊎ (result.1 ≡ 3) }
     ensures refused { result.1 ≡ 2 → Keeps (W.contents output) (W.contents result.0.writer) }
     ensures cut_off { result.1 ≡ 3 → Keeps (W.contents output) (W.contents result.0.writer)
-        ⊎ (WereBegun F.File.remaining (map string_bytes words.now) (R.remaining input) (W.contents output) (sight_of W.contents result.0)
-        ⊎ WereToldVersion (map string_bytes words.now) (unfailed (W.contents output)) (sight_of W.contents result.0) result.1) }
+        ⊎ (WereBegun F.File.remaining (map string_bytes words.now) (R.remaining input) (W.contents output) (sink_state W.contents result.0)
+        ⊎ WereAnsweredVersion (map string_bytes words.now) (unfailed (W.contents output)) (sink_state W.contents result.0) result.1) }
     ensures quiet { result.1 ≤ 1 → Keeps (E.contents faults.old) (E.contents faults.new) }
     ensures gone { result.0.is_reader_gone ≡ true → Keeps (E.contents faults.old) (E.contents faults.new) }
     ensures statuses { result.1 ≤ 3 }
@@ -96,14 +98,15 @@ pub fn follow<F: Files, R: Read + Drop, W: Write + Drop, E: Write, T: Threads + 
     }
 }
 
-/// Answers words that are not followed: the version as `answer_version` does, and all else as `answer_usage` does.
+/// Answers arguments that give no invocation: `answer_version` answers the version, and
+/// `answer_usage` everything else.
 fn answer_unfollowed<W: Write + Drop, E: Write>(
     usage: &Usage,
     mut output: W,
     faults: &mut E,
 ) -> (StdSink<W>, u8)
-    ensures told { usage.now ≡ Usage.Version
-        → WasTold (unfailed (W.contents output)) (sight_of W.contents result.0) result.1 }
+    ensures version_answered { usage.now ≡ Usage.Version
+        → WasAnswered (unfailed (W.contents output)) (sink_state W.contents result.0) result.1 }
     ensures answered { ¬ (usage.now ≡ Usage.Version) → (result.1 ≡ usage_status_of usage.now)
         × (2 ≤ result.1 → Keeps (W.contents output) (W.contents result.0.writer)) }
     ensures quiet { result.1 ≡ 0 → Keeps (E.contents faults.old) (E.contents faults.new) }
@@ -122,12 +125,13 @@ fn answer_unfollowed<W: Write + Drop, E: Write>(
     }
 }
 
-/// Reads the script's file, where the settings name one, and runs the command with a hook for each halt, in their order:
-/// by workers, or with so many changes under way at once in the stream's own time, where a parallelism is asked for. The
-/// stream is written in that form. The output comes back.
+/// Reads the script's file, if the settings name one, and runs the command with a hook for each
+/// halt, in their order. If a parallelism is given, so many changes run at once in the stream's own
+/// time; else workers apply them. The stream has that form.
 ///
-/// The exit status is that of `run_command_in_form` or `run_in_form_and_lanes`; before that it is 2 where there are more than 32
-/// halts or the script's file could not be read, and 3 where memory was refused, and nothing was written then.
+/// The exit status is that of `run_command_in_form` or `run_in_form_and_lanes`. Before these run,
+/// it is 2 if there are more than 32 halts or the script's file could not be read, and 3 if memory
+/// was refused. Then nothing was written.
 pub fn follow_invocation<
     F: Files,
     R: Read + Drop,
@@ -148,18 +152,19 @@ pub fn follow_invocation<
     requires { output.failures < 2 ^ 64 - 1 }
     ensures applied { result.1 ≤ 1 → OfInput (R.remaining input) (λ plan. OfFile F.File.remaining settings.now.script (λ script.
         HasAppliedAsAsked (record { plan = plan; script = script; hooks = hooks_of_halts settings.now.halts.items })
-        settings.now parallelism form (sight_of W.contents output) (sight_of W.contents result.0) result.1)) }
+        settings.now parallelism form (sink_state W.contents output) (sink_state W.contents result.0) result.1)) }
     ensures refused { result.1 ≡ 2 → Keeps (W.contents output.writer) (W.contents result.0.writer) }
     ensures cut_off { result.1 ≡ 3 → Keeps (W.contents output.writer) (W.contents result.0.writer)
         ⊎ OfInput (R.remaining input) (λ plan. OfFile F.File.remaining settings.now.script (λ script.
         HasBegunAsAsked (record { plan = plan; script = script; hooks = hooks_of_halts settings.now.halts.items })
-        settings.now parallelism form (sight_of W.contents output) (sight_of W.contents result.0))) }
+        settings.now parallelism form (sink_state W.contents output) (sink_state W.contents result.0))) }
     ensures quiet { result.1 ≤ 1 → Keeps (E.contents faults.old) (E.contents faults.new) }
     ensures gone { output.is_reader_gone ≡ false → result.0.is_reader_gone ≡ true
         → Keeps (E.contents faults.old) (E.contents faults.new) }
     ensures statuses { result.1 ≤ 3 }
 {
-    // The closures are boxed here, where the registry is owned: a function that handed them out would hide what they answer.
+    // The closures are boxed here, where the registry is owned: a function that returned them would
+    // hide their answers.
     let mut registry = Registry::new(alloc);
     for halt in &settings.halts {
         let Ok((rules, own)) = rules_twice(alloc, halt) else {
@@ -187,7 +192,8 @@ pub fn follow_invocation<
     )
 }
 
-/// The rules of the halt's hook: for the hook, and for its closure.
+/// Returns the rules of the halt twice: for its hook, and for its closure. `Err` if memory is
+/// refused.
 fn rules_twice(alloc: Global, halt: &Halt) -> Result<(Rules, Rules), AllocError>
     ensures { IfOk result (λ both. (both.0 ≡ rules_of_halt halt.now) × (both.1 ≡ rules_of_halt halt.now)) }
 {
@@ -196,7 +202,8 @@ fn rules_twice(alloc: Global, halt: &Halt) -> Result<(Rules, Rules), AllocError>
     Ok((rules, own))
 }
 
-/// Reads the script's file, where the settings name one, and runs the command with these hooks, which are those of the halts.
+/// Reads the script's file, if the settings name one, and runs the command. The hooks must be those
+/// of the halts.
 fn run_with_hooks<F: Files, R: Read + Drop, W: Write + Drop, E: Write, T: Threads + Wait + Sync>(
     rt: &T,
     files: &F,
@@ -213,12 +220,12 @@ fn run_with_hooks<F: Files, R: Read + Drop, W: Write + Drop, E: Write, T: Thread
     requires hooks { rules_of registry.now ≡ hooks_of_halts settings.now.halts.items }
     ensures applied { result.1 ≤ 1 → OfInput (R.remaining input) (λ plan. OfFile F.File.remaining settings.now.script (λ script.
         HasAppliedAsAsked (record { plan = plan; script = script; hooks = hooks_of_halts settings.now.halts.items })
-        settings.now parallelism form (sight_of W.contents output) (sight_of W.contents result.0) result.1)) }
+        settings.now parallelism form (sink_state W.contents output) (sink_state W.contents result.0) result.1)) }
     ensures refused { result.1 ≡ 2 → Keeps (W.contents output.writer) (W.contents result.0.writer) }
     ensures cut_off { result.1 ≡ 3 → Keeps (W.contents output.writer) (W.contents result.0.writer)
         ⊎ OfInput (R.remaining input) (λ plan. OfFile F.File.remaining settings.now.script (λ script.
         HasBegunAsAsked (record { plan = plan; script = script; hooks = hooks_of_halts settings.now.halts.items })
-        settings.now parallelism form (sight_of W.contents output) (sight_of W.contents result.0))) }
+        settings.now parallelism form (sink_state W.contents output) (sink_state W.contents result.0))) }
     ensures quiet { result.1 ≤ 1 → Keeps (E.contents faults.old) (E.contents faults.new) }
     ensures gone { output.is_reader_gone ≡ false → result.0.is_reader_gone ≡ true
         → Keeps (E.contents faults.old) (E.contents faults.new) }
@@ -245,7 +252,7 @@ fn run_with_hooks<F: Files, R: Read + Drop, W: Write + Drop, E: Write, T: Thread
     )
 }
 
-/// Runs the command: in lanes, where a parallelism is asked for, and else by workers; the stream is told in that form.
+/// Runs the command in lanes if a parallelism is given, and with workers otherwise.
 fn run_script<R: Read + Drop, W: Write + Drop, E: Write, T: Threads + Wait + Sync>(
     rt: &T,
     alloc: Global,
@@ -261,12 +268,12 @@ fn run_script<R: Read + Drop, W: Write + Drop, E: Write, T: Threads + Wait + Syn
     requires { output.failures < 2 ^ 64 - 1 }
     ensures applied { result.1 ≤ 1 → OfInput (R.remaining input) (λ plan.
         HasAppliedAsAsked (record { plan = plan; script = option_copied script.entry; hooks = rules_of registry.now })
-        settings.now parallelism form (sight_of W.contents output) (sight_of W.contents result.0) result.1) }
+        settings.now parallelism form (sink_state W.contents output) (sink_state W.contents result.0) result.1) }
     ensures refused { result.1 ≡ 2 → Keeps (W.contents output.writer) (W.contents result.0.writer) }
     ensures cut_off { result.1 ≡ 3 → Keeps (W.contents output.writer) (W.contents result.0.writer)
         ⊎ OfInput (R.remaining input) (λ plan.
         HasBegunAsAsked (record { plan = plan; script = option_copied script.entry; hooks = rules_of registry.now })
-        settings.now parallelism form (sight_of W.contents output) (sight_of W.contents result.0)) }
+        settings.now parallelism form (sink_state W.contents output) (sink_state W.contents result.0)) }
     ensures quiet { result.1 ≤ 1 → Keeps (E.contents faults.old) (E.contents faults.new) }
     ensures gone { output.is_reader_gone ≡ false → result.0.is_reader_gone ≡ true
         → Keeps (E.contents faults.old) (E.contents faults.new) }
@@ -282,7 +289,7 @@ fn run_script<R: Read + Drop, W: Write + Drop, E: Write, T: Threads + Wait + Syn
     }
 }
 
-/// The bytes of the script's file, where the settings name one.
+/// Returns the bytes of the script's file, if the settings name one. `Err` as in `read_file`.
 fn script_of<F: Files>(
     files: &F,
     alloc: Global,

@@ -1,20 +1,20 @@
-//! The program, from its input to its exit status.
+//! Runs the main command with workers, from its input to its exit status.
 
 ghost use Rattle.std.specs.Prelude.{◌≡◌, ◌<◌, ◌≤◌, ◌-◌, ◌^◌, ◌⊎◌, length, true, IfOk, IfErr, OnErr};
 ghost use Rattle.std.specs.Option.{option_copied};
 ghost use Rattle.std.specs.Io.KnownBytes.{IsAtEnd, Keeps};
 ghost use Rattle.apply_plan.specs.Bytes.{max_bytes};
 ghost use Rattle.apply_hooks.specs.Registry.{rules_of};
-ghost use Rattle.apply_cli.specs.Command.{HasApplied, HasBegun, OfInput, sight_of};
+ghost use Rattle.apply_cli.specs.Command.{HasApplied, HasBegun, OfInput, sink_state};
 ghost use Rattle.apply_cli.specs.CommandInForm.{HasAppliedInForm, HasBegunInForm, HasRefusedInForm};
 ghost use Rattle.apply_cli.specs.Options.{options_of};
 ghost use Rattle.apply_cli.specs.Status.{input_status_of};
 
-use crate::found_refusal::FoundRefusal;
-use crate::input::{drop_rest, read_input};
+use crate::input::{drain, read_input};
 use crate::input_fault::InputFault;
 use crate::options::run_options;
-use crate::status::{FAILED, REFUSED, input_status, refusal_status, told_status};
+use crate::reporting::{report_refusal, report_unless_gone};
+use crate::status::{FAILED, input_status, refusal_status, run_status};
 use apply_cli_args::Settings;
 use apply_hooks::Registry;
 use apply_run::{
@@ -23,25 +23,26 @@ use apply_run::{
 };
 use apply_text_terraform::Form;
 use std::alloc::Global;
-use std::fmt::Display;
-use std::io::{Cursor, Read, Write};
+use std::io::{Read, Write};
 use std::sync::Wait;
 use std::thread::Threads;
 
-/// How many bytes of a fault's line go out in one write.
-const LINE_ROOM: usize = 256;
-
-/// Reads a plan, and writes the stream of messages for applying it as the settings, the hooks and the script say. Without
-/// a script each step is done after 0 seconds. The output comes back.
+/// Reads a plan, and writes the stream of its apply with the settings, the hooks and the script.
+/// Without a script each step succeeds after 0 seconds. Returns the output and the exit status:
 ///
-/// The exit status is 0 where all of the stream was written and no step failed or was halted, and 1 where all of it was
-/// written and some step failed or was halted. It is 2 where the input could not be read or is no plan, where the script is
-/// none for it, or where the settings are out of range: nothing was written then. It is 3 where memory or a thread was
-/// refused or the output could not be written: a front of the stream may have been written then, with a summary only where
-/// all of the plan was applied. What went wrong is said on `faults`, unless that fails too, or the output's reader is gone.
+/// - 0: the whole stream was written, and no step failed or was halted.
+/// - 1: the whole stream was written, and a step failed or was halted.
+/// - 2: the input could not be read or is not a plan, the script does not fit, or the settings are
+///   out of range. Nothing was written.
+/// - 3: memory or a thread was refused, or the output could not be written. A prefix of the stream
+///   may have been written. It has a summary only if the whole plan was applied.
 ///
-/// Where the plan is too large, or a read failed or memory was refused while it was read, the rest of the input is read and
-/// dropped behind what is said: who writes it into a pipe is not stopped. A read that fails meanwhile changes nothing.
+/// Errors are reported on `faults`. Nothing is reported if that fails too, or if the output's
+/// reader is gone.
+///
+/// If the plan is too large, a read failed, or memory was refused for it, the rest of the input is
+/// read and dropped after the report. So whoever writes into the pipe is not stopped. A read that
+/// fails then changes nothing.
 pub fn run_command<R: Read + Drop, W: Write + Drop, E: Write, T: Threads + Wait + Sync>(
     rt: &T,
     alloc: Global,
@@ -54,16 +55,16 @@ pub fn run_command<R: Read + Drop, W: Write + Drop, E: Write, T: Threads + Wait 
 ) -> (StdSink<W>, u8)
     requires { output.failures < 2 ^ 64 - 1 }
 
-    // The plan's bytes are those of the input, all of them, where the reader tells its bytes; those of the output are known
-    // where one worker applies the changes.
+    // The plan's bytes are all bytes of the input, if the reader reveals them. The bytes of the
+    // output are known if one worker applies the changes.
     ensures applied { result.1 ≤ 1 → OfInput (R.remaining input) (λ bytes.
         HasApplied (record { plan = bytes; script = option_copied script.entry; hooks = rules_of registry.now })
-        (options_of settings.now) (sight_of W.contents output) (sight_of W.contents result.0) result.1) }
+        (options_of settings.now) (sink_state W.contents output) (sink_state W.contents result.0) result.1) }
     ensures refused { result.1 ≡ 2 → Keeps (W.contents output.writer) (W.contents result.0.writer) }
     ensures cut_off { result.1 ≡ 3 → Keeps (W.contents output.writer) (W.contents result.0.writer)
         ⊎ OfInput (R.remaining input) (λ bytes.
         HasBegun (record { plan = bytes; script = option_copied script.entry; hooks = rules_of registry.now })
-        (options_of settings.now) (sight_of W.contents output) (sight_of W.contents result.0)) }
+        (options_of settings.now) (sink_state W.contents output) (sink_state W.contents result.0)) }
     ensures quiet { result.1 ≤ 1 → Keeps (E.contents faults.old) (E.contents faults.new) }
     ensures gone { result.0.is_reader_gone ≡ true → Keeps (E.contents faults.old) (E.contents faults.new) }
     ensures statuses { result.1 ≤ 3 }
@@ -81,12 +82,13 @@ pub fn run_command<R: Read + Drop, W: Write + Drop, E: Write, T: Threads + Wait 
     )
 }
 
-/// Does what `run_command` does, and writes the stream in that form: in Terraform's own with what the plan and the script say for
-/// it besides.
+/// Does what `run_command` does, and writes the stream in that form. Terraform's form also prints
+/// the extras of plan and script.
 ///
-/// The exit status is that of `run_command`, and 1 exactly where all of a stream was written that tells of an error; in Terraform's
-/// form that is also where the making of the plan ended with one. There it is 2 also where the script's outputs are none of the
-/// plan.
+/// The exit status is that of `run_command`. It is 1 if and only if the whole stream was written
+/// and reports an error. In Terraform's form, that includes the error of a plan whose planning
+/// failed. There, status 2 also comes if the script's outputs are not those of the plan, or its
+/// diagnostics are malformed.
 pub fn run_command_in_form<R: Read + Drop, W: Write + Drop, E: Write, T: Threads + Wait + Sync>(
     rt: &T,
     alloc: Global,
@@ -101,12 +103,12 @@ pub fn run_command_in_form<R: Read + Drop, W: Write + Drop, E: Write, T: Threads
     requires { output.failures < 2 ^ 64 - 1 }
     ensures applied { result.1 ≤ 1 → OfInput (R.remaining input) (λ bytes.
         HasAppliedInForm form (record { plan = bytes; script = option_copied script.entry; hooks = rules_of registry.now })
-        (options_of settings.now) (sight_of W.contents output) (sight_of W.contents result.0) result.1) }
+        (options_of settings.now) (sink_state W.contents output) (sink_state W.contents result.0) result.1) }
     ensures refused { result.1 ≡ 2 → Keeps (W.contents output.writer) (W.contents result.0.writer) }
     ensures cut_off { result.1 ≡ 3 → Keeps (W.contents output.writer) (W.contents result.0.writer)
         ⊎ OfInput (R.remaining input) (λ bytes.
         HasBegunInForm form (record { plan = bytes; script = option_copied script.entry; hooks = rules_of registry.now })
-        (options_of settings.now) (sight_of W.contents output) (sight_of W.contents result.0)) }
+        (options_of settings.now) (sink_state W.contents output) (sink_state W.contents result.0)) }
     ensures quiet { result.1 ≤ 1 → Keeps (E.contents faults.old) (E.contents faults.new) }
     ensures gone { result.0.is_reader_gone ≡ true → Keeps (E.contents faults.old) (E.contents faults.new) }
     ensures statuses { result.1 ≤ 3 }
@@ -119,8 +121,8 @@ pub fn run_command_in_form<R: Read + Drop, W: Write + Drop, E: Write, T: Threads
     (output, status)
 }
 
-/// Reads the rest of an input that was not read to its end, and drops it. What was said of faults goes out before. Answers
-/// whether the end was reached then, as `drop_rest` does.
+/// Reads the rest of an input that was not read to its end, and drops it. What was reported on
+/// `faults` is flushed before. Returns whether the end was reached, as `drain` does.
 pub(crate) fn finish_reading<R: Read, E: Write>(
     is_whole: bool,
     input: &mut R,
@@ -134,12 +136,14 @@ pub(crate) fn finish_reading<R: Read, E: Write>(
         return true;
     }
     let _ = faults.flush();
-    drop_rest(input)
+    drain(input)
 }
 
-/// Does what `run_command_in_form` does, with an input that was read or was not. Where it was read, status 2 is answered only where
-/// its bytes are no plan, the script is none for it, or the settings are out of range; where it was not, the status is
-/// that of the fault.
+/// Does what `run_command_in_form` does, with an input that was already read, or with the error of
+/// reading it.
+///
+/// After a successful read, status 2 comes only if the bytes are not a plan, the script does not
+/// fit, or the settings are out of range. After an error, the status is that of the error.
 pub fn run_input<W: Write + Drop, E: Write, T: Threads + Wait + Sync>(
     rt: &T,
     alloc: Global,
@@ -154,14 +158,14 @@ pub fn run_input<W: Write + Drop, E: Write, T: Threads + Wait + Sync>(
     requires { output.failures < 2 ^ 64 - 1 }
     ensures applied { IfOk input (λ bytes. result.1 ≤ 1 →
         HasAppliedInForm form (record { plan = bytes.items; script = option_copied script.entry; hooks = rules_of registry.now })
-        (options_of settings.now) (sight_of W.contents output) (sight_of W.contents result.0) result.1) }
+        (options_of settings.now) (sink_state W.contents output) (sink_state W.contents result.0) result.1) }
     ensures refused { IfOk input (λ bytes. result.1 ≡ 2 →
         HasRefusedInForm form (record { plan = bytes.items; script = option_copied script.entry; hooks = rules_of registry.now })
-        (options_of settings.now) (sight_of W.contents output) (sight_of W.contents result.0)) }
-    ensures kept { result.1 ≡ 2 → Keeps (W.contents output.writer) (W.contents result.0.writer) }
+        (options_of settings.now) (sink_state W.contents output) (sink_state W.contents result.0)) }
+    ensures unchanged { result.1 ≡ 2 → Keeps (W.contents output.writer) (W.contents result.0.writer) }
     ensures cut_off { IfOk input (λ bytes. result.1 ≡ 3 → Keeps (W.contents output.writer) (W.contents result.0.writer)
         ⊎ HasBegunInForm form (record { plan = bytes.items; script = option_copied script.entry; hooks = rules_of registry.now })
-        (options_of settings.now) (sight_of W.contents output) (sight_of W.contents result.0)) }
+        (options_of settings.now) (sink_state W.contents output) (sink_state W.contents result.0)) }
     ensures large { IfOk input (λ bytes. max_bytes < length bytes.items → result.1 ≡ 2) }
     ensures unread { IfErr input (λ fault. result.1 ≡ input_status_of fault) }
     ensures untouched { OnErr input (Keeps (W.contents output.writer) (W.contents result.0.writer)) }
@@ -180,8 +184,9 @@ pub fn run_input<W: Write + Drop, E: Write, T: Threads + Wait + Sync>(
     }
 }
 
-/// Does what `run_command_in_form` does, with the bytes of the input. Status 2 is answered only where they are no plan, the script
-/// is none for it, or the settings are out of range, and always where there are too many.
+/// Does what `run_command_in_form` does, with the bytes of the input. Status 2 comes only if they
+/// are not a plan, the script does not fit, or the settings are out of range, and always if the
+/// bytes are too many.
 pub fn run_bytes<W: Write + Drop, E: Write, T: Threads + Wait + Sync>(
     rt: &T,
     alloc: Global,
@@ -196,14 +201,14 @@ pub fn run_bytes<W: Write + Drop, E: Write, T: Threads + Wait + Sync>(
     requires { output.failures < 2 ^ 64 - 1 }
     ensures applied { result.1 ≤ 1 →
         HasAppliedInForm form (record { plan = bytes.now; script = option_copied script.entry; hooks = rules_of registry.now })
-        (options_of settings.now) (sight_of W.contents output) (sight_of W.contents result.0) result.1 }
+        (options_of settings.now) (sink_state W.contents output) (sink_state W.contents result.0) result.1 }
     ensures refused { result.1 ≡ 2 →
         HasRefusedInForm form (record { plan = bytes.now; script = option_copied script.entry; hooks = rules_of registry.now })
-        (options_of settings.now) (sight_of W.contents output) (sight_of W.contents result.0) }
-    ensures kept { result.1 ≡ 2 → Keeps (W.contents output.writer) (W.contents result.0.writer) }
+        (options_of settings.now) (sink_state W.contents output) (sink_state W.contents result.0) }
+    ensures unchanged { result.1 ≡ 2 → Keeps (W.contents output.writer) (W.contents result.0.writer) }
     ensures cut_off { result.1 ≡ 3 → Keeps (W.contents output.writer) (W.contents result.0.writer)
         ⊎ HasBegunInForm form (record { plan = bytes.now; script = option_copied script.entry; hooks = rules_of registry.now })
-        (options_of settings.now) (sight_of W.contents output) (sight_of W.contents result.0) }
+        (options_of settings.now) (sink_state W.contents output) (sink_state W.contents result.0) }
     ensures large { max_bytes < length bytes.now → result.1 ≡ 2 }
     ensures quiet { result.1 ≤ 1 → Keeps (E.contents faults.old) (E.contents faults.new) }
     ensures gone { result.0.is_reader_gone ≡ true → Keeps (E.contents faults.old) (E.contents faults.new) }
@@ -228,7 +233,7 @@ pub fn run_bytes<W: Write + Drop, E: Write, T: Threads + Wait + Sync>(
                 return (output, FAILED);
             }
             one_worker_applies_all_changes_in_order();
-            (output, told_status(report.tells_error))
+            (output, run_status(report.contains_error))
         }
         Err(Refusal::Fault(fault)) => {
             flush_unless_failed(&mut output, failures);
@@ -242,7 +247,8 @@ pub fn run_bytes<W: Write + Drop, E: Write, T: Threads + Wait + Sync>(
     }
 }
 
-/// Flushes the output where no write has failed since there were so many failures. A flush that fails is dropped.
+/// Flushes the output if no write has failed since it counted `failures` failed writes. A failed
+/// flush is ignored.
 pub(crate) fn flush_unless_failed<W: Write + Drop>(output: &mut StdSink<W>, failures: u64)
     requires { failures < 2 ^ 64 - 1 }
     ensures bytes { Keeps (W.contents output.old.writer) (W.contents output.new.writer) }
@@ -251,49 +257,4 @@ pub(crate) fn flush_unless_failed<W: Write + Drop>(output: &mut StdSink<W>, fail
     if output.failures() == failures {
         let _ = output.flush();
     }
-}
-
-/// Says what went wrong, unless the reader of the output is gone: whoever ended it, as `head` ends, knows that.
-pub(crate) fn report_unless_gone<W: Write + Drop, E: Write, D: Display + Drop>(
-    output: &StdSink<W>,
-    faults: &mut E,
-    fault: D,
-)
-    ensures { output.now.is_reader_gone ≡ true → Keeps (E.contents faults.old) (E.contents faults.new) }
-{
-    if !output.is_reader_gone() {
-        report(faults, fault);
-    }
-}
-
-/// Says why a plan was not applied, unless the reader of the output is gone. Behind what `applystream validate` finds too, which tells
-/// the place and all that is wrong at once, it says so.
-pub(crate) fn report_refusal<W: Write + Drop, E: Write>(
-    output: &StdSink<W>,
-    faults: &mut E,
-    refusal: Refusal,
-)
-    ensures { output.now.is_reader_gone ≡ true → Keeps (E.contents faults.old) (E.contents faults.new) }
-{
-    if refusal != Refusal::Size && refusal_status(refusal) == REFUSED {
-        report_unless_gone(output, faults, FoundRefusal(refusal));
-    } else {
-        report_unless_gone(output, faults, refusal);
-    }
-}
-
-/// Says what went wrong, on a line of its own. A text that cannot be written is dropped, since there is nowhere left to
-/// say so.
-///
-/// The line goes out in one write, so that it stays whole beside other writers, and takes no memory of the heap. One
-/// longer than 256 bytes, which no fault of this program has, goes out in pieces.
-pub fn report<E: Write, D: Display + Drop>(faults: &mut E, fault: D) {
-    let mut line = Cursor::new([0u8; LINE_ROOM]);
-    let _ = match writeln!(line, "applystream: {fault}") {
-        Ok(()) => {
-            let end = (line.position() as usize).min(LINE_ROOM);
-            faults.write_all(&line.get_ref()[..end])
-        }
-        Err(_) => writeln!(faults, "applystream: {fault}"),
-    };
 }

@@ -1,24 +1,24 @@
-//! The program over the standard streams of its process, which a `main` starts.
+//! Runs the main command over the standard streams of its process.
 
 ghost use Rattle.std.specs.Prelude.{◌≤◌};
 
 use crate::answer::answer_usage;
-use crate::awaited::Awaited;
-use crate::input::drop_rest;
+use crate::input::drain;
 use crate::program::follow;
+use crate::prompting_reader::PromptingReader;
 use apply_cli_args::Usage;
 use std::io::{BufWriter, IsTerminal};
 use std::sync::Wait;
 use std::thread::Threads;
 
-/// How many bytes of output are gathered before they are written.
+/// How many bytes of output are buffered before a write.
 const OUTPUT_ROOM: usize = 65_536;
 
-/// Said where somebody has typed the command alone.
+/// Printed when somebody types the command alone.
 const NO_PLAN: &str =
     "a plan is awaited from this terminal: put one on standard input, as in applystream < plan.json";
 
-/// Does what the words behind the program's name say over the standard streams, and answers the exit status, as `follow` does.
+/// Does what `follow` does over the standard streams, and returns the exit status.
 pub fn follow_standard<T: Threads + Wait + Sync>(
     rt: &HostRuntime,
     threads: &T,
@@ -30,7 +30,7 @@ pub fn follow_standard<T: Threads + Wait + Sync>(
         return refuse_standard(rt, &Usage::Memory);
     };
     let text = rt.stdin().is_terminal().then_some(NO_PLAN);
-    let input = Awaited::new(rt.reader(), rt.stderr(), text);
+    let input = PromptingReader::new(rt.reader(), rt.stderr(), text);
     let (output, status) = follow(
         threads,
         rt,
@@ -40,19 +40,20 @@ pub fn follow_standard<T: Threads + Wait + Sync>(
         output,
         &mut rt.stderr(),
     );
-    // What a failed write left behind is given up: a drop would write it once more, behind the fault.
+    // Bytes that a failed write left in the buffer are given up: a drop would write them once more,
+    // after the error was reported.
     let (_stdout, _unwritten) = output.into_inner().into_parts();
     status
 }
 
-/// Says why the words can't be followed, and answers the exit status. Then the input is read to its end: whoever writes
-/// into a pipe must not be ended because nobody reads on. At a terminal nobody waits for that.
+/// Reports why the arguments give no invocation, and returns the exit status. Then the input is
+/// read to its end, so that whoever writes into the pipe is not stopped. A terminal is not read.
 pub fn refuse_standard(rt: &HostRuntime, usage: &Usage) -> u8
     ensures { result ≤ 3 }
 {
     let status = answer_usage(usage, &mut rt.stdout(), &mut rt.stderr());
     if !rt.stdin().is_terminal() {
-        let _ = drop_rest(&mut rt.reader());
+        let _ = drain(&mut rt.reader());
     }
     status
 }

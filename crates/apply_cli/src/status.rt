@@ -10,13 +10,13 @@ use apply_run::Refusal;
 /// A step failed, or was halted.
 const UNFINISHED: u8 = 1;
 
-/// The words, the input or the script could not be read, or are none.
+/// The arguments, the input or the script could not be read, or were refused.
 pub const REFUSED: u8 = 2;
 
-/// Memory was refused, or the output could not be written.
+/// Memory or a thread was refused, or the output could not be written.
 pub const FAILED: u8 = 3;
 
-/// The status for an input that was not read.
+/// Returns the status for an input that could not be read.
 pub fn input_status(fault: InputFault) -> u8
     ensures status { result ≡ input_status_of fault }
     ensures bad { (2 ≤ result) × (result ≤ 3) }
@@ -27,7 +27,7 @@ pub fn input_status(fault: InputFault) -> u8
     }
 }
 
-/// The status for a plan that was not applied, or not to the end.
+/// Returns the status for a plan that was not applied, or not to the end.
 pub fn refusal_status(refusal: Refusal) -> u8
     ensures status { result ≡ refusal_status_of refusal }
     ensures bad { (2 ≤ result) × (result ≤ 3) }
@@ -39,10 +39,10 @@ pub fn refusal_status(refusal: Refusal) -> u8
     }
 }
 
-/// The status for a run that has ended well, by whether its stream tells of an error.
-pub fn told_status(tells_error: bool) -> u8
-    ensures status { (result ≡ 1) ↔ IsTrue tells_error }
+/// Returns the status for a run that succeeded: 1 if its stream reports an error, else 0.
+pub fn run_status(contains_error: bool) -> u8
+    ensures status { (result ≡ 1) ↔ IsTrue contains_error }
     ensures good { result ≤ 1 }
 {
-    if tells_error { UNFINISHED } else { 0 }
+    if contains_error { UNFINISHED } else { 0 }
 }

@@ -17,16 +17,16 @@ number_read : (E : Type 0) (gives : Text → Result ℕ E → Type 0) (width mos
     → ReadsOne gives text read → n ≡ max 1 (min (unwrap_or read otherwise) most) → IsNumber most text n
 number_read E gives width most otherwise (Some v) n text parses fits reads is numeral least greatest =
     let parsed = parses text (Ok v) reads in
-    let said : v ≡ digits_value 10 (without_leading_plus text) = parsed.1 in
-    omega (arith, is, said, least, greatest)
+    let stated : v ≡ digits_value 10 (without_leading_plus text) = parsed.1 in
+    omega (arith, is, stated, least, greatest)
 number_read E gives width most otherwise None n text parses fits reads is numeral least greatest =
     absurd (parses text (Err reads.0) reads.1 (numeral, omega (arith, greatest, fits)))
 
--- what is read of an option, brought into its bounds, is the number that the option's text says
-pub number_is : (E : Type 0) (gives : Text → Result ℕ E → Type 0) (width most otherwise : ℕ) (read : Option ℕ) (n : ℕ) (found : Option Text)
+-- the value read from an option, clamped to its bounds, is the number that the option's text states
+pub number_is : (E : Type 0) (gives : Text → Result ℕ E → Type 0) (width most otherwise : ℕ) (read : Option ℕ) (n : ℕ) (matched : Option Text)
     → ((t : Text) (r : Result ℕ E) → gives t r → ParsesUnsigned width 10 t r) → most < 2 ^ width
-    → ((t : Text) → found ≡ Some t → ReadsOne gives t read) → n ≡ max 1 (min (unwrap_or read otherwise) most)
-    → IfSome found (λ text. IsNumber most text n)
+    → ((t : Text) → matched ≡ Some t → ReadsOne gives t read) → n ≡ max 1 (min (unwrap_or read otherwise) most)
+    → IfSome matched (λ text. IsNumber most text n)
 number_is E gives width most otherwise read n None parses fits reads is = tt
 number_is E gives width most otherwise read n (Some text) parses fits reads is =
     number_read E gives width most otherwise read n text parses fits (reads text refl) is
@@ -36,27 +36,27 @@ option_read : (E : Type 0) (gives : Text → Result ℕ E → Type 0) (width mos
     → ReadsOne gives text read → result ≡ option_map (λ v. max 1 (min v most)) read → IsOptionalNumber most text result
 option_read E gives width most (Some v) result text parses fits reads is numeral least greatest =
     let parsed = parses text (Ok v) reads in
-    let said : v ≡ digits_value 10 (without_leading_plus text) = parsed.1 in
-    let within : max 1 (min v most) ≡ digits_value 10 (without_leading_plus text) = omega (arith, said, least, greatest) in
+    let stated : v ≡ digits_value 10 (without_leading_plus text) = parsed.1 in
+    let within : max 1 (min v most) ≡ digits_value 10 (without_leading_plus text) = omega (arith, stated, least, greatest) in
     is ∙ ap Some within
 option_read E gives width most None result text parses fits reads is numeral least greatest =
     absurd (parses text (Err reads.0) reads.1 (numeral, omega (arith, greatest, fits)))
 
 -- and so of an option that need not be given
-pub option_is : (E : Type 0) (gives : Text → Result ℕ E → Type 0) (width most : ℕ) (read result : Option ℕ) (found : Option Text)
+pub option_is : (E : Type 0) (gives : Text → Result ℕ E → Type 0) (width most : ℕ) (read result : Option ℕ) (matched : Option Text)
     → ((t : Text) (r : Result ℕ E) → gives t r → ParsesUnsigned width 10 t r) → most < 2 ^ width
-    → ((t : Text) → found ≡ Some t → ReadsOne gives t read) → result ≡ option_map (λ v. max 1 (min v most)) read
-    → IfSome found (λ text. IsOptionalNumber most text result)
+    → ((t : Text) → matched ≡ Some t → ReadsOne gives t read) → result ≡ option_map (λ v. max 1 (min v most)) read
+    → IfSome matched (λ text. IsOptionalNumber most text result)
 option_is E gives width most read result None parses fits reads is = tt
 option_is E gives width most read result (Some text) parses fits reads is =
     option_read E gives width most read result text parses fits (reads text refl) is
 
 -- the values of an option that may be given again, where the program's own list stands for none
-pub values_are : (found : Found) (id : Text) (lent : Option (Bor (List (Bor Text)))) (none values : Bor (List (Bor Text)))
-    → option_map (λ s. texts s.now) lent ≡ option_map raw_values (matched_of found id) → none.now ≡ [] → values ≡ unwrap_or lent none
-    → texts values.now ≡ unwrap_or (all_of id (rows_of found)) []
-values_are found id lent none values is empty given =
-    ap (λ (s : Bor (List (Bor Text))). texts s.now) given ∙ inside lent ∙ ap (λ o. unwrap_or o []) (is ∙ raw_values-rows found id)
+pub values_are : (matched : Found) (id : Text) (lent : Option (Bor (List (Bor Text)))) (none values : Bor (List (Bor Text)))
+    → option_map (λ s. texts s.now) lent ≡ option_map raw_values (matched_of matched id) → none.now ≡ [] → values ≡ unwrap_or lent none
+    → texts values.now ≡ unwrap_or (all_of id (rows_of matched)) []
+values_are matched id lent none values is empty given =
+    ap (λ (s : Bor (List (Bor Text))). texts s.now) given ∙ inside lent ∙ ap (λ o. unwrap_or o []) (is ∙ raw_values-rows matched id)
   where
     inside : (o : Option (Bor (List (Bor Text)))) → texts (unwrap_or o none).now ≡ unwrap_or (option_map (λ s. texts s.now) o) []
     inside None = ap texts empty

@@ -14,7 +14,7 @@ use Rattle.clap.specs.declared.error.kind.ErrorKind.{ErrorKind}
 use Rattle.clap.specs.declared.error.kind.ErrorKind.TheVariants.{DisplayHelp, DisplayVersion, OutOfMemory}
 use Rattle.clap.specs.declared.parser.matches.ArgMatches.{ArgMatches}
 use Rattle.clap.proofs.OnLiterals.{clap_on_literals}
-use Rattle.apply_cli_args.specs.CommandLine.{Answers, AreChoices, AreSaid, AreSaidWrong, HasCause, HaveSaid, IsOneOf, IsSaidWrong, command_line, kind_words, settings_line}
+use Rattle.apply_cli_args.specs.CommandLine.{Answers, AreChoices, AreStatedSettings, AreNoSettings, HasCause, HaveStatedSettings, IsOneOf, IsNoInvocation, command_line, kind_words, settings_line}
 use Rattle.apply_cli_args.specs.Invocation.{HaveInvoked, IsInvoked}
 use Rattle.apply_cli_args.specs.declared.invocation.Invocation.{Invocation}
 use Rattle.apply_cli_args.specs.declared.settings.Settings.{Settings}
@@ -63,15 +63,15 @@ rows_are {P} {TakeWords} {line} {command} {words} {parse} matches is has =
     (has (ap is_simple is.is_line ∙ is.of_simple.simple is.parsers)).0 ∙ ap (λ (app : App). matches_of app words) is.is_line
 
 -- settings that the matches say are those that the words say
-pub have_said : {command : Command} {words : List Text} {parse : Result ArgMatches Error} (matches : ArgMatches) (settings : Result Settings Usage)
+pub have_stated : {command : Command} {words : List Text} {parse : Result ArgMatches Error} (matches : ArgMatches) (settings : Result Settings Usage)
     → IsParse (IsOneOf kind_words) settings_line command words parse → parse ≡ Ok matches → HasMatchesOf (app_of command) words matches
-    → IfOk settings (AreSaid (rows_of (found_of matches))) → IfOk settings (HaveSaid words)
-have_said {command} {words} {parse} matches settings is ok has =
-    IfOk-weaker settings (AreSaid (rows_of (found_of matches))) (HaveSaid words) (λ s said. record {
+    → IfOk settings (AreStatedSettings (rows_of (found_of matches))) → IfOk settings (HaveStatedSettings words)
+have_stated {command} {words} {parse} matches settings is ok has =
+    IfOk-weaker settings (AreStatedSettings (rows_of (found_of matches))) (HaveStatedSettings words) (λ s stated. record {
       kinds = is.parsers;
       are_kinds = is.take_words;
-      taken = faults_are (Ok matches) is ok;
-      said = subst (λ (rows : List Row). AreSaid rows s) (rows_are matches is has) said;
+      parsed = faults_are (Ok matches) is ok;
+      stated = subst (λ (rows : List Row). AreStatedSettings rows s) (rows_are matches is has) stated;
     })
 
 -- an invocation that the matches say is the one that the words say
@@ -79,46 +79,47 @@ pub have_invoked : {command : Command} {words : List Text} {parse : Result ArgMa
     → IsParse AreChoices command_line command words parse → parse ≡ Ok matches → HasMatchesOf (app_of command) words matches
     → IfOk invocation (IsInvoked (rows_of (found_of matches))) → IfOk invocation (HaveInvoked words)
 have_invoked {command} {words} {parse} matches invocation is ok has =
-    IfOk-weaker invocation (IsInvoked (rows_of (found_of matches))) (HaveInvoked words) (λ i said. record {
+    IfOk-weaker invocation (IsInvoked (rows_of (found_of matches))) (HaveInvoked words) (λ i stated. record {
       choices = is.parsers;
       are_choices = is.take_words;
-      taken = faults_are (Ok matches) is ok;
-      invoked = subst (λ (rows : List Row). IsInvoked rows i) (rows_are matches is has) said;
+      parsed = faults_are (Ok matches) is ok;
+      invoked = subst (λ (rows : List Row). IsInvoked rows i) (rows_are matches is has) stated;
     })
 
--- what is wrong with what words say, that were taken, is neither a call for help or the version nor for the parser to say
+-- an error in what parsed words state is neither a call for help or the version, nor an error of
+-- the parser
 pub record IsOfRows (IsWrong : List Row → Usage → Type 0) : Type 0 where
   pub no_help : (rows : List Row) (text : Text) → IsWrong rows (usage.Help text) → ⊥
   pub no_version : (rows : List Row) → IsWrong rows usage.Version → ⊥
   pub no_words : (rows : List Row) (text : Text) → IsWrong rows (usage.Words text) → ⊥
 
-pub invocation_is_of_rows : IsOfRows (λ rows why. IsSaidWrong rows why)
+pub invocation_is_of_rows : IsOfRows (λ rows why. IsNoInvocation rows why)
 invocation_is_of_rows = record { no_help = λ rows text wrong. wrong.1; no_version = λ rows wrong. wrong.1; no_words = λ rows text wrong. wrong.1 }
 
-pub settings_are_of_rows : IsOfRows (λ rows why. AreSaidWrong rows why)
+pub settings_are_of_rows : IsOfRows (λ rows why. AreNoSettings rows why)
 settings_are_of_rows = record { no_help = λ rows text wrong. wrong; no_version = λ rows wrong. wrong; no_words = λ rows text wrong. wrong }
 
--- words that were taken, and are wrong by what they say
-pub are_wrong : {P : Type 0} {TakeWords : P → Type 0} {line : P → App} {command : Command} {words : List Text} {parse : Result ArgMatches Error} {X : Type 0} (IsWrong : List Row → Usage → Type 0) (matches : ArgMatches) (said : Result X Usage)
+-- words that were parsed, but state something wrong
+pub are_wrong : {P : Type 0} {TakeWords : P → Type 0} {line : P → App} {command : Command} {words : List Text} {parse : Result ArgMatches Error} {X : Type 0} (IsWrong : List Row → Usage → Type 0) (matches : ArgMatches) (stated : Result X Usage)
     → IsParse TakeWords line command words parse → IsOfRows IsWrong → parse ≡ Ok matches → HasMatchesOf (app_of command) words matches
-    → IfErr said (IsWrong (rows_of (found_of matches))) → IfErr said (HasCause TakeWords line IsWrong words)
-are_wrong {P} {TakeWords} {line} {command} {words} {parse} IsWrong matches said is of_rows ok has =
-    IfErr-weaker said (IsWrong (rows_of (found_of matches))) (HasCause TakeWords line IsWrong words)
+    → IfErr stated (IsWrong (rows_of (found_of matches))) → IfErr stated (HasCause TakeWords line IsWrong words)
+are_wrong {P} {TakeWords} {line} {command} {words} {parse} IsWrong matches stated is of_rows ok has =
+    IfErr-weaker stated (IsWrong (rows_of (found_of matches))) (HasCause TakeWords line IsWrong words)
     (λ why wrong. cause why (subst (λ (rows : List Row). IsWrong rows why) (rows_are matches is has) wrong))
   where
-    taken : fault_of (line is.parsers) words ≡ []
-    taken = faults_are (Ok matches) is ok
+    parsed : fault_of (line is.parsers) words ≡ []
+    parsed = faults_are (Ok matches) is ok
 
     cause : (why : Usage) → IsWrong (matches_of (line is.parsers) words) why → HasCause TakeWords line IsWrong words why
     cause (usage.Help text) wrong = absurd (of_rows.no_help _ text wrong)
     cause usage.Version wrong = absurd (of_rows.no_version _ wrong)
     cause (usage.Words text) wrong = absurd (of_rows.no_words _ text wrong)
-    cause usage.Beside wrong = inr (is.parsers, is.take_words, (taken, wrong))
-    cause (usage.Moment error) wrong = inr (is.parsers, is.take_words, (taken, wrong))
-    cause usage.Hooks wrong = inr (is.parsers, is.take_words, (taken, wrong))
+    cause usage.Conflict wrong = inr (is.parsers, is.take_words, (parsed, wrong))
+    cause (usage.Moment error) wrong = inr (is.parsers, is.take_words, (parsed, wrong))
+    cause usage.Hooks wrong = inr (is.parsers, is.take_words, (parsed, wrong))
     cause usage.Memory wrong = inl refl
 
--- words that were not taken
+-- words that were not parsed
 pub are_refused : {P : Type 0} {TakeWords : P → Type 0} {line : P → App} {command : Command} {words : List Text} {parse : Result ArgMatches Error} (IsWrong : List Row → Usage → Type 0) (error : Error) (why : Usage)
     → IsParse TakeWords line command words parse → parse ≡ Err error → Answers (kind_of error) why → HasCause TakeWords line IsWrong words why
 are_refused {P} {TakeWords} {line} {command} {words} {parse} IsWrong error why is failed = cause why (faults_are (Err error) is failed)
@@ -136,7 +137,7 @@ are_refused {P} {TakeWords} {line} {command} {words} {parse} IsWrong error why i
         inr (is.parsers, is.take_words, subst (λ (kind : ErrorKind). IsAmong kind (fault_of (line is.parsers) words)) version among)
     cause (usage.Words text) (inl memory) other = absurd (other.0 memory)
     cause (usage.Words text) (inr among) other = inr (is.parsers, is.take_words, (kind_of error, other.1, other.2, among))
-    cause usage.Beside has answers = absurd answers
+    cause usage.Conflict has answers = absurd answers
     cause (usage.Moment wrong) has answers = absurd answers
     cause usage.Hooks has answers = absurd answers
     cause usage.Memory has answers = inl refl

@@ -1,5 +1,5 @@
--- What the words of the command line say: the options that there are, as `clap` takes them, and which of them
--- gives which setting.
+-- The command line: its options as `clap` parses them, what the words state, and why they are
+-- refused.
 use Rattle.std.specs.Prelude.{◌≡◌, ◌≤◌, ◌<◌, ◌++◌, ◌⊎◌, ◌&&◌, ◌||◌, ⊤, ℕ, Bool, List, [], ◌∷◌, Option, Some, None, IfSome, IsOk, Ok, Err, true, false, codes, find, length, map, option_and_then, pos, unwrap_or, if◌then◌else◌}
 use Rattle.std.specs.Borrow.{Bor}
 use Rattle.std.specs.Option.{option_map_or}
@@ -35,12 +35,12 @@ use Rattle.apply_cli_args.specs.declared.usage.Usage.TheVariants as usage
 abbrev pub option_named : Text → Rule
 option_named name = record (new_rule name) { long = Some name; value_names = 1 }
 
--- `--NAME NUMBER`, with the number from 1 to `most`, and one that stands for none
+-- `--NAME NUMBER`, with a number from 1 to `most`, and a default
 abbrev pub number_named : Text → (most : ℕ) → (otherwise : Text) → Rule
 number_named name most otherwise =
     record (option_named name) { parser = Some (values.Signed (pos 1) (pos most)); defaults = otherwise ∷ [] }
 
--- `--NAME VALUE`, as often as one likes
+-- `--NAME VALUE`, repeatable
 abbrev pub list_named : Text → Rule
 list_named name = record (option_named name) { action = Some Append }
 
@@ -48,11 +48,11 @@ list_named name = record (option_named name) { action = Some Append }
 abbrev pub flag_named : Text → Rule
 flag_named name = record (new_rule name) { long = Some name; action = Some SetTrue }
 
--- the words for kinds of steps
+-- the names of the kinds of steps
 abbrev pub kind_words : List Text
 kind_words = codes "create" ∷ codes "update" ∷ codes "delete" ∷ codes "read" ∷ []
 
--- the words for forms of a stream
+-- the names of the forms
 abbrev pub form_words : List Text
 form_words = codes "applystream" ∷ codes "terraform" ∷ []
 
@@ -60,17 +60,17 @@ form_words = codes "applystream" ∷ codes "terraform" ∷ []
 abbrev pub IsOneOf : List Text → ValueParser → Type 0
 IsOneOf words parser = (names : Bor (List (Bor Text))) × (texts names.now ≡ words) × (parser ≡ values.Names names)
 
--- the option of a parallelism; nothing stands for none
+-- the option of a parallelism; it has no default
 abbrev pub parallelism_rule : Rule
 parallelism_rule =
     record (option_named (codes "parallelism")) { parser = Some (values.Signed (pos 1) (pos 64)) }
 
--- the option of a form; the first of the words stands for none
+-- the option of a form; the first name is the default
 abbrev pub form_rule : (forms : ValueParser) → Rule
 form_rule forms =
     record (option_named (codes "form")) { parser = Some forms; defaults = codes "applystream" ∷ [] }
 
--- the options that say the settings
+-- the options of the settings
 abbrev pub settings_options : (kinds : ValueParser) → List Rule
 settings_options kinds =
     record (option_named (codes "at")) { defaults = codes "1970-01-01T00:00:00Z" ∷ [] }
@@ -82,46 +82,46 @@ settings_options kinds =
     ∷ list_named (codes "halt-in")
     ∷ []
 
--- the parsers of the options whose value is one of some words
+-- the parsers of the options whose value is one of some names
 pub record Choices : Type 0 where
   pub kinds : ValueParser
   pub forms : ValueParser
 
--- each takes its own words
+-- each parser accepts its own names
 pub record AreChoices (choices : Choices) : Type 0 where
   pub kinds : IsOneOf kind_words choices.kinds
   pub forms : IsOneOf form_words choices.forms
 
--- all of them
+-- all options
 abbrev pub options : Choices → List Rule
 options choices = settings_options choices.kinds ++ parallelism_rule ∷ form_rule choices.forms ∷ []
 
--- the command, whose words are those behind the program's name
+-- the command, whose arguments are those after the program's name
 abbrev pub command_line : Choices → App
 command_line choices = record {
   top = record (new_shape (codes "applystream")) { no_binary_name = true; has_version = true; rules = options choices };
   subs = [];
 }
 
--- the same without the options of a parallelism and of a form
+-- the command without the options of a parallelism and of a form
 abbrev pub settings_line : (kinds : ValueParser) → App
 settings_line kinds = record {
   top = record (new_shape (codes "applystream")) { no_binary_name = true; has_version = true; rules = settings_options kinds };
   subs = [];
 }
 
--- ---- what they say
+-- ---- what they state
 
--- where the text is a number from 1 to `most`, it is that number
+-- if the text is a number from 1 to `most`, the setting is that number
 abbrev pub IsNumber : (most : ℕ) → (text : Text) → ℕ → Type 0
 IsNumber most text n = IsNumeral 10 (without_leading_plus text) → 1 ≤ digits_value 10 (without_leading_plus text)
     → digits_value 10 (without_leading_plus text) ≤ most → n ≡ digits_value 10 (without_leading_plus text)
 
--- and so where there may be none
+-- if the text is a number from 1 to `most`, the setting is there and is that number
 abbrev pub IsOptionalNumber : (most : ℕ) → (text : Text) → Option ℕ → Type 0
-IsOptionalNumber most text found =
+IsOptionalNumber most text number =
     IsNumeral 10 (without_leading_plus text) → 1 ≤ digits_value 10 (without_leading_plus text)
-    → digits_value 10 (without_leading_plus text) ≤ most → found ≡ Some (digits_value 10 (without_leading_plus text))
+    → digits_value 10 (without_leading_plus text) ≤ most → number ≡ Some (digits_value 10 (without_leading_plus text))
 
 abbrev pub kind_of_word : Text → StepKind
 kind_of_word word =
@@ -130,30 +130,30 @@ kind_of_word word =
     else if bytes_eq word (codes "delete") then Delete
     else Read
 
--- the halts before kinds of steps, and then those inside prefixes, both in the order of the words
-abbrev pub halts_said : List Row → List Halt
-halts_said rows =
+-- the halts before kinds of steps, then those inside prefixes, both in the order of the words
+abbrev pub stated_halts : List Row → List Halt
+stated_halts rows =
     map (λ word. Before (kind_of_word word)) (unwrap_or (all_of (codes "halt-before") rows) [])
     ++ map Inside (unwrap_or (all_of (codes "halt-in") rows) [])
 
--- each setting is what its own option says
-pub record AreSaid (rows : List Row) (settings : Settings) : Type 0 where
+-- each setting is what its own option states
+pub record AreStatedSettings (rows : List Row) (settings : Settings) : Type 0 where
   pub at : option_map_or start_of (first_of (codes "at") rows) (Ok 0) ≡ Ok settings.at
   pub script : settings.script ≡ first_of (codes "script") rows
   pub workers : IfSome (one_of (codes "workers") rows) (λ text. IsNumber 8 text settings.workers)
   pub queue : IfSome (one_of (codes "queue") rows) (λ text. IsNumber 1024 text settings.queue)
   pub destroy : one_of (codes "destroy") rows ≡ Some (codes "true") → settings.operation ≡ Destroy
   pub apply : one_of (codes "destroy") rows ≡ Some (codes "false") → settings.operation ≡ Apply
-  pub halts : settings.halts.items ≡ halts_said rows
+  pub halts : settings.halts.items ≡ stated_halts rows
 
--- the words were taken by the command of the settings alone, and the settings are what they say
-pub record HaveSaid (words : List Text) (settings : Settings) : Type 0 where
+-- the words were parsed by the command of the settings alone, and the settings are what they state
+pub record HaveStatedSettings (words : List Text) (settings : Settings) : Type 0 where
   pub kinds : ValueParser
   pub are_kinds : IsOneOf kind_words kinds
-  pub taken : fault_of (settings_line kinds) words ≡ []
-  pub said : AreSaid (matches_of (settings_line kinds) words) settings
+  pub parsed : fault_of (settings_line kinds) words ≡ []
+  pub stated : AreStatedSettings (matches_of (settings_line kinds) words) settings
 
--- there is a parallelism where the option is given, and then the number that it says
+-- there is a parallelism if its option is given, and it is the number that is stated
 pub record IsParallelism (rows : List Row) (parallelism : Option ℕ) : Type 0 where
   pub none : one_of (codes "parallelism") rows ≡ None → parallelism ≡ None
   pub some : IfSome (one_of (codes "parallelism") rows) (λ text. IsOptionalNumber 64 text parallelism)
@@ -161,11 +161,11 @@ pub record IsParallelism (rows : List Row) (parallelism : Option ℕ) : Type 0 w
 abbrev pub form_of_word : Text → Form
 form_of_word word = if bytes_eq word (codes "terraform") then Terraform else Applystream
 
--- the form whose word the option has, and else the program's own
-abbrev pub form_said : List Row → Form
-form_said rows = option_map_or form_of_word (first_of (codes "form") rows) Applystream
+-- the form that the option names, or the default form
+abbrev pub stated_form : List Row → Form
+stated_form rows = option_map_or form_of_word (first_of (codes "form") rows) Applystream
 
--- the value comes from the words, and is not one that stands for none
+-- the value comes from the command line, and is not a default
 abbrev pub is_of_words : Option ValueSource → Bool
 is_of_words (Some source.CommandLine) = true
 is_of_words (Some source.DefaultValue) = false
@@ -175,41 +175,42 @@ is_of_words None = false
 abbrev pub is_given : (name : Text) → List Row → Bool
 is_given name rows = is_of_words (option_and_then (λ r. r.source) (find (λ r. bytes_eq r.id name) rows))
 
--- a parallelism stands beside workers or a queue
-abbrev pub is_beside : List Row → Bool
-is_beside rows =
+-- `--parallelism` is given together with `--workers` or `--queue`
+abbrev pub is_conflict : List Row → Bool
+is_conflict rows =
     is_given (codes "parallelism") rows && (is_given (codes "workers") rows || is_given (codes "queue") rows)
 
 -- ---- why they are refused
 
--- the options that were taken say no settings
-abbrev pub AreSaidWrong : List Row → Usage → Type 0
-AreSaidWrong rows (usage.Help text) = ⊥
-AreSaidWrong rows usage.Version = ⊥
-AreSaidWrong rows (usage.Words text) = ⊥
-AreSaidWrong rows usage.Beside = ⊥
-AreSaidWrong rows (usage.Moment error) = option_map_or start_of (first_of (codes "at") rows) (Ok 0) ≡ Err error
-AreSaidWrong rows usage.Hooks =
-    IsOk (option_map_or start_of (first_of (codes "at") rows) (Ok 0)) × (max_hooks < length (halts_said rows))
-AreSaidWrong rows usage.Memory = ⊤
+-- the options were parsed, but state no settings
+abbrev pub AreNoSettings : List Row → Usage → Type 0
+AreNoSettings rows (usage.Help text) = ⊥
+AreNoSettings rows usage.Version = ⊥
+AreNoSettings rows (usage.Words text) = ⊥
+AreNoSettings rows usage.Conflict = ⊥
+AreNoSettings rows (usage.Moment error) = option_map_or start_of (first_of (codes "at") rows) (Ok 0) ≡ Err error
+AreNoSettings rows usage.Hooks =
+    IsOk (option_map_or start_of (first_of (codes "at") rows) (Ok 0)) × (max_hooks < length (stated_halts rows))
+AreNoSettings rows usage.Memory = ⊤
 
--- they say no invocation: a parallelism stands where it may not, or they say no settings
-abbrev pub IsSaidWrong : List Row → Usage → Type 0
-IsSaidWrong rows usage.Beside = is_beside rows ≡ true
-IsSaidWrong rows why = (is_beside rows ≡ false) × AreSaidWrong rows why
+-- the options state no invocation: a parallelism is given where it may not be, or they state no
+-- settings
+abbrev pub IsNoInvocation : List Row → Usage → Type 0
+IsNoInvocation rows usage.Conflict = is_conflict rows ≡ true
+IsNoInvocation rows why = (is_conflict rows ≡ false) × AreNoSettings rows why
 
--- what is answered to an error of that kind: help where help was asked for, the version where that was
+-- the usage for an error of that kind: help if help was asked for, the version if the version was
 abbrev pub Answers : ErrorKind → Usage → Type 0
 Answers kind (usage.Help text) = kind ≡ DisplayHelp
 Answers kind usage.Version = kind ≡ DisplayVersion
 Answers kind (usage.Words text) = (kind ≡ OutOfMemory → ⊥) × (kind ≡ DisplayHelp → ⊥) × (kind ≡ DisplayVersion → ⊥)
-Answers kind usage.Beside = ⊥
+Answers kind usage.Conflict = ⊥
 Answers kind (usage.Moment error) = ⊥
 Answers kind usage.Hooks = ⊥
 Answers kind usage.Memory = ⊤
 
--- the words are a call for help or for the version; or they are none of these options; or they were taken, and what they
--- say is wrong
+-- the cause of a usage: the words ask for help or for the version; or an argument is not an option;
+-- or the words were parsed, and what they state is wrong
 abbrev pub IsCause : (IsWrong : List Row → Usage → Type 0) → App → List Text → Usage → Type 0
 IsCause IsWrong app words (usage.Help text) = IsAmong DisplayHelp (fault_of app words)
 IsCause IsWrong app words usage.Version = IsAmong DisplayVersion (fault_of app words)
@@ -217,21 +218,21 @@ IsCause IsWrong app words (usage.Words text) =
     (kind : ErrorKind) × (kind ≡ DisplayHelp → ⊥) × (kind ≡ DisplayVersion → ⊥) × IsAmong kind (fault_of app words)
 IsCause IsWrong app words why = (fault_of app words ≡ []) × IsWrong (matches_of app words) why
 
--- memory was refused, or there is a cause for it, by the command of some parsers that take their words
+-- memory was refused; or the usage has a cause in a command whose parsers accept their names
 abbrev pub HasCause : {P : Type 0} (TakeWords : P → Type 0) → (line : P → App) → (IsWrong : List Row → Usage → Type 0)
     → List Text → Usage → Type 0
 HasCause {P} TakeWords line IsWrong words why =
     (why ≡ usage.Memory) ⊎ ((parsers : P) × TakeWords parsers × IsCause IsWrong (line parsers) words why)
 
--- the words say no invocation
+-- the words state no invocation
 abbrev pub WereRefused : List Text → Usage → Type 0
-WereRefused words why = HasCause AreChoices command_line IsSaidWrong words why
+WereRefused words why = HasCause AreChoices command_line IsNoInvocation words why
 
--- the words say no settings, by the options of the settings alone
-abbrev pub SayNoSettings : List Text → Usage → Type 0
-SayNoSettings words why = HasCause (IsOneOf kind_words) settings_line AreSaidWrong words why
+-- the words state no settings, by the options of the settings alone
+abbrev pub StateNoSettings : List Text → Usage → Type 0
+StateNoSettings words why = HasCause (IsOneOf kind_words) settings_line AreNoSettings words why
 
--- the words ask for this, among whatever else
+-- the words ask for this, among other errors
 abbrev pub AskAmong : ErrorKind → List Text → Type 0
 AskAmong asked words =
     (choices : Choices) × AreChoices choices × IsAmong asked (fault_of (command_line choices) words)
@@ -248,6 +249,6 @@ AskForHelp words = AskAmong DisplayHelp words
 abbrev pub AskForHelpAlone : List Text → Type 0
 AskForHelpAlone words = AskAlone DisplayHelp words
 
--- for the version, beside other options
+-- for the version, with other options
 abbrev pub AskForVersionToo : List Text → Type 0
 AskForVersionToo words = AskAmong DisplayVersion words

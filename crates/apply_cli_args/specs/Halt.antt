@@ -1,4 +1,4 @@
--- What is halted, as rules of hooks.
+-- Halts, as rules of hooks.
 use Rattle.std.specs.Prelude.{List, [], ◌∷◌, None, Some, map}
 use Rattle.apply_hooks.specs.declared.phase.Phase.TheVariants as phase
 use Rattle.apply_hooks.specs.declared.rule.Rule.{Rule}
@@ -6,7 +6,8 @@ use Rattle.apply_hooks.specs.declared.verdict.Verdict.TheVariants as verdict
 use Rattle.apply_cli_args.specs.declared.halt.Halt.{Halt}
 use Rattle.apply_cli_args.specs.declared.halt.Halt.TheVariants.{Before, Inside}
 
--- one rule, which halts before a step: each of that kind, or each whose address begins with the prefix
+-- one rule, which halts before a step: each step of that kind, or each step whose address begins
+-- with the prefix
 abbrev pub rules_of_halt : Halt → List Rule
 rules_of_halt (Before kind) =
     record { phase = Some phase.Pre; kind = Some kind; address_begins = []; verdict = verdict.Halt } ∷ []

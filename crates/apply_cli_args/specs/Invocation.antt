@@ -1,35 +1,35 @@
--- All that the words of the command line say: the settings, how many changes are under way at once, and in which form
--- the stream is told.
+-- What the whole command line states: the settings, how many changes run at once, and the form of
+-- the stream.
 use Rattle.std.specs.Prelude.{◌≡◌, List, [], IfSome, false}
 use Rattle.clap.specs.Faults.{fault_of}
 use Rattle.clap.specs.Simple.{matches_of}
 use Rattle.clap.specs.Walk.{Row, Text}
 use Rattle.apply_events.specs.Lanes.{AreLanes}
 use Rattle.apply_cli_args.specs.declared.invocation.Invocation.{Invocation}
-use Rattle.apply_cli_args.specs.CommandLine.{AreChoices, AreSaid, Choices, IsParallelism, command_line, form_said, is_beside}
+use Rattle.apply_cli_args.specs.CommandLine.{AreChoices, AreStatedSettings, Choices, IsParallelism, command_line, stated_form, is_conflict}
 use Rattle.apply_cli_args.specs.Settings.{AreInRange}
 
--- a run takes them
+-- a run accepts them
 pub record IsInRange (invocation : Invocation) : Type 0 where
   pub settings : AreInRange invocation.settings
   pub parallelism : IfSome invocation.parallelism AreLanes
 
--- the settings, the parallelism and the form are what their options say, and no parallelism stands beside workers or a
--- queue
+-- settings, parallelism and form are what their options state, and `--parallelism` is not given
+-- with `--workers` or `--queue`
 pub record IsInvoked (rows : List Row) (invocation : Invocation) : Type 0 where
-  pub alone : is_beside rows ≡ false
-  pub settings : AreSaid rows invocation.settings
+  pub alone : is_conflict rows ≡ false
+  pub settings : AreStatedSettings rows invocation.settings
   pub parallelism : IsParallelism rows invocation.parallelism
-  pub form : invocation.form ≡ form_said rows
+  pub form : invocation.form ≡ stated_form rows
 
--- the words were taken, and the settings, the parallelism and the form are what they say
+-- the words were parsed, and the invocation is what they state
 pub record HaveInvoked (words : List Text) (invocation : Invocation) : Type 0 where
   pub choices : Choices
   pub are_choices : AreChoices choices
-  pub taken : fault_of (command_line choices) words ≡ []
+  pub parsed : fault_of (command_line choices) words ≡ []
   pub invoked : IsInvoked (matches_of (command_line choices) words) invocation
 
--- the settings, the parallelism and the form are those that the words say, and a run takes them
+-- the invocation is what the words state, and a run accepts it
 pub record IsOfWords (words : List Text) (invocation : Invocation) : Type 0 where
-  pub said : HaveInvoked words invocation
+  pub stated : HaveInvoked words invocation
   pub in_range : IsInRange invocation

@@ -1,4 +1,4 @@
-//! The words of the command line.
+//! The options of the command line, and the settings that they state.
 
 ghost use Rattle.std.specs.Prelude.{◌≡◌, ◌≤◌, ◌∷◌, [], Some, false, Ok, IfOk, IfErr, IfSome, codes, map, string_bytes};
 ghost use Rattle.std.specs.Option.{option_map_or};
@@ -6,10 +6,10 @@ ghost use Rattle.clap.specs.Matches.{found_of};
 ghost use Rattle.clap.specs.Simple.{App, app_of, with_rule};
 ghost use Rattle.clap.specs.Values.{kind_of};
 ghost use Rattle.clap.specs.Walk.{Rule, first_of, one_of, rows_of, rule_of};
-ghost use Rattle.apply_cli_args.specs.CommandLine as said;
-ghost use Rattle.apply_cli_args.specs.CommandLine.{Answers, AreSaid, HaveSaid, IsNumber, IsOneOf, AreSaidWrong, SayNoSettings};
-ghost use Rattle.apply_cli_args.specs.CommandLine.{halts_said, kind_of_word};
-ghost use Rattle.apply_text.specs.Start.{start_of as start_said};
+ghost use Rattle.apply_cli_args.specs.CommandLine as spec;
+ghost use Rattle.apply_cli_args.specs.CommandLine.{Answers, AreStatedSettings, HaveStatedSettings, IsNumber, IsOneOf, AreNoSettings, StateNoSettings};
+ghost use Rattle.apply_cli_args.specs.CommandLine.{stated_halts, kind_of_word};
+ghost use Rattle.apply_text.specs.Start.{start_of as stated_start};
 ghost use Rattle.apply_cli_args.specs.Settings.{AreInRange};
 
 use crate::halt::Halt;
@@ -24,10 +24,10 @@ use clap::parser::ValueSource;
 use clap::{Arg, ArgAction, ArgMatches, Command, value_parser};
 use std::alloc::{AllocError, Global};
 
-/// The kinds of steps, as words.
+/// The names of the kinds of steps.
 static KINDS: [&str; 4] = ["create", "update", "delete", "read"];
 
-/// The forms of a stream, as words.
+/// The names of the forms.
 static FORMS: [&str; 2] = ["applystream", "terraform"];
 
 const ABOUT: &str =
@@ -57,25 +57,28 @@ Exit status:
   2  the options, the plan or the script were refused or could not be read: no message was written
   3  out of memory, no thread, or the output could not be written: some messages may have been written"#;
 
-/// Said behind the fault of a word that is no option: mostly it is the file of a plan.
+/// Printed after the error of an argument that is no option. Such an argument is mostly the file of
+/// a plan.
 const PLAN_TIP: &str =
     "\n  tip: a plan is read from standard input, as in: applystream < plan.json\n";
 
-/// Said behind the fault of an option with one dash, as Terraform takes it.
+/// Printed after the error of an option with one dash, which Terraform would accept.
 const DASH_TIP: &str =
     "\n  tip: options have two dashes here, as in: applystream --parallelism=10\n";
 
-/// The settings that the words behind the program's name say, by the options without a parallelism and a form: the
-/// part of `read_invocation` that knows workers alone.
+/// Reads the arguments after the program's name, without `--parallelism` and `--form`: the part of
+/// `read_invocation` that knows workers only.
 ///
-/// `Err` with `Usage::Help` where they ask for help, with `Usage::Version` where they ask for the version, else with
-/// `Usage::Words` where they are none of this program or ask for a parallelism or a form, else with `Usage::Moment` where
-/// the start is no moment, else with `Usage::Hooks` where there are more than 32 halts. `Err` with `Usage::Memory` where
-/// memory is refused.
+/// `Err` with `Usage::Help` if help is asked for, and with `Usage::Version` if the version is. Else
+/// `Err` with `Usage::Words` if an argument is not one of these options. Else `Err` with
+/// `Usage::Moment` if the start is not a timestamp. Else `Err` with `Usage::Hooks` if there are
+/// more than 32 halts.
+///
+/// `Err` with `Usage::Memory` if memory is refused.
 pub fn read_words(alloc: Global, words: &[String]) -> Result<Settings, Usage>
     ensures in_range { IfOk result AreInRange }
-    ensures said { IfOk result (HaveSaid (map string_bytes words.now)) }
-    ensures refused { IfErr result (SayNoSettings (map string_bytes words.now)) }
+    ensures stated { IfOk result (HaveStatedSettings (map string_bytes words.now)) }
+    ensures refused { IfErr result (StateNoSettings (map string_bytes words.now)) }
 {
     let command = settings_command(alloc)?;
     match command.try_get_matches_from(words) {
@@ -84,20 +87,20 @@ pub fn read_words(alloc: Global, words: &[String]) -> Result<Settings, Usage>
     }
 }
 
-/// All options, and their help.
+/// All options, with their help. `Err` if memory is refused.
 pub(crate) fn command<'a>(alloc: Global) -> Result<Command<'a>, AllocError>
-    ensures { (choices : said.Choices) × said.AreChoices choices
-        × IfOk result (λ command. app_of command ≡ said.command_line choices) }
+    ensures { (choices : spec.Choices) × spec.AreChoices choices
+        × IfOk result (λ command. app_of command ≡ spec.command_line choices) }
 {
     let settings = settings_command(alloc);
     let lanes = add(settings, parallelism(alloc));
     add(lanes, form(alloc))
 }
 
-/// The options that say the settings, and their help.
+/// The options of the settings, with their help. `Err` if memory is refused.
 fn settings_command<'a>(alloc: Global) -> Result<Command<'a>, AllocError>
-    ensures { (kinds : _) × IsOneOf said.kind_words kinds
-        × IfOk result (λ command. app_of command ≡ said.settings_line kinds) }
+    ensures { (kinds : _) × IsOneOf spec.kind_words kinds
+        × IfOk result (λ command. app_of command ≡ spec.settings_line kinds) }
 {
     let line = Ok(
         Command::new(alloc, "applystream")
@@ -115,7 +118,8 @@ fn settings_command<'a>(alloc: Global) -> Result<Command<'a>, AllocError>
     add(line, halt_in(alloc))
 }
 
-/// The command, where there is one, with an option more. A list of options by this has one way out, and not one for each.
+/// Adds an option to the command, unless memory was refused before. A list of options built with
+/// this function has one way out, not one for each option.
 fn add<'a>(
     command: Result<Command<'a>, AllocError>,
     option: Arg<'a>,
@@ -130,9 +134,9 @@ fn add<'a>(
     }
 }
 
-/// `--NAME VALUE`, and what is said of it.
+/// An option `--NAME VALUE` with its help.
 fn option_named<'a>(alloc: Global, name: &'a str, value: &'a str, help: &'a str) -> Arg<'a>
-    ensures { (rule_of result ≡ said.option_named name.entry.now) × (result.global ≡ false) }
+    ensures { (rule_of result ≡ spec.option_named name.entry.now) × (result.global ≡ false) }
 {
     Arg::new(alloc, name)
         .long(name)
@@ -141,7 +145,7 @@ fn option_named<'a>(alloc: Global, name: &'a str, value: &'a str, help: &'a str)
 }
 
 fn at<'a>(alloc: Global) -> Arg<'a>
-    ensures { (rule_of result ≡ record (said.option_named (codes "at")) { defaults = codes "1970-01-01T00:00:00Z" ∷ [] }) × (result.global ≡ false) }
+    ensures { (rule_of result ≡ record (spec.option_named (codes "at")) { defaults = codes "1970-01-01T00:00:00Z" ∷ [] }) × (result.global ≡ false) }
 {
     let help =
         "When the first steps start, in whole seconds: 1970-01-01T00:00:00Z to 8999-12-31T23:59:59Z, with any offset";
@@ -149,7 +153,7 @@ fn at<'a>(alloc: Global) -> Arg<'a>
 }
 
 fn script<'a>(alloc: Global) -> Arg<'a>
-    ensures { (rule_of result ≡ said.option_named (codes "script")) × (result.global ≡ false) }
+    ensures { (rule_of result ≡ spec.option_named (codes "script")) × (result.global ≡ false) }
 {
     let help =
         "A JSON file that says how long each step takes, how it ends and what it waits for, at most 64 MiB. Without it every step succeeds at once";
@@ -157,7 +161,7 @@ fn script<'a>(alloc: Global) -> Arg<'a>
 }
 
 fn workers<'a>(alloc: Global) -> Arg<'a>
-    ensures { (rule_of result ≡ said.number_named (codes "workers") 8 (codes "1")) × (result.global ≡ false) }
+    ensures { (rule_of result ≡ spec.number_named (codes "workers") 8 (codes "1")) × (result.global ≡ false) }
 {
     let help =
         "How many threads apply the changes, 1 to 8. They race: the order between changes may differ from run to run";
@@ -167,7 +171,7 @@ fn workers<'a>(alloc: Global) -> Arg<'a>
 }
 
 fn queue<'a>(alloc: Global) -> Arg<'a>
-    ensures { (rule_of result ≡ said.number_named (codes "queue") 1024 (codes "64")) × (result.global ≡ false) }
+    ensures { (rule_of result ≡ spec.number_named (codes "queue") 1024 (codes "64")) × (result.global ≡ false) }
 {
     let help = "How many messages may wait to be written, 1 to 1024";
     option_named(alloc, "queue", "N", help)
@@ -176,7 +180,7 @@ fn queue<'a>(alloc: Global) -> Arg<'a>
 }
 
 fn destroy<'a>(alloc: Global) -> Arg<'a>
-    ensures { (rule_of result ≡ said.flag_named (codes "destroy")) × (result.global ≡ false) }
+    ensures { (rule_of result ≡ spec.flag_named (codes "destroy")) × (result.global ≡ false) }
 {
     Arg::new(alloc, "destroy")
         .long("destroy")
@@ -185,8 +189,8 @@ fn destroy<'a>(alloc: Global) -> Arg<'a>
 }
 
 fn halt_before<'a>(alloc: Global) -> Arg<'a>
-    ensures { (kinds : _) × IsOneOf said.kind_words kinds
-        × (rule_of result ≡ record (said.list_named (codes "halt-before")) { parser = Some kinds })
+    ensures { (kinds : _) × IsOneOf spec.kind_words kinds
+        × (rule_of result ≡ record (spec.list_named (codes "halt-before")) { parser = Some kinds })
         × (result.global ≡ false) }
 {
     let help =
@@ -197,7 +201,7 @@ fn halt_before<'a>(alloc: Global) -> Arg<'a>
 }
 
 fn halt_in<'a>(alloc: Global) -> Arg<'a>
-    ensures { (rule_of result ≡ said.list_named (codes "halt-in")) × (result.global ≡ false) }
+    ensures { (rule_of result ≡ spec.list_named (codes "halt-in")) × (result.global ≡ false) }
 {
     let help =
         "Stops every step whose address begins with PREFIX, as module.a, before it starts. Repeatable, 32 halts at most";
@@ -205,7 +209,7 @@ fn halt_in<'a>(alloc: Global) -> Arg<'a>
 }
 
 fn parallelism<'a>(alloc: Global) -> Arg<'a>
-    ensures { (rule_of result ≡ said.parallelism_rule) × (result.global ≡ false) }
+    ensures { (rule_of result ≡ spec.parallelism_rule) × (result.global ≡ false) }
 {
     let help =
         "How many changes run at once in the stream's own time, 1 to 64, as with `terraform apply -parallelism=N`. The same input gives the same bytes. Not together with --workers or --queue";
@@ -213,8 +217,8 @@ fn parallelism<'a>(alloc: Global) -> Arg<'a>
 }
 
 fn form<'a>(alloc: Global) -> Arg<'a>
-    ensures { (forms : _) × IsOneOf said.form_words forms
-        × (rule_of result ≡ said.form_rule forms)
+    ensures { (forms : _) × IsOneOf spec.form_words forms
+        × (rule_of result ≡ spec.form_rule forms)
         × (result.global ≡ false) }
 {
     let help =
@@ -224,16 +228,16 @@ fn form<'a>(alloc: Global) -> Arg<'a>
         .default_value("applystream")
 }
 
-/// Whether a parallelism stands beside workers or a queue.
-pub(crate) fn is_beside(matches: &ArgMatches<'_>) -> bool
-    ensures { result ≡ said.is_beside (rows_of (found_of matches.now)) }
+/// Whether `--parallelism` is given together with `--workers` or `--queue`.
+pub(crate) fn is_conflict(matches: &ArgMatches<'_>) -> bool
+    ensures { result ≡ spec.is_conflict (rows_of (found_of matches.now)) }
 {
     is_given(matches, "parallelism") && (is_given(matches, "workers") || is_given(matches, "queue"))
 }
 
-/// Whether the option stands among the words.
+/// Whether the option stands on the command line, so that its value is not the default.
 fn is_given(matches: &ArgMatches<'_>, option: &str) -> bool
-    ensures { result ≡ said.is_given option.now (rows_of (found_of matches.now)) }
+    ensures { result ≡ spec.is_given option.now (rows_of (found_of matches.now)) }
 {
     match matches.value_source(option) {
         Some(ValueSource::CommandLine) => true,
@@ -242,11 +246,11 @@ fn is_given(matches: &ArgMatches<'_>, option: &str) -> bool
     }
 }
 
-/// What the matches say.
+/// Returns the settings that the matches state. `Err` as `read_words` gives it.
 pub(crate) fn settings_of(alloc: Global, matches: &ArgMatches<'_>) -> Result<Settings, Usage>
     ensures in_range { IfOk result AreInRange }
-    ensures said { IfOk result (AreSaid (rows_of (found_of matches.now))) }
-    ensures refused { IfErr result (AreSaidWrong (rows_of (found_of matches.now))) }
+    ensures stated { IfOk result (AreStatedSettings (rows_of (found_of matches.now))) }
+    ensures refused { IfErr result (AreNoSettings (rows_of (found_of matches.now))) }
 {
     let at = match start_of(matches) {
         Ok(start) => start,
@@ -266,9 +270,9 @@ pub(crate) fn settings_of(alloc: Global, matches: &ArgMatches<'_>) -> Result<Set
     })
 }
 
-/// The start that is said, and else the start of 1970.
+/// Returns the start that is stated, or the start of 1970. `Err` if the text is not a timestamp.
 fn start_of(matches: &ArgMatches<'_>) -> Result<Start, MomentError>
-    ensures { result ≡ option_map_or start_said (first_of (codes "at") (rows_of (found_of matches.now))) (Ok 0) }
+    ensures { result ≡ option_map_or stated_start (first_of (codes "at") (rows_of (found_of matches.now))) (Ok 0) }
 {
     match matches.get_str("at") {
         Some(moment) => Start::read(moment),
@@ -276,7 +280,7 @@ fn start_of(matches: &ArgMatches<'_>) -> Result<Start, MomentError>
     }
 }
 
-/// The file of the script, where one is named.
+/// Returns the name of the script's file, if one is given. `Err` if memory is refused.
 fn script_of(alloc: Global, matches: &ArgMatches<'_>) -> Result<Option<Text>, AllocError>
     ensures { IfOk result (λ script. script ≡ first_of (codes "script") (rows_of (found_of matches.now))) }
 {
@@ -286,25 +290,26 @@ fn script_of(alloc: Global, matches: &ArgMatches<'_>) -> Result<Option<Text>, Al
     }
 }
 
-/// How many workers there are. The parser has tested the number, so that the bounds here do not change it.
+/// Returns the number of workers. The parser has tested it, so clamping does not change it.
 fn workers_of(matches: &ArgMatches<'_>) -> u8
     ensures in_range { (1 ≤ result) × (result ≤ 8) }
-    ensures said { IfSome (one_of (codes "workers") (rows_of (found_of matches.now)))
+    ensures stated { IfSome (one_of (codes "workers") (rows_of (found_of matches.now)))
         (λ text. IsNumber 8 text result) }
 {
     matches.get_one::<u8>("workers").unwrap_or(1).clamp(1, 8)
 }
 
-/// How many events may wait. The parser has tested the number, so that the bounds here do not change it.
+/// Returns how many events may wait. The parser has tested the number, so clamping does not change
+/// it.
 fn queue_of(matches: &ArgMatches<'_>) -> u16
     ensures in_range { (1 ≤ result) × (result ≤ 1024) }
-    ensures said { IfSome (one_of (codes "queue") (rows_of (found_of matches.now)))
+    ensures stated { IfSome (one_of (codes "queue") (rows_of (found_of matches.now)))
         (λ text. IsNumber 1024 text result) }
 {
     matches.get_one::<u16>("queue").unwrap_or(64).clamp(1, 1024)
 }
 
-/// What the apply is for.
+/// Returns what the apply is for.
 fn operation_of(matches: &ArgMatches<'_>) -> Operation
     ensures destroy { one_of (codes "destroy") (rows_of (found_of matches.now)) ≡ Some (codes "true")
         → result ≡ Operation.Destroy }
@@ -318,9 +323,10 @@ fn operation_of(matches: &ArgMatches<'_>) -> Operation
     }
 }
 
-/// The halts before a kind of steps, and then those inside a prefix, both in the order of the words.
+/// Returns the halts before kinds of steps, then the halts inside prefixes, both in the order of
+/// the command line. `Err` if memory is refused.
 fn halts_of(alloc: Global, matches: &ArgMatches<'_>) -> Result<Vec<Halt>, AllocError>
-    ensures { IfOk result (λ halts. halts.items ≡ halts_said (rows_of (found_of matches.now))) }
+    ensures { IfOk result (λ halts. halts.items ≡ stated_halts (rows_of (found_of matches.now))) }
 {
     let mut halts = Vec::new(alloc);
     for kind in matches.get_strs("halt-before").unwrap_or(&[]) {
@@ -332,7 +338,7 @@ fn halts_of(alloc: Global, matches: &ArgMatches<'_>) -> Result<Vec<Halt>, AllocE
     Ok(halts)
 }
 
-/// The kind that the word says. The parser takes four words.
+/// Returns the kind with that name. The parser accepts only four names.
 fn step_kind(word: &str) -> StepKind
     ensures { result ≡ kind_of_word word.now }
 {
@@ -344,7 +350,7 @@ fn step_kind(word: &str) -> StepKind
     }
 }
 
-/// What is answered where the parser gives no matches.
+/// Returns the usage for an error of the parser. `Err` if memory is refused.
 pub(crate) fn usage_of(alloc: Global, error: &clap::Error) -> Result<Usage, AllocError>
     ensures { IfOk result (Answers (kind_of error.now)) }
 {
@@ -363,7 +369,8 @@ pub(crate) fn usage_of(alloc: Global, error: &clap::Error) -> Result<Usage, Allo
     Ok(Usage::Words(Text::new(alloc, text.as_str())?))
 }
 
-/// What is said behind what the parser says of a word that it does not know. Its own text alone tells which word that is.
+/// Returns the tip that follows the parser's error for an unknown argument. The kind of the error
+/// does not show what sort of argument it was; only the text does.
 fn tip_behind(kind: ErrorKind, text: &str) -> &'static str {
     if kind != ErrorKind::UnknownArgument || text.starts_with("error: unexpected argument '--") {
         ""

@@ -1,15 +1,16 @@
-//! What the words ask to be halted.
+//! The halts that the command line asks for.
 
 use apply_hooks::{Phase, Rules};
 use apply_model::{StepKind, Text};
 use std::alloc::{AllocError, Global};
 
-/// What is halted before it begins.
+/// Which steps are halted before they start.
 #[derive(Debug, Drop)]
 pub enum Halt {
     /// Each step of this kind.
     Before(StepKind),
-    /// Each step of a change whose address begins with this text. The empty text begins every address.
+    /// Each step of a change whose address begins with this text. Every address begins with the
+    /// empty text.
     Inside(Text),
 }
 
@@ -17,7 +18,7 @@ impl Halt {
     ghost use Rattle.std.specs.Prelude.{◌≡◌, IfOk};
     ghost use Rattle.apply_cli_args.specs.Halt.{rules_of_halt};
 
-    /// The rules of the hook that halts it. `Err` where memory is refused.
+    /// Returns the rules of the hook that halts these steps. `Err` if memory is refused.
     pub fn rules(&self, alloc: Global) -> Result<Rules, AllocError>
         ensures { IfOk result (λ rules. rules ≡ rules_of_halt self.now) }
     {

@@ -1,13 +1,13 @@
-//! All that the words of the command line say.
+//! Reads the whole command line.
 
 ghost use Rattle.std.specs.Prelude.{◌≡◌, IfOk, IfErr, IfSome, map, string_bytes};
 ghost use Rattle.clap.specs.Matches.{found_of};
 ghost use Rattle.clap.specs.Walk.{rows_of};
 ghost use Rattle.apply_events.specs.Lanes.{AreLanes};
-ghost use Rattle.apply_cli_args.specs.CommandLine.{IsParallelism, IsSaidWrong, WereRefused, form_of_word, form_said};
+ghost use Rattle.apply_cli_args.specs.CommandLine.{IsParallelism, IsNoInvocation, WereRefused, form_of_word, stated_form};
 ghost use Rattle.apply_cli_args.specs.Invocation.{HaveInvoked, IsInRange, IsInvoked};
 
-use crate::arguments::{command, is_beside, settings_of, usage_of};
+use crate::arguments::{command, is_conflict, settings_of, usage_of};
 use crate::settings::Settings;
 use crate::usage::Usage;
 use apply_events::MAX_LANES;
@@ -15,29 +15,30 @@ use apply_text_terraform::Form;
 use clap::ArgMatches;
 use std::alloc::Global;
 
-/// All that the words of the command line say.
+/// All that the command line asks for.
 #[derive(Debug, Drop)]
 pub struct Invocation {
-    /// What they say of the apply.
+    /// The settings of the apply.
     pub settings: Settings,
-    /// How many changes are under way at once in the stream's own time, 1 to 64. Where it is given, the settings' workers
-    /// and queue are not looked at.
+    /// How many changes run at once in the stream's own time, 1 to 64. If it is given, the
+    /// settings' workers and queue are ignored.
     pub parallelism: Option<u8>,
-    /// In which form the stream is written; this program's own where none is said.
+    /// The form of the stream; `Form::Applystream` if none is given.
     pub form: Form,
 }
 
-/// All that the words behind the program's name say: the settings, a parallelism, and a form, which goes with every other
-/// option.
+/// Reads the arguments after the program's name.
 ///
-/// `Err` with `Usage::Help` where they ask for help, with `Usage::Version` where they ask for the version, else with
-/// `Usage::Words` where they are none of this program (another form, or a second one, is none), else with
-/// `Usage::Beside` where a parallelism stands beside workers or a queue, else with `Usage::Moment` where the start is no
-/// moment, else with `Usage::Hooks` where there are more than 32 halts. `Err` with `Usage::Memory` where memory is
-/// refused.
+/// `Err` with `Usage::Help` if help is asked for, and with `Usage::Version` if the version is. Else
+/// `Err` with `Usage::Words` if an argument is not one of this program. Else `Err` with
+/// `Usage::Conflict` if `--parallelism` is given with `--workers` or `--queue`. Else `Err` with
+/// `Usage::Moment` if the start is not a timestamp. Else `Err` with `Usage::Hooks` if there are
+/// more than 32 halts.
+///
+/// `Err` with `Usage::Memory` if memory is refused.
 pub fn read_invocation(alloc: Global, words: &[String]) -> Result<Invocation, Usage>
     ensures in_range { IfOk result IsInRange }
-    ensures said { IfOk result (HaveInvoked (map string_bytes words.now)) }
+    ensures stated { IfOk result (HaveInvoked (map string_bytes words.now)) }
     ensures refused { IfErr result (WereRefused (map string_bytes words.now)) }
 {
     let command = command(alloc)?;
@@ -47,14 +48,14 @@ pub fn read_invocation(alloc: Global, words: &[String]) -> Result<Invocation, Us
     }
 }
 
-/// What the matches say.
+/// Returns the invocation that the matches state.
 fn invocation_of(alloc: Global, matches: &ArgMatches<'_>) -> Result<Invocation, Usage>
     ensures in_range { IfOk result IsInRange }
-    ensures said { IfOk result (IsInvoked (rows_of (found_of matches.now))) }
-    ensures refused { IfErr result (IsSaidWrong (rows_of (found_of matches.now))) }
+    ensures stated { IfOk result (IsInvoked (rows_of (found_of matches.now))) }
+    ensures refused { IfErr result (IsNoInvocation (rows_of (found_of matches.now))) }
 {
-    if is_beside(matches) {
-        return Err(Usage::Beside);
+    if is_conflict(matches) {
+        return Err(Usage::Conflict);
     }
     match settings_of(alloc, matches) {
         Ok(settings) => Ok(Invocation {
@@ -66,11 +67,11 @@ fn invocation_of(alloc: Global, matches: &ArgMatches<'_>) -> Result<Invocation, 
     }
 }
 
-/// How many changes are under way at once, where it is said. The parser has tested the number, so that the bounds here do not
-/// change it.
+/// Returns how many changes run at once, if `--parallelism` is given. The parser has tested the
+/// number, so clamping does not change it.
 fn parallelism_of(matches: &ArgMatches<'_>) -> Option<u8>
     ensures in_range { IfSome result AreLanes }
-    ensures said { IsParallelism (rows_of (found_of matches.now)) result }
+    ensures stated { IsParallelism (rows_of (found_of matches.now)) result }
 {
     match matches.get_one::<u8>("parallelism") {
         Some(lanes) => Some(lanes.clamp(1, MAX_LANES)),
@@ -78,9 +79,9 @@ fn parallelism_of(matches: &ArgMatches<'_>) -> Option<u8>
     }
 }
 
-/// The form that is said, and else the program's own.
+/// Returns the form that is stated, or the default form.
 fn form_of(matches: &ArgMatches<'_>) -> Form
-    ensures { result ≡ form_said (rows_of (found_of matches.now)) }
+    ensures { result ≡ stated_form (rows_of (found_of matches.now)) }
 {
     match matches.get_str("form") {
         Some(word) => form_named(word),
@@ -88,7 +89,7 @@ fn form_of(matches: &ArgMatches<'_>) -> Form
     }
 }
 
-/// The form that the word says. The parser takes two words.
+/// Returns the form with that name. The parser accepts only two names.
 fn form_named(word: &str) -> Form
     ensures { result ≡ form_of_word word.now }
 {

@@ -1,22 +1,22 @@
-//! What the words of the command line say.
+//! The settings of the command line.
 
 use crate::halt::Halt;
 use apply_model::Text;
 use apply_text::{Operation, Start};
 
-/// What the words of the command line say.
+/// The settings of the command line, without `--parallelism` and `--form`.
 #[derive(Debug, Drop)]
 pub struct Settings {
-    /// When the first steps begin.
+    /// When the first steps start.
     pub at: Start,
-    /// The file of the script, where there is one.
+    /// The name of the script's file, if one is given.
     pub script: Option<Text>,
-    /// How many workers apply the plan.
+    /// The number of workers, 1 to 8.
     pub workers: u8,
-    /// How many events may wait to be written.
+    /// How many events may wait to be written, 1 to 1,024.
     pub queue: u16,
-    /// What the apply is for.
+    /// What the apply is for: the summary names it.
     pub operation: Operation,
-    /// What is halted, in the order in which its hooks are asked.
+    /// The halts, at most 32, in the order in which their hooks are asked.
     pub halts: Vec<Halt>,
 }

@@ -1,4 +1,4 @@
-//! What the words get where they are not followed.
+//! Why the command line gives no invocation.
 
 ghost use Rattle.std.specs.Prelude.{◌≡◌};
 ghost use Rattle.apply_cli_args.specs.declared.usage.Usage.TheVariants.{Memory};
@@ -7,19 +7,19 @@ use apply_model::Text;
 use apply_text::MomentError;
 use std::alloc::{AllocError, AllocFailed};
 
-/// Why the words say no invocation. The variants are tested in this order, but for `Memory`; of help and the
-/// version the one that comes first is asked for.
+/// Why the command line gives no invocation. The variants are tested in this order, except
+/// `Memory`. If both help and the version are asked for, the first one counts.
 #[derive(Debug, Drop)]
 pub enum Usage {
-    /// They ask for help, which is this text.
+    /// Help is asked for; this is its text.
     Help(Text),
-    /// They ask for the version.
+    /// The version is asked for.
     Version,
-    /// They are none of this program. The text says why, and how the words go.
+    /// An argument is not one of this program. The text gives the error and the usage.
     Words(Text),
-    /// They ask for a parallelism beside workers or a queue.
-    Beside,
-    /// The start is no moment.
+    /// `--parallelism` is given together with `--workers` or `--queue`.
+    Conflict,
+    /// The value of `--at` is not a timestamp, or out of range.
     Moment(MomentError),
     /// There are more than 32 halts.
     Hooks,

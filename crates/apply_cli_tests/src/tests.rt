@@ -1,5 +1,5 @@
-//! What no clause says: whole lines as bytes, the texts of faults, readers and writers that fail, and that runs
-//! succeed with ample memory.
+//! Tests what no clause states: whole lines as bytes, the texts of errors, readers and writers that
+//! fail, and that runs succeed with ample memory.
 
 ghost use Rattle.std.specs.Prelude.{◌≡◌, ◌<◌, ◌-◌, ◌^◌};
 
@@ -10,11 +10,11 @@ mod following;
 mod forms;
 mod lanes;
 mod rests;
-mod unsaid_faults;
+mod unwritten_errors;
 mod words;
 
 use apply_cli::{
-    Awaited, Halt, InputFault, Invocation, Settings, Usage, VERSION, answer_usage, follow,
+    Halt, InputFault, Invocation, PromptingReader, Settings, Usage, VERSION, answer_usage, follow,
     follow_invocation, read_all, read_invocation, read_words, refusal_status, report, run_command,
     run_input,
 };
@@ -32,10 +32,10 @@ use std::rt::Files;
 use std::sync::Wait;
 use std::thread::Threads;
 
-/// Stands where there is no script.
+/// Stands for an absent script.
 const NO_SCRIPT: &str = "no script";
 
-/// The bytes of a script, where there is one.
+/// The bytes of a script, if there is one.
 fn script_bytes(script: &str) -> Option<&[u8]> {
     if script == NO_SCRIPT {
         None
@@ -44,12 +44,12 @@ fn script_bytes(script: &str) -> Option<&[u8]> {
     }
 }
 
-/// What no words say.
+/// The default settings.
 fn defaults(alloc: Global) -> Settings {
     with_sizes(alloc, 1, 64)
 }
 
-/// What no words say, but for the workers and the queue.
+/// The default settings, with other workers and another queue.
 fn with_sizes(alloc: Global, workers: u8, queue: u16) -> Settings {
     Settings {
         at: Start::zero(),
@@ -61,60 +61,61 @@ fn with_sizes(alloc: Global, workers: u8, queue: u16) -> Settings {
     }
 }
 
-/// The value, for as long as the test runs: a proof grows with each place at which something has to be dropped.
-fn kept<'a, T: Drop + 'a>(rt: &impl Abort, alloc: Global, value: T) -> &'a T {
-    let kept = Box::new(alloc, value).expect(rt, "memory");
-    &*Box::leak(kept)
+/// Leaks the value: a proof grows with each place at which something must be dropped.
+fn leaked<'a, T: Drop + 'a>(rt: &impl Abort, alloc: Global, value: T) -> &'a T {
+    let leaked = Box::new(alloc, value).expect(rt, "memory");
+    &*Box::leak(leaked)
 }
 
 /// No hooks.
 fn no_hooks(rt: &impl Abort, alloc: Global) -> &'static Registry {
-    kept(rt, alloc, Registry::new(alloc))
+    leaked(rt, alloc, Registry::new(alloc))
 }
 
-/// A text, for as long as the test runs.
-fn kept_text(rt: &impl Abort, alloc: Global, text: String) -> &'static str {
-    kept(rt, alloc, text).as_str()
+/// Leaks a text.
+fn leaked_text(rt: &impl Abort, alloc: Global, text: String) -> &'static str {
+    leaked(rt, alloc, text).as_str()
 }
 
-/// Bytes that have to be text, for as long as the test runs.
-fn kept_bytes(rt: &impl Abort, alloc: Global, bytes: Vec<u8>) -> &'static str {
-    text_of(rt, kept(rt, alloc, bytes).as_slice())
+/// Leaks bytes that must be text.
+fn leaked_bytes(rt: &impl Abort, alloc: Global, bytes: Vec<u8>) -> &'static str {
+    text_of(rt, leaked(rt, alloc, bytes).as_slice())
 }
 
-/// What `Debug` prints of it.
+/// Returns what `Debug` prints.
 fn shown(rt: &impl Abort, alloc: Global, value: &impl Debug) -> &'static str {
-    kept_text(
+    leaked_text(
         rt,
         alloc,
         format!(in alloc; "{value:?}").expect(rt, "memory"),
     )
 }
 
-/// What the program has done: its exit status, what it printed, and what it said of faults.
+/// What the program has done: its exit status, its output and its errors.
 #[derive(Clone, Copy)]
 struct Outcome {
     status: u8,
     printed: &'static str,
-    said: &'static str,
+    errors: &'static str,
 }
 
-/// What was done, where both outputs were memory. Both have to be text.
+/// Returns what the program has done, if both outputs were memory. Both must be text.
 fn outcome_of(
     rt: &impl Abort,
     alloc: Global,
     status: u8,
     printed: Vec<u8>,
-    said: Vec<u8>,
+    errors: Vec<u8>,
 ) -> Outcome {
     Outcome {
         status,
-        printed: kept_bytes(rt, alloc, printed),
-        said: kept_bytes(rt, alloc, said),
+        printed: leaked_bytes(rt, alloc, printed),
+        errors: leaked_bytes(rt, alloc, errors),
     }
 }
 
-/// Runs the command, without hooks: the output and the status. The contract of a run is long, so it is called here alone.
+/// Runs the command, without hooks: the output and the status. The contract of a run is long, so it
+/// is called here alone.
 fn command<R: Read + Drop, W: Write + Drop, E: Write, T: Threads + Wait + Sync + Abort>(
     rt: &T,
     alloc: Global,
@@ -122,23 +123,23 @@ fn command<R: Read + Drop, W: Write + Drop, E: Write, T: Threads + Wait + Sync +
     script: Option<&[u8]>,
     input: R,
     output: W,
-    said: &mut E,
+    errors: &mut E,
 ) -> (W, u8) {
     let (registry, sink) = (no_hooks(rt, alloc), StdSink::new(output));
-    let (sink, status) = run_command(rt, alloc, settings, registry, script, input, sink, said);
+    let (sink, status) = run_command(rt, alloc, settings, registry, script, input, sink, errors);
     (sink.into_inner(), status)
 }
 
-/// Runs an input as the settings say, without a script, and with its output in memory.
+/// Runs an input with these settings, without a script, and with its output in memory.
 fn run_with<R: Read + Drop, T: Threads + Wait + Sync + Abort>(
     rt: &T,
     alloc: Global,
     settings: &Settings,
     input: R,
 ) -> Outcome {
-    let (output, mut said) = (Vec::new(alloc), Vec::new(alloc));
-    let (printed, status) = command(rt, alloc, settings, None, input, output, &mut said);
-    outcome_of(rt, alloc, status, printed, said)
+    let (output, mut errors) = (Vec::new(alloc), Vec::new(alloc));
+    let (printed, status) = command(rt, alloc, settings, None, input, output, &mut errors);
+    outcome_of(rt, alloc, status, printed, errors)
 }
 
 /// Runs an input with the settings that no options give.
@@ -147,17 +148,17 @@ fn run<R: Read + Drop, T: Threads + Wait + Sync + Abort>(
     alloc: Global,
     input: R,
 ) -> Outcome {
-    let settings = kept(rt, alloc, defaults(alloc));
+    let settings = leaked(rt, alloc, defaults(alloc));
     run_with(rt, alloc, settings, input)
 }
 
 /// So many blanks.
 fn blanks_of(rt: &impl Abort, alloc: Global, count: usize) -> &'static [u8] {
     let blanks = vec![in alloc; b' '; count].expect(rt, "memory");
-    kept(rt, alloc, blanks).as_slice()
+    leaked(rt, alloc, blanks).as_slice()
 }
 
-/// Bytes that have to be text.
+/// Bytes that must be text.
 fn text_of<'a>(rt: &impl Abort, bytes: &'a [u8]) -> &'a str {
     str::from_utf8(bytes).ok().expect(rt, "a text")
 }
@@ -167,59 +168,60 @@ fn front_of<'a>(rt: &impl Abort, text: &'a str, room: usize) -> &'a str {
     text_of(rt, text.as_bytes().get(..room).expect(rt, "so many bytes"))
 }
 
-/// Fails where it is not so.
+/// Fails unless the fact holds.
 fn holds(rt: &impl Abort, case: &str, is_so: bool) {
     assert!(rt; is_so, "{case}");
 }
 
-/// Fails where the number is another.
-fn number_is(rt: &impl Abort, case: &str, found: usize, wanted: usize) {
-    holds(rt, case, found == wanted);
+/// Fails if the number differs.
+fn number_is(rt: &impl Abort, case: &str, actual: usize, wanted: usize) {
+    holds(rt, case, actual == wanted);
 }
 
-/// Fails where the text is another.
-fn text_is(rt: &impl Abort, case: &str, found: &str, wanted: &str) {
-    assert!(rt; found == wanted, "{case}: {found}");
+/// Fails if the text differs.
+fn text_is(rt: &impl Abort, case: &str, actual: &str, wanted: &str) {
+    assert!(rt; actual == wanted, "{case}: {actual}");
 }
 
-/// Fails where the status is another.
-fn status_is(rt: &impl Abort, case: &str, found: u8, wanted: u8) {
-    holds(rt, case, found == wanted);
+/// Fails if the status differs.
+fn status_is(rt: &impl Abort, case: &str, actual: u8, wanted: u8) {
+    holds(rt, case, actual == wanted);
 }
 
-/// Fails where the status is another, or other texts were printed or said.
+/// Fails if the status, the output or the errors differ.
 fn outcome_is(
     rt: &impl Abort,
     case: &str,
     outcome: Outcome,
     status: u8,
     printed: &str,
-    said: &str,
+    errors: &str,
 ) {
     status_is(rt, case, outcome.status, status);
     text_is(rt, case, outcome.printed, printed);
-    text_is(rt, case, outcome.said, said);
+    text_is(rt, case, outcome.errors, errors);
 }
 
-/// Fails where the status is another, anything was printed, or another fault was said.
+/// Fails if the status or the error differs, or anything was printed.
 fn outcome_fails(rt: &impl Abort, case: &str, outcome: Outcome, status: u8, fault: &str) {
     status_is(rt, case, outcome.status, status);
     text_is(rt, case, outcome.printed, "");
-    says(rt, case, outcome.said, fault);
+    reports(rt, case, outcome.errors, fault);
 }
 
-/// Fails where the text is not the line of this fault, and behind that of a plan or a script the line that names `validate`.
-fn says(rt: &impl Abort, case: &str, said: &str, fault: &str) {
-    line_is(rt, case, said, fault, end_of(fault));
+/// Fails unless the text is the line of this error; for a plan or a script, a line that names
+/// `validate` must follow.
+fn reports(rt: &impl Abort, case: &str, errors: &str, fault: &str) {
+    line_is(rt, case, errors, fault, end_of(fault));
 }
 
-/// Fails where the text is not the line of this fault with that end.
-fn line_is(rt: &impl Abort, case: &str, said: &str, fault: &str, end: &str) {
-    let line = said.strip_prefix("applystream: ").expect(rt, case);
+/// Fails if the text is not the line of this fault with that end.
+fn line_is(rt: &impl Abort, case: &str, errors: &str, fault: &str, end: &str) {
+    let line = errors.strip_prefix("applystream: ").expect(rt, case);
     text_is(rt, case, line.strip_suffix(end).expect(rt, case), fault);
 }
 
-/// What is said behind the fault: of a plan or a script a line that names `validate`.
+/// The line after an error: for a plan or a script it names `validate`.
 fn end_of(fault: &str) -> &'static str {
     if fault.starts_with("the plan is ") || fault.starts_with("the script is ") {
         "\napplystream: applystream validate says where and what\n"
@@ -228,7 +230,7 @@ fn end_of(fault: &str) -> &'static str {
     }
 }
 
-/// What stands before the first mark, and what behind it.
+/// The text before the first mark, and the text after it.
 fn parted<'a>(rt: &impl Abort, text: &'a str, mark: &str) -> (&'a str, &'a str) {
     text.split_once(mark).expect(rt, text)
 }
@@ -245,13 +247,13 @@ fn words_of(rt: &impl Abort, alloc: Global, text: &str) -> &'static [String] {
         let word = String::from_str(alloc, word).expect(rt, "memory");
         push_word(rt, &mut words, word);
     }
-    kept(rt, alloc, words).as_slice()
+    leaked(rt, alloc, words).as_slice()
 }
 
-/// What the words of a text are answered.
+/// The answer to the words of a text.
 fn read_of(rt: &impl Abort, alloc: Global, text: &str) -> &'static Result<Invocation, Usage> {
     let words = words_of(rt, alloc, text);
-    kept(rt, alloc, read_invocation(alloc, words))
+    leaked(rt, alloc, read_invocation(alloc, words))
 }
 
 /// The name of a usage.
@@ -260,7 +262,7 @@ fn name_of(usage: &Usage) -> &'static str {
         Usage::Help(_) => "Help",
         Usage::Version => "Version",
         Usage::Words(_) => "Words",
-        Usage::Beside => "Beside",
+        Usage::Conflict => "Beside",
         Usage::Moment(_) => "Moment",
         Usage::Hooks => "Hooks",
         Usage::Memory => "Memory",
@@ -270,7 +272,7 @@ fn name_of(usage: &Usage) -> &'static str {
 /// The line of the version.
 fn version_of(rt: &impl Abort, alloc: Global) -> &'static str {
     let line = format!(in alloc; "applystream {VERSION}\n");
-    kept_text(rt, alloc, line.expect(rt, "memory"))
+    leaked_text(rt, alloc, line.expect(rt, "memory"))
 }
 
 /// A sink over memory.
@@ -280,7 +282,7 @@ fn empty(alloc: Global) -> StdSink<Vec<u8>>
     StdSink::new(Vec::new(alloc))
 }
 
-/// Gives one byte a call, and a fault where `before` bytes were given.
+/// Gives one byte a call, and fails after `before` bytes.
 #[derive(Drop)]
 struct FailingReader {
     bytes: &'static [u8],
@@ -304,7 +306,8 @@ impl Read for FailingReader {
     }
 }
 
-/// Takes at most `per_write` bytes a call and `room` bytes in all, and fails from then on. Its flush may fail too.
+/// Accepts at most `per_write` bytes a call and `room` bytes in all, and fails from then on. Its
+/// flush may fail too.
 #[derive(Drop)]
 struct FailingWriter {
     taken: Vec<u8>,
@@ -333,7 +336,7 @@ impl Write for FailingWriter {
     }
 }
 
-/// A writer that takes so many bytes a call, and has room for so many in all.
+/// A writer that accepts so many bytes a call, and so many in all.
 fn with_room(alloc: Global, per_write: usize, room: usize) -> FailingWriter {
     FailingWriter {
         taken: Vec::new(alloc),
@@ -355,5 +358,5 @@ fn unflushed(alloc: Global, room: usize, error: ErrorKind) -> FailingWriter {
     }
 }
 
-/// What is said of an output that fails.
+/// The error of an output that fails.
 const UNWRITTEN: &str = "applystream: the output could not be written\n";

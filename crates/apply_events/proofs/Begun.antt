@@ -28,7 +28,7 @@ and_second false b h = cc
 pub and_both : (a b : Bool) → a ≡ true → b ≡ true → (a && b) ≡ true
 and_both a b first second = rw (first, second) refl
 
--- where the first k steps go on, what is begun is those and what is begun behind them
+-- if the first k steps go on, the steps that begin are those and the ones that begin after them
 pub begun_from : (steps : List Step) (k : ℕ) → list_all goes_on (take k steps) ≡ true → begun steps ≡ take k steps ++ begun (drop k steps)
 begun_from steps zero all = refl
 begun_from [] (suc k) all = refl

@@ -16,9 +16,9 @@ use Rattle.apply_events.specs.ChangeEvents.{begun, in_turn, span_of}
 use Rattle.apply_events.specs.Course.{Course, ended_of, has_event_in, time_in}
 use Rattle.apply_events.specs.MidStep.{left_of}
 use Rattle.apply_events.specs.Notes.{note_of}
-use Rattle.apply_events.specs.Stages.{behind, events_from, from_stage, halt_after, is_on_course, is_reached, running, time_behind}
+use Rattle.apply_events.specs.Stages.{later_events, events_from, from_stage, halt_after, is_on_course, is_reached, running, time_before}
 use Rattle.apply_events.specs.Step.{Step, steps_of}
-use Rattle.apply_events.specs.StepEvents.{end_of, endings, event, goes_on, halts, notes, phase_after, seconds_of, started, step_events, step_time, tells_end}
+use Rattle.apply_events.specs.StepEvents.{end_of, endings, event, goes_on, halts, notes, phase_after, seconds_of, start_events, step_events, step_time, emits_end}
 use Rattle.apply_events.proofs.Begun.{and_first, and_second, begun_from}
 use Rattle.apply_events.proofs.Rising.{Rises}
 use Rattle.apply_events.proofs.StepNumbers.{AreNumbered, AreNumbered-drop, number_of, steps_of-numbered, to_come_rise}
@@ -54,7 +54,7 @@ AllHave-append (s ∷ steps) xs ys h = (has-append_second xs ys s h.0, AllHave-a
 step_has : (w : ℕ) (s : Step) (at : ℕ) → has_event_in (step_events w s at) s ≡ true
 step_has w s at = step_has-at w s at (s.halts Pre)
   where
-    step_has-at : (w : ℕ) (s : Step) (at : ℕ) (found : Option ℕ) → has_event_in (cond (is_some found) (option_to_list (option_map (λ hook. event w s at (Halted Pre hook)) found)) (started w s at)) s ≡ true
+    step_has-at : (w : ℕ) (s : Step) (at : ℕ) (answer : Option ℕ) → has_event_in (cond (is_some answer) (option_to_list (option_map (λ hook. event w s at (Halted Pre hook)) answer)) (start_events w s at)) s ≡ true
     step_has-at w s at None = rw (itself s.number) refl
     step_has-at w s at (Some hook) = rw (itself s.number) refl
 
@@ -74,18 +74,18 @@ running_has : (w : ℕ) (s : Step) (at : ℕ) (mid : MidStep) → has_event_in (
 running_has w s at mid =
     has-append_first (map (λ (p : ℕ × What). event w s (at + p.0) p.1) (left_of (seconds_of s) s.seconds_before s.ran mid) ++ map (λ what. event w s (at + (seconds_of s)) what) (endings s)) (halts w s (phase_after s.fails) (at + (seconds_of s))) s
     (has-append_second (map (λ (p : ℕ × What). event w s (at + p.0) p.1) (left_of (seconds_of s) s.seconds_before s.ran mid)) (map (λ what. event w s (at + (seconds_of s)) what) (endings s)) s
-    (ending_has w s (at + seconds_of s) (seconds_of s) (tells_end s.fails s.only_warns) (end_of s.fails (seconds_of s)) (notes s.fails s.warns)))
+    (ending_has w s (at + seconds_of s) (seconds_of s) (emits_end s.fails s.only_warns) (end_of s.fails (seconds_of s)) (notes s.fails s.warns)))
 
-none_of : {X : Type 0} (found : Option X) → is_none found ≡ true → found ≡ None
+none_of : {X : Type 0} (answer : Option X) → is_none answer ≡ true → answer ≡ None
 none_of None h = refl
 none_of (Some x) h = cc
 
--- the step at hand and those behind it have events after the step has started
+-- the current step and the steps after it have events once the step has started
 after_have : (w : ℕ) (s : Step) (steps : List Step) (at : ℕ) (events : List Event) → s.halts Pre ≡ None → has_event_in events s ≡ true
-    → AllHave (begun (s ∷ steps)) (events ++ behind w s steps at)
+    → AllHave (begun (s ∷ steps)) (events ++ later_events w s steps at)
 after_have w s steps at events starts own =
     rw starts (
-      has-append_first events (behind w s steps at) s own,
+      has-append_first events (later_events w s steps at) s own,
       elim (not s.fails && is_none (s.halts PostDone)) as (λ b. AllHave (cond b (begun steps) []) (events ++ cond b (events_from w steps (at + (seconds_of s))) []))
           [ true ↦ AllHave-append (begun steps) events (events_from w steps (at + (seconds_of s))) (in_turn_has w (begun steps) (at + (seconds_of s))) | false ↦ tt ],
     )
@@ -153,7 +153,7 @@ going course steps k at stage numbered all reached more time =
 -- where the runner stands
 pub stands : (course : Course) (k at : ℕ) (stage : Stage)
     → is_on_course (steps_of course.work course.change) k stage ≡ true
-    → at ≡ course.begin + time_behind (steps_of course.work course.change) k stage
+    → at ≡ course.begin + time_before (steps_of course.work course.change) k stage
     → at ≡ ended_of course (from_stage course.worker (drop k (steps_of course.work course.change)) at stage)
 stands course k at Over on time =
     let none : time_in course [] ≡ 0 = ap (λ ss. sum_by step_time ss) (none_have (begun (steps_of course.work course.change))) in

@@ -14,7 +14,7 @@ use Rattle.apply_events.specs.declared.what.What.TheVariants.{Halted, Start}
 use Rattle.apply_events.specs.ChangeEvents.{begun, change_events, in_turn, span_of}
 use Rattle.apply_events.specs.OfWorker.{of_worker}
 use Rattle.apply_events.specs.Step.{Step, Work, steps_of}
-use Rattle.apply_events.specs.StepEvents.{between, endings, event, halts, phase_after, seconds_of, started, step_events, step_time}
+use Rattle.apply_events.specs.StepEvents.{between, endings, event, halts, phase_after, seconds_of, start_events, step_events, step_time}
 use Rattle.apply_events.specs.Totals.{completes, is_errored, is_halted, plus, totals_of}
 use Rattle.apply_events.specs.WorkerEvents.{worker_events}
 
@@ -47,12 +47,12 @@ own-map w g (x ∷ xs) own =
     let here : nat_eq (g x).worker w ≡ true = rw (own x) (itself w) in
     rw here (ap (λ es. g x ∷ es) (own-map w g xs own))
 
-own-halts : (w : ℕ) (s : Step) (phase : Phase) (at : ℕ) (found : Option ℕ) → of_worker w (option_to_list (option_map (λ hook. event w s at (Halted phase hook)) found)) ≡ option_to_list (option_map (λ hook. event w s at (Halted phase hook)) found)
+own-halts : (w : ℕ) (s : Step) (phase : Phase) (at : ℕ) (answer : Option ℕ) → of_worker w (option_to_list (option_map (λ hook. event w s at (Halted phase hook)) answer)) ≡ option_to_list (option_map (λ hook. event w s at (Halted phase hook)) answer)
 own-halts w s phase at None = refl
 own-halts w s phase at (Some hook) = rw (itself w) refl
 
-own-started : (w : ℕ) (s : Step) (at : ℕ) → of_worker w (started w s at) ≡ started w s at
-own-started w s at =
+own-start_events : (w : ℕ) (s : Step) (at : ℕ) → of_worker w (start_events w s at) ≡ start_events w s at
+own-start_events w s at =
     own-append w (event w s at Start ∷ [] ++ map (λ (p : ℕ × What). event w s (at + p.0) p.1) (between s) ++ map (λ what. event w s (at + (seconds_of s)) what) (endings s)) (halts w s (phase_after s.fails) (at + (seconds_of s)))
     (own-append w (event w s at Start ∷ [] ++ map (λ (p : ℕ × What). event w s (at + p.0) p.1) (between s)) (map (λ what. event w s (at + (seconds_of s)) what) (endings s))
     (own-append w (event w s at Start ∷ []) (map (λ (p : ℕ × What). event w s (at + p.0) p.1) (between s)) (rw (itself w) refl)
@@ -63,8 +63,8 @@ own-started w s at =
 own-step : (w : ℕ) (s : Step) (at : ℕ) → of_worker w (step_events w s at) ≡ step_events w s at
 own-step w s at = own-step-at w s at (s.halts Pre)
   where
-    own-step-at : (w : ℕ) (s : Step) (at : ℕ) (found : Option ℕ) → of_worker w (cond (is_some found) (option_to_list (option_map (λ hook. event w s at (Halted Pre hook)) found)) (started w s at)) ≡ cond (is_some found) (option_to_list (option_map (λ hook. event w s at (Halted Pre hook)) found)) (started w s at)
-    own-step-at w s at None = own-started w s at
+    own-step-at : (w : ℕ) (s : Step) (at : ℕ) (answer : Option ℕ) → of_worker w (cond (is_some answer) (option_to_list (option_map (λ hook. event w s at (Halted Pre hook)) answer)) (start_events w s at)) ≡ cond (is_some answer) (option_to_list (option_map (λ hook. event w s at (Halted Pre hook)) answer)) (start_events w s at)
+    own-step-at w s at None = own-start_events w s at
     own-step-at w s at (Some hook) = own-halts w s Pre at (Some hook)
 
 own-turn : {X : Type 0} (w : ℕ) (events : X → ℕ → List Event) (time : X → ℕ) (xs : List X) (at : ℕ) → ((x : X) (at : ℕ) → of_worker w (events x at) ≡ events x at) → of_worker w (in_turn events time xs at) ≡ in_turn events time xs at

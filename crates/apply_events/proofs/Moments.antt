@@ -1,4 +1,4 @@
--- The moments along lists of events.
+-- The seconds along lists of events.
 use Rattle.std.proofs.Common.{◌≡◌, ℕ, suc, ◌+◌, ◌*◌, ◌<◌, ◌≤◌, nat_eq, true, false, List, [], ◌∷◌, ◌++◌, cond, length, map, Option, Some, None, IfSome, refl, ap, arith, ⊎_elim}
 use Rattle.std.specs.Prelude.{All, is_some, option_map, option_to_list, slice_get, sum_by}
 use Rattle.std.specs.List.{enumerate_from, list_any}
@@ -6,7 +6,7 @@ use Rattle.std.proofs.lemmas.Bool.Decides.{eqb_tells}
 use Rattle.std.proofs.lemmas.List.Sums.{sum_by-cons}
 use Rattle.std.proofs.lemmas.Map.Steps.{length-le_from_distinct_below}
 use Rattle.apply_model.specs.declared.plan.step_kind.StepKind.{StepKind}
-use Rattle.apply_model.specs.Script.OutcomeMap.{IsInRange, given_outcome}
+use Rattle.apply_model.specs.Script.OutcomeMap.{IsInRange, stated_outcome}
 use Rattle.apply_model.specs.declared.script.outcome.Outcome.{Outcome}
 use Rattle.apply_model.specs.Script.Outcome.{IsBounded, default_outcome, took}
 use Rattle.std.specs.Prelude.{unwrap_or}
@@ -16,58 +16,58 @@ use Rattle.apply_events.specs.declared.event.Event.{Event}
 use Rattle.apply_events.specs.declared.what.What.{What}
 use Rattle.apply_events.specs.declared.what.What.TheVariants.{Halted}
 use Rattle.apply_events.specs.ChangeEvents.{begun, change_events, in_turn, span_of}
-use Rattle.apply_events.specs.Fits.{last_moment, max_span}
+use Rattle.apply_events.specs.Fits.{latest_second, max_span}
 use Rattle.apply_events.specs.Laws.{IsWithinLimits, NamesEachOnce}
 use Rattle.apply_events.specs.Step.{Step, Work, kinds_applied, kinds_of, step_of, steps_of}
-use Rattle.apply_events.specs.StepEvents.{between, endings, event, goes_on, halts, phase_after, seconds_of, started, step_events, step_time}
+use Rattle.apply_events.specs.StepEvents.{between, endings, event, goes_on, halts, phase_after, seconds_of, start_events, step_events, step_time}
 use Rattle.apply_events.specs.WorkerEvents.{worker_events}
 use Rattle.apply_events.proofs.AppliedSteps.{few_applied}
 use Rattle.apply_events.proofs.MidSteps.{took_short}
 use Rattle.apply_events.proofs.Provisions.{along_rises, time_of}
 use Rattle.apply_events.proofs.Rising.{Rises, Rises-append, Rises-at_most, Rises-higher, Rises-map_same}
 
-abbrev pub moment_of : Event → ℕ
-moment_of e = e.at
+abbrev pub lane_time_of : Event → ℕ
+lane_time_of e = e.at
 
-halts_rise : (w : ℕ) (s : Step) (phase : Phase) (at : ℕ) (found : Option ℕ) → Rises moment_of at at (option_to_list (option_map (λ hook. event w s at (Halted phase hook)) found))
+halts_rise : (w : ℕ) (s : Step) (phase : Phase) (at : ℕ) (answer : Option ℕ) → Rises lane_time_of at at (option_to_list (option_map (λ hook. event w s at (Halted phase hook)) answer))
 halts_rise w s phase at None = omega arith
 halts_rise w s phase at (Some hook) = (omega arith, omega arith)
 
--- as much later as it is behind the start
-moments_rise : (w : ℕ) (s : Step) (at low high : ℕ) (xs : List (ℕ × What)) → Rises time_of low high xs → Rises moment_of (at + low) (at + high) (map (λ (p : ℕ × What). event w s (at + p.0) p.1) xs)
+-- as much later as its number of seconds after the start
+moments_rise : (w : ℕ) (s : Step) (at low high : ℕ) (xs : List (ℕ × What)) → Rises time_of low high xs → Rises lane_time_of (at + low) (at + high) (map (λ (p : ℕ × What). event w s (at + p.0) p.1) xs)
 moments_rise w s at low high [] h = omega arith
 moments_rise w s at low high (x ∷ xs) h = (let first : low ≤ x.0 = h.0 in omega arith, moments_rise w s at x.0 high xs h.1)
 
-started_rise : (w : ℕ) (s : Step) (at : ℕ) → Rises moment_of at (at + (seconds_of s)) (started w s at)
+started_rise : (w : ℕ) (s : Step) (at : ℕ) → Rises lane_time_of at (at + (seconds_of s)) (start_events w s at)
 started_rise w s at =
     let progress = map (λ (p : ℕ × What). event w s (at + p.0) p.1) (between s) in
     let ends = map (λ what. event w s (at + (seconds_of s)) what) (endings s) in (
       omega arith,
-      Rises-append moment_of at (at + (seconds_of s)) (at + (seconds_of s)) (progress ++ ends) (halts w s (phase_after s.fails) (at + (seconds_of s)))
-          (Rises-append moment_of at (at + (seconds_of s)) (at + (seconds_of s)) progress ends
+      Rises-append lane_time_of at (at + (seconds_of s)) (at + (seconds_of s)) (progress ++ ends) (halts w s (phase_after s.fails) (at + (seconds_of s)))
+          (Rises-append lane_time_of at (at + (seconds_of s)) (at + (seconds_of s)) progress ends
           (let none : at + 0 ≡ at = omega arith in rw none at (moments_rise w s at 0 (seconds_of s) (between s) (along_rises (seconds_of s) 0 0 s.seconds_before s.ran (omega arith) (omega arith))))
-          (Rises-map_same moment_of (λ what. event w s (at + (seconds_of s)) what) (at + (seconds_of s)) (endings s) (λ what. refl)))
+          (Rises-map_same lane_time_of (λ what. event w s (at + (seconds_of s)) what) (at + (seconds_of s)) (endings s) (λ what. refl)))
           (halts_rise w s (phase_after s.fails) (at + (seconds_of s)) (s.halts (phase_after s.fails))),
     )
 
-pub step_rises : (w : ℕ) (s : Step) (at : ℕ) → Rises moment_of at (at + step_time s) (step_events w s at)
+pub step_rises : (w : ℕ) (s : Step) (at : ℕ) → Rises lane_time_of at (at + step_time s) (step_events w s at)
 step_rises w s at = step_rises-at w s at (s.halts Pre)
   where
-    step_rises-at : (w : ℕ) (s : Step) (at : ℕ) (found : Option ℕ) → Rises moment_of at (at + cond (is_some found) 0 (seconds_of s)) (cond (is_some found) (option_to_list (option_map (λ hook. event w s at (Halted Pre hook)) found)) (started w s at))
+    step_rises-at : (w : ℕ) (s : Step) (at : ℕ) (answer : Option ℕ) → Rises lane_time_of at (at + cond (is_some answer) 0 (seconds_of s)) (cond (is_some answer) (option_to_list (option_map (λ hook. event w s at (Halted Pre hook)) answer)) (start_events w s at))
     step_rises-at w s at None = started_rise w s at
     step_rises-at w s at (Some hook) = (omega arith, omega arith)
 
-pub in_turn_rises : {X : Type 0} (events : X → ℕ → List Event) (time : X → ℕ) (xs : List X) (at : ℕ) → ((x : X) (at : ℕ) → Rises moment_of at (at + time x) (events x at))
-    → Rises moment_of at (at + sum_by time xs) (in_turn events time xs at)
+pub in_turn_rises : {X : Type 0} (events : X → ℕ → List Event) (time : X → ℕ) (xs : List X) (at : ℕ) → ((x : X) (at : ℕ) → Rises lane_time_of at (at + time x) (events x at))
+    → Rises lane_time_of at (at + sum_by time xs) (in_turn events time xs at)
 in_turn_rises events time [] at each = omega arith
 in_turn_rises events time (x ∷ xs) at each =
     let sums : at + sum_by time (x ∷ xs) ≡ at + time x + sum_by time xs = (let e : sum_by time (x ∷ xs) ≡ time x + sum_by time xs = sum_by-cons time x xs in omega arith) in
-    rw sums (Rises-append moment_of at (at + time x) (at + time x + sum_by time xs) (events x at) (in_turn events time xs (at + time x)) (each x at) (in_turn_rises events time xs (at + time x) each))
+    rw sums (Rises-append lane_time_of at (at + time x) (at + time x + sum_by time xs) (events x at) (in_turn events time xs (at + time x)) (each x at) (in_turn_rises events time xs (at + time x) each))
 
-pub change_rises : (work : Work) (w c at : ℕ) → Rises moment_of at (at + span_of work c) (change_events work w c at)
+pub change_rises : (work : Work) (w c at : ℕ) → Rises lane_time_of at (at + span_of work c) (change_events work w c at)
 change_rises work w c at = in_turn_rises (step_events w) step_time (begun (steps_of work c)) at (step_rises w)
 
-worker_rises : (work : Work) (w : ℕ) (changes : List ℕ) → Rises moment_of 0 (0 + sum_by (span_of work) changes) (worker_events work w changes)
+worker_rises : (work : Work) (w : ℕ) (changes : List ℕ) → Rises lane_time_of 0 (0 + sum_by (span_of work) changes) (worker_events work w changes)
 worker_rises work w changes = in_turn_rises (change_events work w) (span_of work) changes 0 (change_rises work w)
 
 -- ---- the first event
@@ -76,8 +76,8 @@ IfSome-first : (at : ℕ) (xs ys : List Event) → IfSome (slice_get xs 0) (λ e
 IfSome-first at [] ys first second = second
 IfSome-first at (x ∷ xs) ys first second = first
 
-step_first : (w : ℕ) (s : Step) (rest : List Step) (at : ℕ) (found : Option ℕ) (more : List Event)
-    → IfSome (slice_get (cond (is_some found) (option_to_list (option_map (λ hook. event w s at (Halted Pre hook)) found)) (started w s at) ++ more) 0) (λ e. e.at ≡ at)
+step_first : (w : ℕ) (s : Step) (rest : List Step) (at : ℕ) (answer : Option ℕ) (more : List Event)
+    → IfSome (slice_get (cond (is_some answer) (option_to_list (option_map (λ hook. event w s at (Halted Pre hook)) answer)) (start_events w s at) ++ more) 0) (λ e. e.at ≡ at)
 step_first w s rest at None more = refl
 step_first w s rest at (Some hook) more = refl
 
@@ -90,7 +90,7 @@ change_first work w c at = steps_first w (begun (steps_of work c)) at
 
 -- ---- how late it can be
 
-short : (kind : StepKind) (found : Option Outcome) → IfSome found IsBounded → took kind (unwrap_or found default_outcome) ≤ 86400
+short : (kind : StepKind) (answer : Option Outcome) → IfSome answer IsBounded → took kind (unwrap_or answer default_outcome) ≤ 86400
 short kind None h = let less = took_short kind default_outcome in omega arith
 short kind (Some outcome) h = let less = took_short kind outcome in let all = h.short in omega arith
 
@@ -103,7 +103,7 @@ AreShort (s ∷ steps) = ((seconds_of s) ≤ 86400) × AreShort steps
 
 planned_short : (work : Work) (c n : ℕ) (kinds : List StepKind) → IsInRange work.script → AreShort (map (λ p. step_of work c p.0 p.1) (enumerate_from n kinds))
 planned_short work c n [] range = tt
-planned_short work c n (kind ∷ kinds) range = (short kind (given_outcome work.script c n) (range c n), planned_short work c (n + 1) kinds range)
+planned_short work c n (kind ∷ kinds) range = (short kind (stated_outcome work.script c n) (range c n), planned_short work c (n + 1) kinds range)
 
 begun_time : (steps : List Step) → AreShort steps → sum_by step_time (begun steps) ≤ 86400 * length steps
 begun_time [] h = omega arith
@@ -143,10 +143,10 @@ below (x ∷ xs) n q all h =
     (λ e. below xs n q (λ k d less. all (suc k) d (omega arith)) (rw e.0 at h))
     (eqb_tells q x)
 
-pub worker_in_time : (work : Work) (w : ℕ) (changes : List ℕ) → IsWithinLimits work → NamesEachOnce work changes → All (λ e. e.at ≤ last_moment) (worker_events work w changes)
+pub worker_in_time : (work : Work) (w : ℕ) (changes : List ℕ) → IsWithinLimits work → NamesEachOnce work changes → All (λ e. e.at ≤ latest_second) (worker_events work w changes)
 worker_in_time work w changes read named =
     let spans : sum_by (span_of work) changes ≤ max_span * length changes = spans_short work changes read in
     let many : length changes ≤ length work.plan.changes = length-le_from_distinct_below changes (length work.plan.changes) named.once (λ q h. below changes (length work.plan.changes) q named.known h) in
     let few : length work.plan.changes ≤ 10000 = read.few_changes in
-    Rises-at_most moment_of 0 last_moment (worker_events work w changes)
-    (Rises-higher moment_of 0 (0 + sum_by (span_of work) changes) last_moment (worker_events work w changes) (omega arith) (worker_rises work w changes))
+    Rises-at_most lane_time_of 0 latest_second (worker_events work w changes)
+    (Rises-higher lane_time_of 0 (0 + sum_by (span_of work) changes) latest_second (worker_events work w changes) (omega arith) (worker_rises work w changes))

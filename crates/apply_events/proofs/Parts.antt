@@ -14,15 +14,15 @@ abbrev pub RisesFrom : ℕ → List ℕ → Type 0
 RisesFrom low [] = Unit {0}
 RisesFrom low (x ∷ xs) = (low ≤ x) × RisesFrom (x + 1) xs
 
-rises_behind : (x : ℕ) (xs : List ℕ) → IsStrictlyIncreasing (x ∷ xs) → RisesFrom (x + 1) xs
-rises_behind x [] rise = tt
-rises_behind x (y ∷ ys) rise =
+rises_after : (x : ℕ) (xs : List ℕ) → IsStrictlyIncreasing (x ∷ xs) → RisesFrom (x + 1) xs
+rises_after x [] rise = tt
+rises_after x (y ∷ ys) rise =
     let first : x < y = rise 0 (omega arith) in
-    (omega arith, rises_behind y ys (λ k less. let next : suc k + 1 ≡ suc (k + 1) = omega arith in rw next at (rise (suc k) (omega arith))))
+    (omega arith, rises_after y ys (λ k less. let next : suc k + 1 ≡ suc (k + 1) = omega arith in rw next at (rise (suc k) (omega arith))))
 
 pub rises_from_zero : (xs : List ℕ) → IsStrictlyIncreasing xs → RisesFrom 0 xs
 rises_from_zero [] rise = tt
-rises_from_zero (x ∷ xs) rise = (omega arith, rises_behind x xs rise)
+rises_from_zero (x ∷ xs) rise = (omega arith, rises_after x xs rise)
 
 -- ---- as many as there is room for
 

@@ -67,7 +67,7 @@ too_late a b p lt =
     ∙ ap (λ t. is_multiple_of_ten p && t) (and-false (nat_lt a p))
     ∙ and-false (is_multiple_of_ten p)
 
--- the next multiple of ten behind a number
+-- the next multiple of ten after a number
 abbrev pub next_ten : ℕ → ℕ
 next_ten a = (a / 10 + 1) * 10
 

@@ -13,7 +13,7 @@ use Rattle.apply_events.specs.ChangeEvents.{first_time}
 use Rattle.apply_events.specs.Step.{Step, Work, kinds_applied, step_of, steps_of}
 use Rattle.apply_events.specs.StepEvents.{goes_on, seconds_of, step_time}
 
-unhalted : (found : Option ℕ) → is_none found ≡ true → is_some found ≡ false
+unhalted : (answer : Option ℕ) → is_none answer ≡ true → is_some answer ≡ false
 unhalted None none = refl
 unhalted (Some hook) none = absurd (true≢false (sym none))
 
@@ -23,7 +23,7 @@ time_if_on s on =
     let none = (and_parts (is_none (s.halts Pre)) (not s.fails) first.0).0 in
     ap (λ t. cond t 0 (seconds_of s)) (unhalted (s.halts Pre) none)
 
--- the first of some steps takes the time that its outcome says
+-- the first step takes the time that its outcome states
 time_of_first : (work : Work) (c : ℕ) (kinds : List StepKind) → 0 < length kinds → list_all goes_on (take 1 (map (λ p. step_of work c p.0 p.1) (enumerate_from 0 kinds))) ≡ true
     → sum_by step_time (take 1 (map (λ p. step_of work c p.0 p.1) (enumerate_from 0 kinds))) ≡ option_map_or (λ kind. took kind (outcome_of work.script c 0)) (slice_get kinds 0) 0
 time_of_first work c [] some on = absurd (omega arith)

@@ -3,7 +3,7 @@ use Rattle.std.proofs.Common.{◌≡◌, ℕ, zero, suc, ◌+◌, ◌<◌, ◌�
 use Rattle.std.specs.Prelude.{All}
 use Rattle.std.specs.List.Sorted.{IsNonDecreasingBy}
 
--- f is low at least at the first, does not fall from one to the next, and is high at most at the last
+-- f is at least `low` at the first item, never falls, and is at most `high` at the last item
 abbrev pub Rises : {X : Type 0} → (X → ℕ) → (low high : ℕ) → List X → Type 0
 Rises f low high [] = low ≤ high
 Rises f low high (x ∷ xs) = (low ≤ f x) × Rises f (f x) high xs

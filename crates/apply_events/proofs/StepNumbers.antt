@@ -14,9 +14,9 @@ use Rattle.apply_events.specs.declared.what.What.TheVariants.{Halted}
 use Rattle.apply_events.specs.ChangeEvents.{begun, in_turn}
 use Rattle.apply_events.specs.MidStep.{left_of}
 use Rattle.apply_events.specs.Notes.{note_of}
-use Rattle.apply_events.specs.Stages.{behind, events_from, from_stage, halt_after, running}
+use Rattle.apply_events.specs.Stages.{later_events, events_from, from_stage, halt_after, running}
 use Rattle.apply_events.specs.Step.{Step, Work, kinds_applied, step_of, steps_of}
-use Rattle.apply_events.specs.StepEvents.{between, endings, event, goes_on, halts, phase_after, seconds_of, started, step_events, step_time}
+use Rattle.apply_events.specs.StepEvents.{between, endings, event, goes_on, halts, phase_after, seconds_of, start_events, step_events, step_time}
 use Rattle.apply_events.proofs.Rising.{Rises, Rises-append, Rises-higher, Rises-lower, Rises-map_same}
 
 -- the steps are numbered from n on
@@ -47,14 +47,14 @@ AreNumbered-begun n (s ∷ steps) h =
 abbrev pub number_of : Event → ℕ
 number_of e = e.step
 
-halts_rise : (w : ℕ) (s : Step) (phase : Phase) (at : ℕ) (found : Option ℕ) → Rises number_of s.number s.number (option_to_list (option_map (λ hook. event w s at (Halted phase hook)) found))
+halts_rise : (w : ℕ) (s : Step) (phase : Phase) (at : ℕ) (answer : Option ℕ) → Rises number_of s.number s.number (option_to_list (option_map (λ hook. event w s at (Halted phase hook)) answer))
 halts_rise w s phase at None = omega arith
 halts_rise w s phase at (Some hook) = (omega arith, omega arith)
 
 -- what happens before the end, and then the end
-told_rise : (w : ℕ) (s : Step) (at : ℕ) (xs : List (ℕ × What)) → Rises number_of s.number s.number
+emitted_rise : (w : ℕ) (s : Step) (at : ℕ) (xs : List (ℕ × What)) → Rises number_of s.number s.number
     (map (λ (p : ℕ × What). event w s (at + p.0) p.1) xs ++ map (λ what. event w s (at + seconds_of s) what) (endings s) ++ halts w s (phase_after s.fails) (at + seconds_of s))
-told_rise w s at xs =
+emitted_rise w s at xs =
     Rises-append number_of s.number s.number s.number (map (λ (p : ℕ × What). event w s (at + p.0) p.1) xs ++ map (λ what. event w s (at + seconds_of s) what) (endings s)) (halts w s (phase_after s.fails) (at + seconds_of s))
     (Rises-append number_of s.number s.number s.number (map (λ (p : ℕ × What). event w s (at + p.0) p.1) xs) (map (λ what. event w s (at + seconds_of s) what) (endings s))
     (Rises-map_same number_of (λ (p : ℕ × What). event w s (at + p.0) p.1) s.number xs (λ p. refl))
@@ -62,13 +62,13 @@ told_rise w s at xs =
     (halts_rise w s (phase_after s.fails) (at + seconds_of s) (s.halts (phase_after s.fails)))
 
 pub running_rise : (w : ℕ) (s : Step) (at : ℕ) (mid : MidStep) → Rises number_of s.number s.number (running w s at mid)
-running_rise w s at mid = told_rise w s at (left_of (seconds_of s) s.seconds_before s.ran mid)
+running_rise w s at mid = emitted_rise w s at (left_of (seconds_of s) s.seconds_before s.ran mid)
 
 pub step_events_rise : (w : ℕ) (s : Step) (at : ℕ) → Rises number_of s.number s.number (step_events w s at)
 step_events_rise w s at = step_events_rise-at w s at (s.halts Pre)
   where
-    step_events_rise-at : (w : ℕ) (s : Step) (at : ℕ) (found : Option ℕ) → Rises number_of s.number s.number (cond (is_some found) (option_to_list (option_map (λ hook. event w s at (Halted Pre hook)) found)) (started w s at))
-    step_events_rise-at w s at None = (omega arith, told_rise w s at (between s))
+    step_events_rise-at : (w : ℕ) (s : Step) (at : ℕ) (answer : Option ℕ) → Rises number_of s.number s.number (cond (is_some answer) (option_to_list (option_map (λ hook. event w s at (Halted Pre hook)) answer)) (start_events w s at))
+    step_events_rise-at w s at None = (omega arith, emitted_rise w s at (between s))
     step_events_rise-at w s at (Some hook) = (omega arith, omega arith)
 
 pub in_turn_rise : (w n : ℕ) (steps : List Step) (at : ℕ) → AreNumbered n steps → Rises number_of n (n + length steps) (in_turn (step_events w) step_time steps at)
@@ -91,8 +91,8 @@ events_from_rise w n steps at h =
     Rises-higher number_of n (n + length (begun steps)) (n + length steps) (events_from w steps at) (let few : length (begun steps) ≤ length steps = length-begun steps in omega arith)
     (in_turn_rise w n (begun steps) at (AreNumbered-begun n steps h))
 
-behind_rise : (w n : ℕ) (s : Step) (steps : List Step) (at : ℕ) → AreNumbered (n + 1) steps → Rises number_of n (n + suc (length steps)) (behind w s steps at)
-behind_rise w n s steps at h =
+later_rise : (w n : ℕ) (s : Step) (steps : List Step) (at : ℕ) → AreNumbered (n + 1) steps → Rises number_of n (n + suc (length steps)) (later_events w s steps at)
+later_rise w n s steps at h =
     elim (not s.fails && is_none (s.halts PostDone)) as (λ b. Rises number_of n (n + suc (length steps)) (cond b (events_from w steps (at + (seconds_of s))) [])) [
       | true ↦ Rises-lower number_of n (n + 1) (n + suc (length steps)) (events_from w steps (at + (seconds_of s))) (omega arith)
           (let high : n + 1 + length steps ≡ n + suc (length steps) = omega arith in rw (← high) (events_from_rise w (n + 1) steps (at + (seconds_of s)) h))
@@ -100,10 +100,10 @@ behind_rise w n s steps at h =
     ]
 
 after_rise : (w n : ℕ) (s : Step) (steps : List Step) (at : ℕ) (events : List Event) → AreNumbered n (s ∷ steps) → Rises number_of s.number s.number events
-    → Rises number_of n (n + suc (length steps)) (events ++ behind w s steps at)
+    → Rises number_of n (n + suc (length steps)) (events ++ later_events w s steps at)
 after_rise w n s steps at events h own =
     let here : s.number ≡ n = h.0 in
-    Rises-append number_of n n (n + suc (length steps)) events (behind w s steps at) (rw here at own) (behind_rise w n s steps at h.1)
+    Rises-append number_of n n (n + suc (length steps)) events (later_events w s steps at) (rw here at own) (later_rise w n s steps at h.1)
 
 -- the events to come are of the steps that are left
 pub to_come_rise : (w n : ℕ) (left : List Step) (at : ℕ) (stage : Stage) → AreNumbered n left → Rises number_of n (n + length left) (from_stage w left at stage)

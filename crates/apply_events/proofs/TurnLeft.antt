@@ -1,4 +1,4 @@
--- A runner of a change gives the events of a turn first, and stops behind them.
+-- A runner of a change emits the events of a turn first, and stops after them.
 use Rattle.std.proofs.Common.{◌≡◌, ◌≢◌, ℕ, ◌+◌, ◌<◌, ◌≤◌, Bool, true, false, ◌&&◌, List, [], ◌∷◌, ◌++◌, Option, Some, None, cond, drop, length, map, take, refl, sym, ap, ◌∙◌, subst, ⊎_elim, inl, inr, arith, eqb, leb, ltb, eq-eqb, ne_eqb, lt-ltb, le-ltb}
 use Rattle.std.specs.Prelude.{is_some, option_map, option_to_list}
 use Rattle.std.specs.List.{Contains, enumerate_from, list_all}
@@ -15,7 +15,7 @@ use Rattle.apply_events.specs.ChangeEvents.{begun, in_turn}
 use Rattle.apply_events.specs.Course.{GivesNext, is_beginning}
 use Rattle.apply_events.specs.Stages.{events_from}
 use Rattle.apply_events.specs.Step.{Step, Work, kinds_applied, step_of, steps_of}
-use Rattle.apply_events.specs.StepEvents.{event, goes_on, started, step_events, step_time}
+use Rattle.apply_events.specs.StepEvents.{event, goes_on, start_events, step_events, step_time}
 use Rattle.apply_events.specs.BeforeStep.{before_step, begins_with, stops_at}
 use Rattle.apply_events.specs.Waits.Turn.{single, turns, whole}
 use Rattle.apply_events.proofs.StepNumbers.{AreNumbered, AreNumbered-begun, AreNumbered-drop, steps_of-numbered}
@@ -48,8 +48,8 @@ beginning_stops n e es begins step later =
     ∙ ap (λ t. t && list_all (λ (f : Event). leb n f.step) es) (eq-eqb e.step n step)
     ∙ all_in (λ (f : Event). leb n f.step) es (λ f there. le-leb n f.step (later f there))
 
-first_stops : (lane : ℕ) (s : Step) (at : ℕ) (more : List Event) (found : Option ℕ) → ((e : Event) → Contains (cond (is_some found) (option_to_list (option_map (λ hook. event lane s at (Halted Pre hook)) found)) (started lane s at) ++ more) e → s.number ≤ e.step)
-    → stops_at s.number (cond (is_some found) (option_to_list (option_map (λ hook. event lane s at (Halted Pre hook)) found)) (started lane s at) ++ more) ≡ true
+first_stops : (lane : ℕ) (s : Step) (at : ℕ) (more : List Event) (answer : Option ℕ) → ((e : Event) → Contains (cond (is_some answer) (option_to_list (option_map (λ hook. event lane s at (Halted Pre hook)) answer)) (start_events lane s at) ++ more) e → s.number ≤ e.step)
+    → stops_at s.number (cond (is_some answer) (option_to_list (option_map (λ hook. event lane s at (Halted Pre hook)) answer)) (start_events lane s at) ++ more) ≡ true
 first_stops lane s at more None h = beginning_stops s.number (event lane s at Start) _ refl refl (λ e there. h e (in_tail (event lane s at Start) _ e there))
 first_stops lane s at more (Some hook) h = beginning_stops s.number (event lane s at (Halted Pre hook)) more refl refl (λ e there. h e (in_tail (event lane s at (Halted Pre hook)) more e there))
 
@@ -103,8 +103,8 @@ rest_of lane at next t = in_turn (step_events lane) step_time (cond t (begun (ne
 
 rest_high : (lane at : ℕ) (next : Step) → next.number ≡ 1 → (t : Bool) (e : Event) → Contains (rest_of lane at next t) e → 1 ≤ e.step
 rest_high lane at next one true e there =
-    let found = step_of_event lane (begun (next ∷ [])) at e there in
-    let number = found.2 in let low = (numbered_in 1 (begun (next ∷ [])) found.0 (AreNumbered-begun 1 (next ∷ []) (one, tt)) found.1).0 in omega arith
+    let answer = step_of_event lane (begun (next ∷ [])) at e there in
+    let number = answer.2 in let low = (numbered_in 1 (begun (next ∷ [])) answer.0 (AreNumbered-begun 1 (next ∷ []) (one, tt)) answer.1).0 in omega arith
 rest_high lane at next one false e there = absurd (not_in_none e there)
 
 rest_stops : (lane at : ℕ) (next : Step) → next.number ≡ 1 → (t : Bool) → stops_at 1 (rest_of lane at next t) ≡ true
@@ -152,7 +152,7 @@ turn_begins w lane at turn known = turn_begins_of w lane at turn.change turn (tu
 abbrev rest_test : ℕ → Event → List Event → Bool
 rest_test end e es = is_beginning e.what && eqb e.step end && list_all (λ (f : Event). leb end f.step) es
 
--- nothing is left of the turn where a step behind it begins
+-- no event of the turn is left once a step after it begins
 pub stopped : (end : ℕ) (es : List Event) → stops_at end es ≡ true → begins_with end es ≡ true → before_step end es ≡ []
 stopped end [] stops begins = refl
 stopped end (e ∷ es) stops begins = begin_is (is_beginning e.what) begins

@@ -1,4 +1,4 @@
--- A step that has started: what it leaves behind when it ends.
+-- A step that has started, and the state after its end.
 use Rattle.std.proofs.Common.{◌≡◌, ℕ, suc, ◌+◌, Bool, true, false, not, ◌&&◌, List, [], ◌∷◌, drop, take, Option, Some, None, refl, ap, ◌∙◌, arith, add-one}
 use Rattle.std.specs.Prelude.{is_none, sum_by}
 use Rattle.std.specs.List.{list_all}
@@ -9,12 +9,12 @@ use Rattle.apply_events.specs.declared.mid_step.MidStep.{MidStep}
 use Rattle.apply_events.specs.declared.stage.Stage.{Stage}
 use Rattle.apply_events.specs.declared.stage.Stage.TheVariants.{Before, Running, Noting, Halting, Over}
 use Rattle.apply_events.specs.ChangeEvents.{begun}
-use Rattle.apply_events.specs.Stages.{IsUnderWay, is_on_course, is_reached, time_behind}
+use Rattle.apply_events.specs.Stages.{IsUnderWay, is_on_course, is_reached, time_before}
 use Rattle.apply_events.specs.Step.{Step}
 use Rattle.apply_events.specs.StepEvents.{goes_on, phase_after, seconds_of, step_time}
 use Rattle.apply_events.proofs.Begun.{all_more, and_both, and_first, and_second, begun_last, take_more}
 
-none_of : {X : Type 0} (found : Option X) → is_none found ≡ true → found ≡ None
+none_of : {X : Type 0} (answer : Option X) → is_none answer ≡ true → answer ≡ None
 none_of None h = refl
 none_of (Some x) h = cc
 
@@ -29,8 +29,8 @@ time_more steps k s rest h =
 
 -- a hook halts before it
 pub halted_time : (steps : List Step) (k : ℕ) (s : Step) (rest : List Step) (begin at hook : ℕ) (stage : Stage) → drop k steps ≡ s ∷ rest → stage ≡ Before
-    → is_on_course steps k stage ≡ true → at ≡ begin + time_behind steps k stage → s.halts Pre ≡ Some hook
-    → at ≡ begin + time_behind steps k Over
+    → is_on_course steps k stage ≡ true → at ≡ begin + time_before steps k stage → s.halts Pre ≡ Some hook
+    → at ≡ begin + time_before steps k Over
 halted_time steps k s rest begin at hook stage h before on time halts =
     let all : list_all goes_on (take k steps) ≡ true = rw before at on in
     let now : at ≡ begin + sum_by step_time (take k steps) = rw before at time in
@@ -46,37 +46,37 @@ pub started_course : (steps : List Step) (k : ℕ) (s : Step) (rest : List Step)
 started_course steps k s rest mid stage h before on starts =
     and_both (list_all goes_on (take k steps)) (is_reached (drop k steps) (Running mid)) (rw before at on) (rw (h, starts) refl)
 
-pub started_time : (steps : List Step) (k begin at : ℕ) (mid : MidStep) (stage : Stage) → stage ≡ Before → at ≡ begin + time_behind steps k stage → at ≡ begin + time_behind steps k (Running mid)
+pub started_time : (steps : List Step) (k begin at : ℕ) (mid : MidStep) (stage : Stage) → stage ≡ Before → at ≡ begin + time_before steps k stage → at ≡ begin + time_before steps k (Running mid)
 started_time steps k begin at mid stage before time = rw before at time
 
 -- ---- a step that has started
 
 pub under_way-running : (steps : List Step) (k : ℕ) (s : Step) (begin at : ℕ) (mid : MidStep) (stage : Stage) → drop k steps ≡ s ∷ drop (k + 1) steps → stage ≡ Running mid
-    → is_on_course steps k stage ≡ true → at ≡ begin + time_behind steps k stage → IsUnderWay steps k s begin at
+    → is_on_course steps k stage ≡ true → at ≡ begin + time_before steps k stage → IsUnderWay steps k s begin at
 under_way-running steps k s begin at mid stage h is on time =
     let both : is_on_course steps k (Running mid) ≡ true = rw is at on in
     record {
       step = h;
       reached = and_first (list_all goes_on (take k steps)) (is_reached (drop k steps) (Running mid)) both;
-      started = none_of (s.halts Pre) (rw h at (and_second (list_all goes_on (take k steps)) (is_reached (drop k steps) (Running mid)) both));
+      unhalted = none_of (s.halts Pre) (rw h at (and_second (list_all goes_on (take k steps)) (is_reached (drop k steps) (Running mid)) both));
       time = rw is at time;
     }
 
 pub under_way-noting : (steps : List Step) (k : ℕ) (s : Step) (begin at : ℕ) (stage : Stage) → drop k steps ≡ s ∷ drop (k + 1) steps → stage ≡ Noting
-    → is_on_course steps k stage ≡ true → at ≡ begin + time_behind steps k stage → IsUnderWay steps k s begin at
+    → is_on_course steps k stage ≡ true → at ≡ begin + time_before steps k stage → IsUnderWay steps k s begin at
 under_way-noting steps k s begin at stage h is on time =
     let both : is_on_course steps k Noting ≡ true = rw is at on in
     record {
       step = h;
       reached = and_first (list_all goes_on (take k steps)) (is_reached (drop k steps) Noting) both;
-      started = none_of (s.halts Pre) (rw h at (and_second (list_all goes_on (take k steps)) (is_reached (drop k steps) Noting) both));
+      unhalted = none_of (s.halts Pre) (rw h at (and_second (list_all goes_on (take k steps)) (is_reached (drop k steps) Noting) both));
       time = rw is at time;
     }
 
 -- its note comes next
 pub noting_course : (steps : List Step) (k : ℕ) (s : Step) (begin at : ℕ) → IsUnderWay steps k s begin at → is_on_course steps k Noting ≡ true
 noting_course steps k s begin at way =
-    and_both (list_all goes_on (take k steps)) (is_reached (drop k steps) Noting) way.reached (rw (way.step, way.started) refl)
+    and_both (list_all goes_on (take k steps)) (is_reached (drop k steps) Noting) way.reached (rw (way.step, way.unhalted) refl)
 
 stops : (fails : Bool) (halts : Phase → Option ℕ) (hook : ℕ) → halts (phase_after fails) ≡ Some hook → ((true && not fails) && is_none (halts PostDone)) ≡ false
 stops true halts hook h = refl
@@ -86,26 +86,26 @@ stops false halts hook h = rw h refl
 pub halting_course : (steps : List Step) (k : ℕ) (s : Step) (begin at hook : ℕ) → IsUnderWay steps k s begin at → s.halts (phase_after s.fails) ≡ Some hook
     → is_on_course steps k (Halting hook) ≡ true
 halting_course steps k s begin at hook way halts =
-    and_both (list_all goes_on (take k steps)) (is_reached (drop k steps) (Halting hook)) way.reached (rw (way.step, way.started, stops s.fails s.halts hook halts) refl)
+    and_both (list_all goes_on (take k steps)) (is_reached (drop k steps) (Halting hook)) way.reached (rw (way.step, way.unhalted, stops s.fails s.halts hook halts) refl)
 
 -- it is over, and no other follows
-over_time : (steps : List Step) (k : ℕ) (s : Step) (begin at : ℕ) → IsUnderWay steps k s begin at → goes_on s ≡ false → at + (seconds_of s) ≡ begin + time_behind steps (k + 1) Over
+over_time : (steps : List Step) (k : ℕ) (s : Step) (begin at : ℕ) → IsUnderWay steps k s begin at → goes_on s ≡ false → at + (seconds_of s) ≡ begin + time_before steps (k + 1) Over
 over_time steps k s begin at way ends =
-    let took : step_time s ≡ (seconds_of s) = rw way.started refl in
+    let took : step_time s ≡ (seconds_of s) = rw way.unhalted refl in
     let now : at ≡ begin + sum_by step_time (take k steps) = way.time in
     let whole : sum_by step_time (begun steps) ≡ sum_by step_time (take (suc k) steps) = ap (λ ss. sum_by step_time ss) (begun_last steps k s (drop (k + 1) steps) way.step way.reached ends) in
     let more : sum_by step_time (take (suc k) steps) ≡ sum_by step_time (take k steps) + step_time s = time_more steps k s (drop (k + 1) steps) way.step in
     omega arith
 
 pub halted_over : (steps : List Step) (k : ℕ) (s : Step) (begin at hook : ℕ) (stage : Stage) → drop k steps ≡ s ∷ drop (k + 1) steps → stage ≡ Halting hook
-    → is_on_course steps k stage ≡ true → at ≡ begin + time_behind steps k stage → at + (seconds_of s) ≡ begin + time_behind steps (k + 1) Over
+    → is_on_course steps k stage ≡ true → at ≡ begin + time_before steps k stage → at + (seconds_of s) ≡ begin + time_before steps (k + 1) Over
 halted_over steps k s begin at hook stage h is on time =
     let both : is_on_course steps k (Halting hook) ≡ true = rw is at on in
     let reached : (is_none (s.halts Pre) && not (goes_on s)) ≡ true = rw h at (and_second (list_all goes_on (take k steps)) (is_reached (drop k steps) (Halting hook)) both) in
     over_time steps k s begin at (record {
       step = h;
       reached = and_first (list_all goes_on (take k steps)) (is_reached (drop k steps) (Halting hook)) both;
-      started = none_of (s.halts Pre) (and_first (is_none (s.halts Pre)) (not (goes_on s)) reached);
+      unhalted = none_of (s.halts Pre) (and_first (is_none (s.halts Pre)) (not (goes_on s)) reached);
       time = rw is at time;
     }) (not_true (goes_on s) (and_second (is_none (s.halts Pre)) (not (goes_on s)) reached))
   where
@@ -113,8 +113,8 @@ halted_over steps k s begin at hook stage h is on time =
     not_true true h = cc
     not_true false h = refl
 
-pub failed_over : (steps : List Step) (k : ℕ) (s : Step) (begin at : ℕ) → IsUnderWay steps k s begin at → s.fails ≡ true → at + (seconds_of s) ≡ begin + time_behind steps (k + 1) Over
-failed_over steps k s begin at way fails = over_time steps k s begin at way (rw (way.started, fails) refl)
+pub failed_over : (steps : List Step) (k : ℕ) (s : Step) (begin at : ℕ) → IsUnderWay steps k s begin at → s.fails ≡ true → at + (seconds_of s) ≡ begin + time_before steps (k + 1) Over
+failed_over steps k s begin at way fails = over_time steps k s begin at way (rw (way.unhalted, fails) refl)
 
 completes : (fails : Bool) (halts : Phase → Option ℕ) → halts (phase_after fails) ≡ None → fails ≡ false → ((true && not fails) && is_none (halts PostDone)) ≡ true
 completes true halts h e = cc
@@ -124,11 +124,11 @@ completes false halts h e = rw h refl
 pub next_course : (steps : List Step) (k : ℕ) (s : Step) (begin at : ℕ) → IsUnderWay steps k s begin at → s.halts (phase_after s.fails) ≡ None → s.fails ≡ false
     → is_on_course steps (k + 1) Before ≡ true
 next_course steps k s begin at way halts goes =
-    rw add-one (all_more steps k s (drop (k + 1) steps) way.step way.reached (rw (way.started, completes s.fails s.halts halts goes) refl))
+    rw add-one (all_more steps k s (drop (k + 1) steps) way.step way.reached (rw (way.unhalted, completes s.fails s.halts halts goes) refl))
 
-pub next_time : (steps : List Step) (k : ℕ) (s : Step) (begin at : ℕ) → IsUnderWay steps k s begin at → at + (seconds_of s) ≡ begin + time_behind steps (k + 1) Before
+pub next_time : (steps : List Step) (k : ℕ) (s : Step) (begin at : ℕ) → IsUnderWay steps k s begin at → at + (seconds_of s) ≡ begin + time_before steps (k + 1) Before
 next_time steps k s begin at way =
-    let took : step_time s ≡ (seconds_of s) = rw way.started refl in
+    let took : step_time s ≡ (seconds_of s) = rw way.unhalted refl in
     let now : at ≡ begin + sum_by step_time (take k steps) = way.time in
     let more : sum_by step_time (take (suc k) steps) ≡ sum_by step_time (take k steps) + step_time s = time_more steps k s (drop (k + 1) steps) way.step in
     let place : take (k + 1) steps ≡ take (suc k) steps = rw add-one refl in

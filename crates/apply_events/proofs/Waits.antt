@@ -1,4 +1,4 @@
--- Turns that lanes take up, and their time line.
+-- Turns that lanes start, and their time line.
 pub mod AllTurns
 pub mod AtStart
 pub mod Building
@@ -8,7 +8,7 @@ pub mod Earliest
 pub mod Ends
 pub mod FewEvents
 pub mod Followers
-pub mod Found
+pub mod Located
 pub mod Free
 pub mod LanesInCode
 pub mod LanesRise
@@ -28,8 +28,8 @@ pub mod Scheduling
 pub mod Shares
 pub mod Standing
 pub mod Startable
-pub mod TakenUp
-pub mod Told
+pub mod StartedTurns
+pub mod Emitted
 pub mod TurnEvents
 pub mod TurnNumbers
 pub mod TurnSteps

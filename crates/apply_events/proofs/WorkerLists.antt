@@ -1,4 +1,4 @@
--- The events of a worker: each is of a step that the plan has, and those of one change more come last.
+-- The events of a worker. Each is of a step of the plan, and the events of a further change come last.
 use Rattle.std.proofs.Common.{◌≡◌, ℕ, ◌+◌, All, true, false, List, [], ◌∷◌, ◌++◌, cond, length, map, Option, Some, None, ap, sym, ◌∙◌, append_assoc, arith}
 use Rattle.std.specs.Prelude.{is_some, option_map, option_to_list, sum_by}
 use Rattle.std.specs.List.{enumerate_from}
@@ -14,7 +14,7 @@ use Rattle.apply_events.specs.declared.what.What.TheVariants.{Halted, Start}
 use Rattle.apply_events.specs.ChangeEvents.{begun, change_events, in_turn, span_of}
 use Rattle.apply_events.specs.Fits.{HasStep, IsApplied}
 use Rattle.apply_events.specs.Step.{Step, Work, kinds_applied, step_of, steps_of}
-use Rattle.apply_events.specs.StepEvents.{between, endings, event, goes_on, halts, phase_after, seconds_of, started, step_events, step_time}
+use Rattle.apply_events.specs.StepEvents.{between, endings, event, goes_on, halts, phase_after, seconds_of, start_events, step_events, step_time}
 use Rattle.apply_events.specs.WorkerEvents.{worker_events}
 use Rattle.apply_events.proofs.AppliedSteps.{applied_planned}
 
@@ -28,12 +28,12 @@ all-map : {X : Type 0} (P : Event → Type 0) (g : X → Event) (xs : List X) �
 all-map P g [] h = All-nil P
 all-map P g (x ∷ xs) h = All-cons P (g x) (map g xs) (h x) (all-map P g xs h)
 
-all-halts : (P : Event → Type 0) (w : ℕ) (s : Step) (phase : Phase) (at : ℕ) (found : Option ℕ) → Suits P w s → All P (option_to_list (option_map (λ hook. event w s at (Halted phase hook)) found))
+all-halts : (P : Event → Type 0) (w : ℕ) (s : Step) (phase : Phase) (at : ℕ) (answer : Option ℕ) → Suits P w s → All P (option_to_list (option_map (λ hook. event w s at (Halted phase hook)) answer))
 all-halts P w s phase at None h = All-nil P
 all-halts P w s phase at (Some hook) h = All-cons P (event w s at (Halted phase hook)) [] (h at (Halted phase hook)) (All-nil P)
 
-all-started : (P : Event → Type 0) (w : ℕ) (s : Step) (at : ℕ) → Suits P w s → All P (started w s at)
-all-started P w s at h =
+all-start_events : (P : Event → Type 0) (w : ℕ) (s : Step) (at : ℕ) → Suits P w s → All P (start_events w s at)
+all-start_events P w s at h =
     let progress = map (λ (p : ℕ × What). event w s (at + p.0) p.1) (between s) in
     let ends = map (λ what. event w s (at + (seconds_of s)) what) (endings s) in
     let halt = halts w s (phase_after s.fails) (at + (seconds_of s)) in
@@ -47,8 +47,8 @@ all-started P w s at h =
 all-step : (P : Event → Type 0) (w : ℕ) (s : Step) (at : ℕ) → Suits P w s → All P (step_events w s at)
 all-step P w s at h = all-step-at P w s at (s.halts Pre) h
   where
-    all-step-at : (P : Event → Type 0) (w : ℕ) (s : Step) (at : ℕ) (found : Option ℕ) → Suits P w s → All P (cond (is_some found) (option_to_list (option_map (λ hook. event w s at (Halted Pre hook)) found)) (started w s at))
-    all-step-at P w s at None h = all-started P w s at h
+    all-step-at : (P : Event → Type 0) (w : ℕ) (s : Step) (at : ℕ) (answer : Option ℕ) → Suits P w s → All P (cond (is_some answer) (option_to_list (option_map (λ hook. event w s at (Halted Pre hook)) answer)) (start_events w s at))
+    all-step-at P w s at None h = all-start_events P w s at h
     all-step-at P w s at (Some hook) h = all-halts P w s Pre at (Some hook) h
 
 -- ---- the steps of a change are those that are applied

@@ -1,9 +1,10 @@
--- Which events are told as diagnostics.
+-- The events that a stream shows as diagnostics.
 use Rattle.std.specs.Prelude.{Bool, true, false}
 use Rattle.apply_events.specs.declared.what.What.{What}
 use Rattle.apply_events.specs.declared.what.What.TheVariants.{ErrorNote, WarnNote, Halted}
 
--- an error, a warning and a halt are notes, which Terraform tells as diagnostics; all else is told by a hook's message
+-- The event is an error, a warning or a halt. Terraform shows these as diagnostics, and all other
+-- events as hook messages.
 abbrev pub is_note : What → Bool
 is_note ErrorNote = true
 is_note WarnNote = true

@@ -1,4 +1,4 @@
--- Events that can happen, with a plan and a script, under some hooks.
+-- The events that can happen with a plan and a script, whatever the hooks answer.
 use Rattle.std.specs.Prelude.{ℕ, ◌<◌, ◌≤◌, ◌==◌, length, slice_get, Bool, true, false, ◌&&◌, not, nat_lt, IsTrue}
 use Rattle.std.specs.List.{list_any}
 use Rattle.std.specs.Option.{option_map_or}
@@ -17,38 +17,38 @@ use Rattle.apply_events.specs.declared.what.What.TheVariants.{Start, Progress, C
 use Rattle.apply_events.specs.ProgressTimes.{progress_times}
 use Rattle.apply_events.specs.Step.{has_warning, kinds_applied, kinds_of}
 
--- the greatest moment of an event, in seconds: 10,000 changes of two steps, each of a day
-abbrev pub last_moment : ℕ
-last_moment = 1728000000
+-- The greatest second of an event: 10,000 changes of two steps, each of a day.
+abbrev pub latest_second : ℕ
+latest_second = 1728000000
 
--- the longest time between the begin of a change and its end, in seconds: two steps, each of a day
+-- The longest span of a change, in seconds: two steps, each of a day.
 abbrev pub max_span : ℕ
 max_span = 172800
 
--- the plan has step k of change c
+-- The plan has step k of change c.
 abbrev pub HasStep : SavedPlan → (c k : ℕ) → Type 0
 HasStep plan c k = k < length (kinds_of plan c)
 
--- it is applied: no step of the change up to it is skipped
+-- Step k of change c is applied: the script skips no step of the change up to it.
 abbrev pub IsApplied : SavedPlan → OutcomeMap → (c k : ℕ) → Type 0
 IsApplied plan script c k = k < length (kinds_applied plan script c)
 
--- the event is of the plan, which has its step, and it comes in time
+-- The plan has the step of the event, and the event comes in time.
 pub record IsOfPlan (plan : SavedPlan) (event : Event) : Type 0 where
   pub has_step : HasStep plan event.change event.step
-  pub in_time : event.at ≤ last_moment
+  pub in_time : event.at ≤ latest_second
 
--- hooks may be asked in the phase, of a step that fails or does not
+-- Hooks are asked in the phase about a step that fails, or does not.
 abbrev pub may_be_asked : (fails : Bool) → Phase → Bool
 may_be_asked fails Pre = true
 may_be_asked fails PostDone = not fails
 may_be_asked fails PostFailed = fails
 
--- provisioner i of a step with that outcome runs, and passes the test
+-- Provisioner i of a step with that outcome runs, and passes the test.
 abbrev pub runs : Outcome → (i : ℕ) → (Provisioner → Bool) → Bool
 runs outcome i test = option_map_or test (slice_get (ran outcome.provisioners) i) false
 
--- it can happen to a step of that kind with that outcome
+-- A step of that kind with that outcome can have the event.
 abbrev pub can_happen : StepKind → Outcome → What → Bool
 can_happen kind outcome Start = true
 can_happen kind outcome (Progress seconds) = list_any (λ time. time == seconds) (progress_times (took kind outcome))
@@ -63,13 +63,13 @@ can_happen kind outcome (ProvisionOutput i line) = runs outcome i (λ provisione
 can_happen kind outcome (ProvisionComplete i) = runs outcome i (λ provisioner. not (has_failed provisioner))
 can_happen kind outcome (ProvisionErrored i) = runs outcome i has_failed
 
--- the event can happen to its step, which is applied
+-- The step of the event is applied, and its outcome allows the event.
 abbrev pub happens : SavedPlan → OutcomeMap → Event → Bool
 happens plan script event =
     option_map_or (λ kind. can_happen kind (outcome_of script event.change event.step) event.what)
     (slice_get (kinds_applied plan script event.change) event.step) false
 
--- the event can happen; the worker is not looked at
+-- The event can happen. The worker does not matter.
 pub record Fits (plan : SavedPlan) (script : OutcomeMap) (event : Event) : Type 0 where
   pub of_plan : IsOfPlan plan event
   pub happens : IsTrue (happens plan script event)

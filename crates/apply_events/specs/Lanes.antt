@@ -1,4 +1,4 @@
--- Changes under way at once, in lanes.
+-- Changes under way at the same time, in lanes.
 use Rattle.std.specs.Prelude.{◌≤◌, ℕ}
 pub mod Dealing
 pub mod Lane
@@ -11,7 +11,7 @@ pub mod Steady
 pub mod TimeLine
 pub mod ToCome
 
--- so many lanes may be asked for
+-- The number of lanes is allowed.
 pub record AreLanes (lanes : ℕ) : Type 0 where
   pub some : 1 ≤ lanes
   pub few : lanes ≤ 64

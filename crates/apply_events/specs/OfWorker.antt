@@ -1,7 +1,7 @@
--- The part of a list of events that one worker has.
+-- The events of one worker in a list.
 use Rattle.std.specs.Prelude.{ℕ, ◌==◌, List, filter}
 use Rattle.apply_events.specs.declared.event.Event.{Event}
 
--- the events that name the worker, in order
+-- The events that name the worker, in order.
 abbrev pub of_worker : ℕ → List Event → List Event
 of_worker worker events = filter (λ event. event.worker == worker) events

@@ -1,28 +1,29 @@
--- Numbers that are dealt out to lists, each once.
+-- Numbers that are dealt to lists, each once.
 use Rattle.std.specs.Prelude.{◌≡◌, ℕ, zero, suc, ◌<◌, ◌==◌, List, [], ◌∷◌, ◌++◌, All, count_by, length, nat_lt, sum_by, if◌then◌else◌}
 use Rattle.std.specs.List.Sorted.{IsStrictlyIncreasing}
 
--- in how many places of a list the number stands
+-- How often the number stands in a list.
 abbrev pub count_of : ℕ → List ℕ → ℕ
 count_of number list = count_by (λ other. other == number) list
 
--- in how many places of some lists it stands
+-- How often the number stands in some lists together.
 abbrev pub places : ℕ → List (List ℕ) → ℕ
 places number lists = sum_by (count_of number) lists
 
--- a strictly increasing list for each worker. Each number below the limit stands in one place of one list, and no other
--- number does
+-- A strictly increasing list for each worker. Each number below the limit stands once in one list,
+-- and no other number stands in any.
 pub record IsPartition (workers limit : ℕ) (lists : List (List ℕ)) : Type 0 where
   pub count : length lists ≡ workers
   pub rising : All IsStrictlyIncreasing lists
   pub once : (number : ℕ) → places number lists ≡ (if nat_lt number limit then 1 else 0)
 
--- each worker stands once among those that are named, and nobody else does
+-- Each worker is named once, and nobody else is.
 pub record NamesEachWorkerOnce (workers : ℕ) (named : List ℕ) : Type 0 where
   pub count : length named ≡ workers
   pub once : (worker : ℕ) → worker < workers → count_of worker named ≡ 1
 
--- the numbers below m that fall to a worker, in order, where each number falls to someone
+-- The numbers below m that a worker gets, in order. `falls_to` names the worker who gets each
+-- number.
 abbrev pub numbers_of : (falls_to : ℕ → ℕ) → (worker m : ℕ) → List ℕ
 numbers_of falls_to worker zero = []
 numbers_of falls_to worker (suc m) =

@@ -1,4 +1,4 @@
--- What contracts see of a runner: its course, and the events that are still to come.
+-- What contracts see of a runner: its course, and the events still to come.
 use Rattle.std.specs.Prelude.{List, drop}
 use Rattle.apply_hooks.specs.Registry.{rules_of}
 use Rattle.apply_events.specs.declared.event.Event.{Event}
@@ -7,6 +7,7 @@ use Rattle.apply_events.specs.Course.{Course}
 use Rattle.apply_events.specs.Stages.{from_stage}
 use Rattle.apply_events.specs.Step.{Step, steps_of}
 
+-- The course of a runner.
 abbrev pub course_of : {a b : _} {g : _} → Runner a b g → Course
 course_of r = record {
   work = record { plan = r.plan.now; script = r.script.now; hooks = rules_of r.registry.now };
@@ -15,10 +16,10 @@ course_of r = record {
   begin = r.begin;
 }
 
--- the steps of its change from the one at hand on
+-- The steps of the change from the current step on.
 abbrev pub left_of : {a b : _} {g : _} → Runner a b g → List Step
 left_of r = drop r.step (steps_of (course_of r).work r.change)
 
--- the events that are still to come
+-- The events still to come.
 abbrev pub to_come : {a b : _} {g : _} → Runner a b g → List Event
 to_come r = from_stage r.worker (left_of r) r.at r.stage

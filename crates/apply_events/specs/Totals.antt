@@ -1,4 +1,4 @@
--- How many steps were completed, failed and halted.
+-- The totals of an apply.
 use Rattle.std.specs.Prelude.{◌+◌, List, count_by, Bool, true, false, ◌&&◌, slice_get}
 use Rattle.std.specs.Option.{option_map_or}
 use Rattle.apply_model.specs.declared.plan.step_kind.StepKind.{StepKind}
@@ -11,23 +11,27 @@ use Rattle.apply_events.specs.declared.what.What.{What}
 use Rattle.apply_events.specs.declared.what.What.TheVariants.{Complete, Errored, Halted}
 use Rattle.apply_events.specs.Step.{kinds_of}
 
+-- The event completes a step.
 abbrev pub is_complete : What → Bool
 is_complete (Complete seconds) = true
 is_complete _ = false
 
+-- The event is the failure of a step.
 abbrev pub is_errored : What → Bool
 is_errored (Errored seconds) = true
 is_errored _ = false
 
+-- The event is a halt.
 abbrev pub is_halted : What → Bool
 is_halted (Halted phase hook) = true
 is_halted _ = false
 
--- a step of that kind completes
+-- The event completes a step of that kind.
 abbrev pub completes : SavedPlan → StepKind → Event → Bool
 completes plan kind event =
     is_complete event.what && option_map_or (is_kind kind) (slice_get (kinds_of plan event.change) event.step) false
 
+-- The totals of some events.
 abbrev pub totals_of : SavedPlan → List Event → Counts
 totals_of plan events = record {
   added = count_by (completes plan Create) events;
@@ -37,7 +41,7 @@ totals_of plan events = record {
   halted = count_by (λ event. is_halted event.what) events;
 }
 
--- number by number
+-- The sums of the totals, number by number.
 abbrev pub plus : Counts → Counts → Counts
 plus first second = record {
   added = first.added + second.added;

@@ -5,7 +5,8 @@ ghost use Rattle.apply_events.specs.Step.{kinds_applied};
 
 use apply_model::{Plan, Script, StepKind};
 
-/// The steps of a change before the first that the script skips: two at most, in the order in which they are applied.
+/// The steps of a change before the first that the script skips, in the order in which they are
+/// applied. There are two at most.
 pub(crate) fn applied_steps<'a>(plan: &'a Plan, script: &Script, change: u32) -> &'a [StepKind]
     requires { change < length plan.now.changes }
     ensures steps { result.now ≡ kinds_applied plan.now script.now change }
@@ -18,7 +19,7 @@ pub(crate) fn applied_steps<'a>(plan: &'a Plan, script: &Script, change: u32) ->
     }
 }
 
-/// What the step of that number does, if there is one.
+/// The kind of the step of that number. `None` where there is no such step.
 pub(crate) fn kind_at(steps: &[StepKind], step: u8) -> Option<StepKind>
     ensures { result ≡ slice_get steps.now step }
 {

@@ -1,4 +1,4 @@
-//! How many steps were completed, failed and halted.
+//! The totals of an apply.
 
 ghost use Rattle.std.specs.Prelude.{◌≡◌, ◌<◌, ◌∷◌, []};
 ghost use Rattle.apply_events.specs.Fits.{HasStep};
@@ -7,25 +7,26 @@ use crate::event::Event;
 use crate::what::What;
 use apply_model::{Plan, StepKind};
 
-/// How many steps were completed, by kind, and how many failed or were halted. A read that completes is counted nowhere.
+/// The steps that completed, by kind, the steps that failed, and the halts. A completed read is not
+/// counted.
 #[derive(Clone, Copy, Debug, PartialEq, Eq)]
 pub struct Counts {
-    /// The objects that were made.
+    /// Objects created.
     pub added: u64,
-    /// The objects that were changed in place.
+    /// Objects changed in place.
     pub changed: u64,
-    /// The objects that were destroyed.
+    /// Objects destroyed.
     pub removed: u64,
-    /// The steps that failed.
+    /// Steps that failed.
     pub failed: u64,
-    /// The halts by a hook.
+    /// Halts by a hook.
     pub halted: u64,
 }
 
 impl Counts {
     ghost use Rattle.apply_events.specs.Totals.{plus, totals_of};
 
-    /// Nothing was counted yet.
+    /// All totals are 0.
     pub fn new() -> Counts
         ensures { result ≡ record { added = 0; changed = 0; removed = 0; failed = 0; halted = 0 } }
     {
@@ -59,7 +60,7 @@ impl Counts {
             }
             What::Errored(_) => self.failed += 1,
             What::Halted { .. } => self.halted += 1,
-            // Nothing else is counted.
+            // No other event is counted.
             _ => {}
         }
     }

@@ -1,4 +1,4 @@
-//! Whether an event can happen.
+//! Tests whether an event can happen.
 
 ghost use Rattle.std.specs.Prelude.{◌≡◌, ◌↔◌, ◌==◌, false, length, nat_lt, not, slice_get, IsTrue};
 ghost use Rattle.std.specs.List.{list_any};
@@ -10,21 +10,22 @@ ghost use Rattle.apply_events.specs.ProgressTimes.{progress_times};
 
 use crate::applied::{applied_steps, kind_at};
 use crate::event::{Event, LATEST};
-use crate::provisioners_that_run::that_ran;
+use crate::running_provisioners::running_provisioner;
 use crate::step_facts::StepFacts;
 use crate::what::What;
 use apply_hooks::{MAX_HOOKS, Phase};
 use apply_model::{Plan, Provisioner, Script, StepKind};
 
-/// Whether the event can happen under some hooks: the plan has its step, the script skips no step of its change up to it,
-/// `at` is `LATEST` at most, and `what` can happen to a step with that outcome. The worker is not looked at.
+/// Whether the event can happen, whatever the hooks answer. The plan has its step, the script skips
+/// no step of the change up to it, and `at` is at most `LATEST`. A step with that outcome can have
+/// an event of that kind. The worker does not matter.
 pub fn fits(plan: &Plan, script: &Script, event: &Event) -> bool
     ensures { IsTrue result ↔ Fits plan.now script.now event.now }
 {
     is_of_plan(plan, event) && happens(plan, script, event)
 }
 
-/// Whether the event is of the plan: the plan has its step, and `at` is `LATEST` at most.
+/// Whether the plan has the step of the event, and `at` is at most `LATEST`.
 pub fn is_of_plan(plan: &Plan, event: &Event) -> bool
     ensures { IsTrue result ↔ IsOfPlan plan.now event.now }
 {
@@ -38,7 +39,7 @@ fn has_step(plan: &Plan, event: &Event) -> bool
     event.change < plan.len() && (event.step as usize) < plan.change(event.change).steps().len()
 }
 
-/// Whether it can happen to the event's step, which is applied, and ends as the script says.
+/// Whether the step of the event is applied, and its outcome allows the event.
 fn happens(plan: &Plan, script: &Script, event: &Event) -> bool
     ensures { result ≡ happens plan.now script.now event.now }
 {
@@ -51,7 +52,7 @@ fn happens(plan: &Plan, script: &Script, event: &Event) -> bool
     }
 }
 
-/// Whether it can happen to the event's step, which is of that kind, and ends as the script says.
+/// Whether the outcome of the step, which is of that kind, allows the event.
 fn can_happen(script: &Script, kind: StepKind, event: &Event) -> bool
     ensures { result ≡ can_happen kind (outcome_of script.now event.now.change event.now.step) event.now.what }
 {
@@ -76,15 +77,15 @@ fn can_happen(script: &Script, kind: StepKind, event: &Event) -> bool
     }
 }
 
-/// The provisioner of that number of the event's step, if it runs.
+/// The provisioner of that number of the event's step. `None` where it does not run.
 fn ran_at<'a>(script: &'a Script, event: &Event, number: u8) -> Option<&'a Provisioner>
     ensures { option_copied result
         ≡ slice_get (ran (outcome_of script.now event.now.change event.now.step).provisioners) number }
 {
-    that_ran(script.outcome(event.change, event.step)?, number)
+    running_provisioner(script.outcome(event.change, event.step)?, number)
 }
 
-/// Whether there is a provisioner, which has an output of that number.
+/// Whether there is a provisioner and it prints a text of that number.
 fn has_output(provisioner: Option<&Provisioner>, line: u8) -> bool
     ensures { result ≡ option_map_or (λ provisioner. nat_lt line (length provisioner.output))
         (option_copied provisioner.entry) false }
@@ -95,7 +96,7 @@ fn has_output(provisioner: Option<&Provisioner>, line: u8) -> bool
     }
 }
 
-/// Whether there is a provisioner, which does not fail.
+/// Whether there is a provisioner and it succeeds.
 fn completes(provisioner: Option<&Provisioner>) -> bool
     ensures { result ≡ option_map_or (λ provisioner. not (has_failed provisioner))
         (option_copied provisioner.entry) false }
@@ -106,7 +107,7 @@ fn completes(provisioner: Option<&Provisioner>) -> bool
     }
 }
 
-/// Whether there is a provisioner, which fails.
+/// Whether there is a provisioner and it fails.
 fn errs(provisioner: Option<&Provisioner>) -> bool
     ensures { result ≡ option_map_or has_failed (option_copied provisioner.entry) false }
 {
@@ -116,7 +117,7 @@ fn errs(provisioner: Option<&Provisioner>) -> bool
     }
 }
 
-/// Whether a step that takes so many seconds reports progress after those.
+/// Whether a step of `seconds` seconds reports progress after `after` seconds.
 fn is_progress_time(after: u32, seconds: u32) -> bool
     ensures { result ≡ list_any (λ time. time == after) (progress_times seconds) }
 {
@@ -129,7 +130,7 @@ fn is_progress_time(after: u32, seconds: u32) -> bool
     }
 }
 
-/// Whether hooks may be asked in the phase, of a step that fails or does not.
+/// Whether hooks are asked in the phase about a step that fails, or does not.
 fn may_be_asked(fails: bool, phase: Phase) -> bool
     ensures { result ≡ may_be_asked fails phase }
 {

@@ -16,13 +16,13 @@ pub fn workers_in_order_stand_once()
     ensures { (workers : ℕ) → NamesEachWorkerOnce workers (range_with_len 0 workers) }
 {}
 
-/// Rising numbers below a limit are no more than the limit.
+/// A rising list of numbers below a limit is no longer than the limit.
 pub fn a_rising_list_fits_below_its_limit()
     ensures { (limit : ℕ) (list : List ℕ) → IsStrictlyIncreasing list → All (λ number. number < limit) list
         → length list ≤ limit }
 {}
 
-/// A rising list still rises with a number behind it that is above all of its own.
+/// A rising list still rises with a greater number at its end.
 pub fn a_rising_list_rises_on()
     ensures { (list : List ℕ) (number : ℕ) → IsStrictlyIncreasing list → All (λ earlier. earlier < number) list
         → IsStrictlyIncreasing (list ++ number ∷ []) }

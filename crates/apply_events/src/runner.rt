@@ -1,10 +1,10 @@
-//! A change that is being applied.
+//! The events of one change, one by one.
 
 ghost use Rattle.std.specs.Prelude.{◌≡◌, ◌+◌, ◌-◌, ◌*◌, ◌<◌, ◌≤◌, length, true};
 ghost use Rattle.apply_hooks.specs.Registry.{rules_of};
 ghost use Rattle.apply_model.specs.Script.Limits.{max_seconds};
-ghost use Rattle.apply_events.specs.Fits.{last_moment, max_span};
-ghost use Rattle.apply_events.specs.Stages.{is_on_course, time_behind};
+ghost use Rattle.apply_events.specs.Fits.{latest_second, max_span};
+ghost use Rattle.apply_events.specs.Stages.{is_on_course, time_before};
 ghost use Rattle.std.specs.Prelude.{slice_get};
 ghost use Rattle.std.specs.Option.{option_map_or};
 ghost use Rattle.apply_model.specs.Script.Outcome.{took};
@@ -20,10 +20,11 @@ use crate::what::What;
 use apply_hooks::{Asked, HookCall, Phase, Registry};
 use apply_model::{Plan, Script, StepKind};
 
-/// A change that is being applied: it gives the change's events one by one, and keeps but a few words.
+/// A change that is being applied. It emits the change's events one by one, and stores only a few
+/// words.
 ///
-/// Contracts know it by `course_of`, which is its work, worker, change and begin, and by `to_come`, the events that are
-/// still to come.
+/// Contracts know a runner by `course_of` (its work, worker, change and begin) and by `to_come`
+/// (the events still to come).
 #[derive(Drop)]
 pub struct Runner<'a> {
     plan: &'a Plan,
@@ -31,18 +32,18 @@ pub struct Runner<'a> {
     registry: &'a Registry,
     worker: u8,
     change: u32,
-    /// When the change begins.
+    /// When the change begins, in seconds.
     begin: u64,
-    /// The step at hand.
+    /// The number of the current step.
     step: u8,
-    /// When it begins.
+    /// When the current step begins, in seconds.
     at: u64,
     stage: Stage,
     ghost is_planned: { change < length plan.now.changes },
     ghost few: { step ≤ 2 },
     ghost soon: { at ≤ begin + max_seconds * step },
-    ghost in_time: { at + max_seconds * (2 - step) ≤ last_moment },
-    ghost on_time: { at ≡ begin + time_behind (steps_of (record {
+    ghost in_time: { at + max_seconds * (2 - step) ≤ latest_second },
+    ghost on_time: { at ≡ begin + time_before (steps_of (record {
       plan = plan.now;
       script = script.now;
       hooks = rules_of registry.now;
@@ -65,9 +66,10 @@ impl<'a> Runner<'a> {
     ghost use Rattle.apply_events.specs.RunnerStep.{left_before, rest_of, step_at_hand};
     ghost use Rattle.apply_events.specs.Step.{has_warning};
     ghost use Rattle.apply_events.specs.StepEvents.{goes_on, seconds_of};
-    ghost use Rattle.apply_events.specs.Stages.{IsUnderWay, behind, events_from, from_stage, halt_after};
+    ghost use Rattle.apply_events.specs.Stages.{IsUnderWay, later_events, events_from, from_stage, halt_after};
 
-    /// The runner of a change that begins at a moment, in seconds, early enough that two steps of a day end by `LATEST`.
+    /// The runner of a change that begins after `at` seconds. Two steps of a day must end by
+    /// `LATEST`.
     pub fn start(
         plan: &'a Plan,
         script: &'a Script,
@@ -77,7 +79,7 @@ impl<'a> Runner<'a> {
         at: u64,
     ) -> Runner<'a>
         requires change { change < length plan.now.changes }
-        requires in_time { at + max_span ≤ last_moment }
+        requires in_time { at + max_span ≤ latest_second }
         ensures course { course_of result ≡ record {
           work = record { plan = plan.now; script = script.now; hooks = rules_of registry.now };
           worker = worker;
@@ -99,8 +101,8 @@ impl<'a> Runner<'a> {
         }
     }
 
-    /// The runner of a change of which the first step has gone on, and the second begins at a moment, in seconds: that of
-    /// a change which began as much earlier as the first step takes.
+    /// The runner of a change whose first step has gone on. The second step begins after `at`
+    /// seconds, so the change began earlier by the time of the first step.
     pub(crate) fn resume(
         plan: &'a Plan,
         script: &'a Script,
@@ -113,7 +115,7 @@ impl<'a> Runner<'a> {
         requires change { change < length plan.now.changes }
         requires went_on { list_all goes_on (take 1 (steps_of (record { plan = plan.now; script = script.now; hooks = rules_of registry.now }) change)) ≡ true }
         requires late { first_time (record { plan = plan.now; script = script.now; hooks = rules_of registry.now }) change ≤ at }
-        requires in_time { at + max_seconds ≤ last_moment }
+        requires in_time { at + max_seconds ≤ latest_second }
         ensures course { course_of result ≡ record {
           work = record { plan = plan.now; script = script.now; hooks = rules_of registry.now };
           worker = worker;
@@ -136,16 +138,16 @@ impl<'a> Runner<'a> {
         }
     }
 
-    /// The next event. `None` where none is left, now and from then on.
+    /// The next event. `None` where no event is left, now and in later calls.
     ///
-    /// The hooks before a step are asked by the call that gives the step's first event, those after it by the call that
-    /// gives the last event that comes whether they halt or not.
+    /// The call that returns the first event of a step asks the hooks before the step. The call
+    /// that returns the last event before a possible halt asks the hooks after the step.
     pub fn next(&mut self) -> Option<Event>
         ensures next { GivesNext (to_come self.old) result (to_come self.new) }
         ensures has_step { IfSome result
             (λ event. HasStep (course_of self.old).work.plan event.change event.step) }
         ensures worker { IfSome result (λ event. event.worker ≡ (course_of self.old).worker) }
-        ensures in_time { IfSome result (λ event. event.at ≤ last_moment) }
+        ensures in_time { IfSome result (λ event. event.at ≤ latest_second) }
         ensures course { course_of self.new ≡ course_of self.old }
     {
         let Some(kind) = self.kind() else {
@@ -153,14 +155,14 @@ impl<'a> Runner<'a> {
         };
         match self.stage {
             Stage::Before => Some(self.begin(kind)),
-            Stage::Running(mid) => Some(self.report(kind, mid)),
+            Stage::Running(mid) => Some(self.emit_running(kind, mid)),
             Stage::Noting => Some(self.note(kind)),
             Stage::Halting(hook) => Some(self.halt(kind, hook)),
             Stage::Over => None,
         }
     }
 
-    /// Asks the hooks before the step, and starts it or halts.
+    /// Asks the hooks before the step. Starts the step, or halts.
     fn begin(&mut self, kind: StepKind) -> Event
         requires step { left_of self.old ≡ step_at_hand self.old kind ∷ rest_of self.old }
         requires few { self.old.step < 2 }
@@ -168,7 +170,7 @@ impl<'a> Runner<'a> {
         ensures next { to_come self.old ≡ result ∷ to_come self.new }
         ensures place { (result.worker ≡ self.old.worker) × (result.change ≡ self.old.change)
             × (result.step ≡ self.old.step) }
-        ensures in_time { result.at ≤ last_moment }
+        ensures in_time { result.at ≤ latest_second }
         ensures course { course_of self.new ≡ course_of self.old }
     {
         match self.halting(Phase::Pre, kind) {
@@ -191,15 +193,16 @@ impl<'a> Runner<'a> {
         }
     }
 
-    /// Tells what happens next before the end, or the end; where no end is told, the warning in its place.
-    fn report(&mut self, kind: StepKind, mid: MidStep) -> Event
+    /// Emits the next event of a running step: progress, an event of a provisioner, or the end. A
+    /// step without an end event has its warning there.
+    fn emit_running(&mut self, kind: StepKind, mid: MidStep) -> Event
         requires step { left_of self.old ≡ step_at_hand self.old kind ∷ rest_of self.old }
         requires few { self.old.step < 2 }
         requires stage { self.old.stage ≡ Stage.Running mid }
         ensures next { to_come self.old ≡ result ∷ to_come self.new }
         ensures place { (result.worker ≡ self.old.worker) × (result.change ≡ self.old.change)
             × (result.step ≡ self.old.step) }
-        ensures in_time { result.at ≤ last_moment }
+        ensures in_time { result.at ≤ latest_second }
         ensures course { course_of self.new ≡ course_of self.old }
     {
         let mut mid = mid;
@@ -208,7 +211,7 @@ impl<'a> Runner<'a> {
             return self.event(self.at + after as u64, what);
         }
         let facts = self.facts(kind);
-        if !facts.tells_end() {
+        if !facts.emits_end() {
             self.stage = Stage::Noting;
             return self.note(kind);
         }
@@ -221,10 +224,10 @@ impl<'a> Runner<'a> {
         event
     }
 
-    /// What happens next to the step at hand before its end, and after how many seconds.
+    /// The next event of the current step before its end, and after how many seconds it comes.
     fn happens(&self, kind: StepKind, mid: &mut MidStep) -> Option<(u32, What)>
         ensures next { GivesNext (left_before self.now kind mid.old) result (left_before self.now kind mid.new) }
-        ensures in_time { IfSome result (λ told. told.0 ≤ max_seconds) }
+        ensures in_time { IfSome result (λ emitted. emitted.0 ≤ max_seconds) }
     {
         match self.script.outcome(self.change, self.step) {
             Some(outcome) => mid.next(outcome, kind),
@@ -232,7 +235,7 @@ impl<'a> Runner<'a> {
         }
     }
 
-    /// Tells the note of the end, or in its place.
+    /// Emits the error or the warning at the end of the step.
     fn note(&mut self, kind: StepKind) -> Event
         requires step { left_of self.old ≡ step_at_hand self.old kind ∷ rest_of self.old }
         requires few { self.old.step < 2 }
@@ -240,7 +243,7 @@ impl<'a> Runner<'a> {
         ensures next { to_come self.old ≡ result ∷ to_come self.new }
         ensures place { (result.worker ≡ self.old.worker) × (result.change ≡ self.old.change)
             × (result.step ≡ self.old.step) }
-        ensures in_time { result.at ≤ last_moment }
+        ensures in_time { result.at ≤ latest_second }
         ensures course { course_of self.new ≡ course_of self.old }
     {
         let facts = self.facts(kind);
@@ -249,7 +252,7 @@ impl<'a> Runner<'a> {
         event
     }
 
-    /// Tells the halt after the step.
+    /// Emits the halt after the step.
     fn halt(&mut self, kind: StepKind, hook: u8) -> Event
         requires step { left_of self.old ≡ step_at_hand self.old kind ∷ rest_of self.old }
         requires few { self.old.step < 2 }
@@ -257,38 +260,38 @@ impl<'a> Runner<'a> {
         ensures next { to_come self.old ≡ result ∷ to_come self.new }
         ensures place { (result.worker ≡ self.old.worker) × (result.change ≡ self.old.change)
             × (result.step ≡ self.old.step) }
-        ensures in_time { result.at ≤ last_moment }
+        ensures in_time { result.at ≤ latest_second }
         ensures course { course_of self.new ≡ course_of self.old }
     {
         let facts = self.facts(kind);
         let phase = facts.phase_after();
         let event = self.event(self.at + facts.seconds as u64, What::Halted { phase, hook });
-        self.pass(kind, Stage::Over);
+        self.advance(kind, Stage::Over);
         event
     }
 
-    /// Asks the hooks after the step, all other events of which were told.
+    /// Asks the hooks after the step. All other events of the step were emitted.
     fn finish(&mut self, kind: StepKind)
         requires step { IsUnderWay (steps_of (course_of self.old).work self.old.change) self.old.step
             (step_at_hand self.old kind) self.old.begin self.old.at }
         requires few { self.old.step < 2 }
         ensures next { to_come self.new ≡ halt_after self.old.worker (step_at_hand self.old kind) self.old.at
-            ++ behind self.old.worker (step_at_hand self.old kind) (rest_of self.old) self.old.at }
+            ++ later_events self.old.worker (step_at_hand self.old kind) (rest_of self.old) self.old.at }
         ensures course { course_of self.new ≡ course_of self.old }
     {
         let facts = self.facts(kind);
         match self.halting(facts.phase_after(), kind) {
             Some(hook) => self.stage = Stage::Halting(hook),
-            None if facts.fails => self.pass(kind, Stage::Over),
-            None => self.pass(kind, Stage::Before),
+            None if facts.fails => self.advance(kind, Stage::Over),
+            None => self.advance(kind, Stage::Before),
         }
     }
 
-    /// Leaves the step behind.
-    fn pass(&mut self, kind: StepKind, stage: Stage)
+    /// Goes on to the next step, at that stage.
+    fn advance(&mut self, kind: StepKind, stage: Stage)
         requires few { self.old.step < 2 }
         requires time { self.old.at + seconds_of (step_at_hand self.old kind)
-            ≡ self.old.begin + time_behind (steps_of (course_of self.old).work self.old.change) (self.old.step + 1) stage }
+            ≡ self.old.begin + time_before (steps_of (course_of self.old).work self.old.change) (self.old.step + 1) stage }
         requires course { is_on_course (steps_of (course_of self.old).work self.old.change) (self.old.step + 1) stage ≡ true }
         ensures next { to_come self.new ≡ from_stage self.old.worker (rest_of self.old)
             (self.old.at + seconds_of (step_at_hand self.old kind)) stage }
@@ -300,7 +303,8 @@ impl<'a> Runner<'a> {
         self.stage = stage;
     }
 
-    /// The step whose first event comes next, if the first event of a step does.
+    /// The number of the step that begins with the next event. `None` where the next event begins
+    /// no step.
     pub fn begins(&self) -> Option<u8>
         ensures { result ≡ beginning_of (to_come self.now) }
     {
@@ -311,8 +315,8 @@ impl<'a> Runner<'a> {
         }
     }
 
-    /// When the change has ended so far, in seconds: its begin and the times of the steps whose last event was given.
-    /// After `None` it is the begin and the change's whole span.
+    /// The end of the change so far, in seconds: its begin plus the times of the steps that emitted
+    /// their last event. After `next` returned `None` the whole change counts.
     pub fn ended_at(&self) -> u64
         ensures ended { result ≡ ended_of (course_of self.now) (to_come self.now) }
         ensures whole { to_come self.now ≡ [] → result ≡ (course_of self.now).begin
@@ -322,7 +326,7 @@ impl<'a> Runner<'a> {
         self.at
     }
 
-    /// What the step at hand does. `None` where all steps were passed, up to the first that is skipped.
+    /// The kind of the current step. `None` after the last applied step.
     fn kind(&self) -> Option<StepKind>
         ensures step { IfSome result (λ kind. left_of self.now ≡ step_at_hand self.now kind ∷ rest_of self.now) }
         ensures few { IfSome result (λ _. self.now.step < 2) }
@@ -335,7 +339,7 @@ impl<'a> Runner<'a> {
         )
     }
 
-    /// What the events of the step at hand take from its outcome.
+    /// The facts of the current step.
     fn facts(&self, kind: StepKind) -> StepFacts
         ensures seconds { result.seconds ≡ took kind (outcome_of self.now.script.now self.now.change self.now.step) }
         ensures fails { result.fails ≡ fails (outcome_of self.now.script.now self.now.change self.now.step) }
@@ -346,7 +350,7 @@ impl<'a> Runner<'a> {
         StepFacts::new(self.script, self.change, self.step, kind)
     }
 
-    /// Something that happens to the step at hand.
+    /// An event of the current step.
     fn event(&self, at: u64, what: What) -> Event
         ensures { result ≡ record {
           worker = self.now.worker;
@@ -365,7 +369,7 @@ impl<'a> Runner<'a> {
         }
     }
 
-    /// The first hook that halts the step in the phase.
+    /// The number of the first hook that halts the step in the phase. `None` where no hook halts.
     fn halting(&self, phase: Phase, kind: StepKind) -> Option<u8>
         ensures { result ≡ (step_at_hand self.now kind).halts phase }
     {
@@ -381,7 +385,8 @@ impl<'a> Runner<'a> {
     }
 }
 
-/// How long the first step of a change takes, in seconds, that no hook halts before it; 0 where no step is applied.
+/// How long the first step of a change takes if no hook halts it before its start, in seconds. It
+/// is 0 where no step is applied.
 fn first_seconds(plan: &Plan, script: &Script, change: u32) -> u32
     requires { change < length plan.now.changes }
     ensures seconds { result ≡ option_map_or (λ kind. took kind (outcome_of script.now change 0))

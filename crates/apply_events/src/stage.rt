@@ -1,16 +1,16 @@
 use crate::mid_step::MidStep;
 
-/// How far the step at hand is.
+/// The stage of the current step.
 #[derive(Clone, Copy)]
 pub enum Stage {
     /// No hook was asked yet.
     Before,
-    /// It has started, and has not ended.
+    /// The step has started and has not ended.
     Running(MidStep),
-    /// Its end was told, or is not told at all. Its note comes next.
+    /// The end was emitted, or the step has no end event. Its error or warning comes next.
     Noting,
-    /// All was told but the halt by that hook.
+    /// Only the halt by the hook of that number is still to come.
     Halting(u8),
-    /// Nothing more comes: all steps were passed, one failed, or a hook halted one.
+    /// No event is left: all steps are over, one failed, or a hook halted the change.
     Over,
 }

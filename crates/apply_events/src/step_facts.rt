@@ -1,4 +1,4 @@
-//! What the events of a step take from its outcome.
+//! The facts of an outcome that decide the events of a step.
 
 ghost use Rattle.std.specs.Prelude.{◌≡◌, ◌≤◌, ◌||◌};
 ghost use Rattle.apply_model.specs.Script.Limits.{max_seconds};
@@ -6,27 +6,28 @@ ghost use Rattle.apply_model.specs.Script.Outcome.{fails, is_warned, took};
 ghost use Rattle.apply_model.specs.Script.OutcomeMap.{outcome_of};
 ghost use Rattle.apply_events.specs.Step.{has_warning};
 ghost use Rattle.apply_events.specs.Notes.{note_of};
-ghost use Rattle.apply_events.specs.StepEvents.{end_of, phase_after, tells_end};
+ghost use Rattle.apply_events.specs.StepEvents.{end_of, phase_after, emits_end};
 
 use crate::what::What;
 use apply_hooks::Phase;
 use apply_model::{Script, StepKind};
 
-/// What the events of a step take from its outcome, without its texts.
+/// The facts of an outcome that decide the events of a step, without texts.
 #[derive(Clone, Copy)]
 pub struct StepFacts {
     /// How long the step takes, in seconds, with the provisioners that run.
     pub seconds: u32,
-    /// Whether it fails: its provider does, or a provisioner makes it fail.
+    /// Whether the step fails: its provider fails, or a provisioner makes it fail.
     pub fails: bool,
-    /// Whether the provider warns.
+    /// Whether there is a warning: of a provider that succeeds, or of a read that only warns.
     pub warns: bool,
-    /// Whether the provider has failed, and that only warns.
+    /// Whether the provider fails and only a warning follows.
     pub only_warns: bool,
 }
 
 impl StepFacts {
-    /// What the script says of a step of a change, which is of that kind; done after 0 seconds where it says nothing.
+    /// The facts of a step of that kind. Without an outcome in the script the step is done after 0
+    /// seconds.
     pub fn new(script: &Script, change: u32, step: u8, kind: StepKind) -> StepFacts
         ensures seconds { result.seconds ≡ took kind (outcome_of script.now change step) }
         ensures fails { result.fails ≡ fails (outcome_of script.now change step) }
@@ -50,14 +51,14 @@ impl StepFacts {
         }
     }
 
-    /// Whether the step's end is told: not where it only warns.
-    pub fn tells_end(self) -> bool
-        ensures { result ≡ tells_end self.fails self.only_warns }
+    /// Whether the step has an end event. A step that only warns, and does not fail, has none.
+    pub fn emits_end(self) -> bool
+        ensures { result ≡ emits_end self.fails self.only_warns }
     {
         self.fails || !self.only_warns
     }
 
-    /// How the step ends.
+    /// The event with which the step ends.
     pub fn end(self) -> What
         ensures { result ≡ end_of self.fails self.seconds }
     {
@@ -68,14 +69,14 @@ impl StepFacts {
         }
     }
 
-    /// Whether a note is told of it.
+    /// Whether an error or a warning follows the end.
     pub fn has_note(self) -> bool
         ensures { result ≡ (self.fails || self.warns) }
     {
         self.fails || self.warns
     }
 
-    /// The note, where one is told.
+    /// The error of a step that fails, or the warning of any other step.
     pub fn note(self) -> What
         ensures { result ≡ note_of self.fails }
     {

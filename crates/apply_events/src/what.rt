@@ -1,38 +1,42 @@
 use apply_hooks::Phase;
 
-/// What happens to a step (Machine-Readable UI, "Operation Messages"; the hooks before and after each action).
+/// The kinds of events of a step (Machine-Readable UI, "Operation Messages"; the hooks before and
+/// after each action).
 #[derive(Clone, Copy, Debug, PartialEq, Eq)]
 pub enum What {
-    /// It starts (`apply_start`).
+    /// The step starts (`apply_start`).
     Start,
-    /// It goes on, so many seconds after its start (`apply_progress`): a multiple of 10.
+    /// The step goes on, so many seconds after its start (`apply_progress`). The number is a
+    /// multiple of 10.
     Progress(u32),
-    /// It completes, so many seconds after its start (`apply_complete`).
+    /// The step completes, so many seconds after its start (`apply_complete`).
     Complete(u32),
-    /// It fails, so many seconds after its start (`apply_errored`).
+    /// The step fails, so many seconds after its start (`apply_errored`).
     Errored(u32),
-    /// The error is told (`diagnostic`).
+    /// The error of the step (`diagnostic`).
     ErrorNote,
-    /// The provider's warning is told (`diagnostic`), or in place of an end why a read has failed that only warns.
+    /// The warning of the provider (`diagnostic`). For a read that only warns, it comes in place of
+    /// the end.
     WarnNote,
-    /// A hook halts its change: no further step of it is begun.
+    /// A hook halts the change: none of its further steps begins.
     Halted {
         /// When the hook was asked.
         phase: Phase,
-        /// The hook's number in the registry, 31 at most: the first that halted.
+        /// The number of the first hook that halted, counted from 0 in the registry: at most 31.
         hook: u8,
     },
-    /// A provisioner begins (`provision_start`): its number among those of the step, from 0.
+    /// The provisioner of that number begins (`provision_start`). Numbers count from 0 in the step.
     ProvisionStart(u8),
-    /// A provisioner puts something out (`provision_progress`).
+    /// A provisioner prints a text (`provision_progress`).
     ProvisionOutput {
-        /// The provisioner's number.
+        /// The number of the provisioner.
         prov: u8,
-        /// The output's number among those of the provisioner, from 0.
+        /// The number of the text, counted from 0 in the provisioner.
         line: u8,
     },
     /// The provisioner of that number completes (`provision_complete`).
     ProvisionComplete(u8),
-    /// The provisioner of that number fails (`provision_errored`), and with it the step, unless the provisioner may fail.
+    /// The provisioner of that number fails (`provision_errored`). The step fails with it, unless
+    /// the provisioner may fail.
     ProvisionErrored(u8),
 }

@@ -5,6 +5,6 @@ use Rattle.apply_hooks.specs.declared.phase.Phase.{Phase}
 use Rattle.apply_hooks.specs.declared.rule.Rule.{Rule}
 use Rattle.apply_hooks.specs.declared.verdict.Verdict.TheVariants.{Halt}
 
--- one rule, which halts steps of that kind in that phase, or of each kind
+-- One rule that halts steps of that kind, or of every kind, in that phase.
 abbrev pub halting : Phase → Option StepKind → List Rule
 halting phase kind = record { phase = Some phase; kind = kind; address_begins = []; verdict = Halt } ∷ []

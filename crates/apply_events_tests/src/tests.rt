@@ -1,5 +1,5 @@
-//! What no clause says: that the definitions are the ones that were meant, by rows worked out by hand, and how often a
-//! stored closure is asked.
+//! Checks what no contract states. Rows worked out by hand check that the definitions mean what
+//! they should, and counters check how often a stored closure is asked.
 
 ghost use Rattle.std.specs.Prelude.{◌≡◌, ◌<◌, true};
 ghost use Rattle.apply_hooks.specs.HookCall.{call_of};
@@ -29,7 +29,7 @@ const PLAN: &str =
 /// A script of that change, with the steps in the place of `CELL`.
 const SCRIPT: &str = r#"{"changes":[{"address":"null_resource.a","steps":CELL}]}"#;
 
-/// Stands in a table where there is no script.
+/// Stands in a table for a row without a script.
 const NO_SCRIPT: &str = "no script";
 
 /// The actions of a create.
@@ -38,34 +38,34 @@ const CREATE: &str = r#"["create"]"#;
 /// The actions of a replacement that destroys first.
 const REPLACEMENT: &str = r#"["delete","create"]"#;
 
-/// Its first step takes 11 seconds, and so tells one progress, and its second one has a warning.
+/// The first step takes 11 seconds, so it reports progress once. The second step has a warning.
 const ELEVEN_AND_TWO: &str = r#"[{"seconds":11},{"seconds":2,"warning":{"summary":"slow"}}]"#;
 
-/// The last moment at which a change may begin.
+/// The last second at which a change may begin.
 const LAST_BEGIN: u64 = LATEST - 172_800;
 
-/// Fails where it is not so. A proof grows by each assertion, and by less where it is a call.
+/// Fails if the condition is false. A call costs a proof less than an assertion.
 fn holds(rt: &impl Abort, case: &str, is_so: bool)
     ensures { is_so ≡ true }
 {
     assert!(rt; is_so, "{case}");
 }
 
-/// Fails where another text was found.
-fn text_is(rt: &impl Abort, case: &str, found: &str, wanted: &str) {
-    assert!(rt; found == wanted, "{case}: {found}");
+/// Fails if the texts differ.
+fn text_is(rt: &impl Abort, case: &str, actual: &str, wanted: &str) {
+    assert!(rt; actual == wanted, "{case}: {actual}");
 }
 
-/// The value, for as long as the test runs: a proof grows with each place at which something has to be dropped.
-fn kept<'a, T: Drop + 'a>(rt: &impl Abort, alloc: Global, value: T) -> &'a T {
-    let kept = Box::new(alloc, value).expect(rt, "memory");
-    &*Box::leak(kept)
+/// The value, never dropped: each place that drops a value makes a proof longer.
+fn leaked<'a, T: Drop + 'a>(rt: &impl Abort, alloc: Global, value: T) -> &'a T {
+    let leaked = Box::new(alloc, value).expect(rt, "memory");
+    &*Box::leak(leaked)
 }
 
-/// What `Debug` prints of it.
+/// The text that `Debug` prints for the value.
 fn printed(rt: &impl Abort, alloc: Global, value: &impl Debug) -> &'static str {
     let text = format!(in alloc; "{value:?}").expect(rt, "memory");
-    kept(rt, alloc, text).as_str()
+    leaked(rt, alloc, text).as_str()
 }
 
 /// Adds a piece to a text.
@@ -73,32 +73,32 @@ fn push(rt: &impl Abort, text: &mut String, piece: &str) {
     text.push_str(piece).expect(rt, "memory");
 }
 
-/// Adds a name, which may be empty, and what `Debug` prints of the value.
+/// Adds a name, which may be empty, and the text that `Debug` prints for the value.
 fn push_value(rt: &impl Abort, text: &mut String, name: &str, value: &impl Debug) {
     write!(text, "{name}{value:?}; ").expect(rt, "memory");
 }
 
-/// What stands before the first mark of a row, and behind it.
+/// The texts before and after the arrow of a row.
 fn parted<'a>(rt: &impl Abort, row: &'a str) -> (&'a str, &'a str) {
     row.split_once(" => ").expect(rt, "a mark")
 }
 
-/// The text with another one in the place of a mark.
-fn put(rt: &impl Abort, alloc: Global, text: &str, mark: &str, cell: &str) -> &'static str {
-    let text = text.replace(alloc, mark, cell).expect(rt, "memory");
-    kept(rt, alloc, text).as_str()
+/// The text with the cell in place of the placeholder.
+fn put(rt: &impl Abort, alloc: Global, text: &str, placeholder: &str, cell: &str) -> &'static str {
+    let text = text.replace(alloc, placeholder, cell).expect(rt, "memory");
+    leaked(rt, alloc, text).as_str()
 }
 
-/// The plan of that text.
+/// The plan that the text contains.
 fn plan_in(rt: &impl Abort, alloc: Global, text: &str) -> &'static Plan {
     let plan = read_plan(alloc, text.as_bytes());
-    kept(rt, alloc, plan.ok().expect(rt, "a plan"))
+    leaked(rt, alloc, plan.ok().expect(rt, "a plan"))
 }
 
-/// The script of that text.
+/// The script that the text contains.
 fn script_in(rt: &impl Abort, alloc: Global, plan: &Plan, text: &str) -> &'static Script {
     let script = read_script(alloc, text.as_bytes(), plan);
-    kept(rt, alloc, script.ok().expect(rt, "a script"))
+    leaked(rt, alloc, script.ok().expect(rt, "a script"))
 }
 
 /// The plan with those actions.
@@ -106,22 +106,22 @@ fn plan_of(rt: &impl Abort, alloc: Global, actions: &str) -> &'static Plan {
     plan_in(rt, alloc, put(rt, alloc, PLAN, "CELL", actions))
 }
 
-/// The script with those steps, or the empty one.
+/// The script with those steps, or the empty script.
 fn script_of(rt: &impl Abort, alloc: Global, plan: &Plan, steps: &str) -> &'static Script {
     if steps == NO_SCRIPT {
-        return kept(rt, alloc, Script::empty());
+        return leaked(rt, alloc, Script::empty());
     }
     script_in(rt, alloc, plan, put(rt, alloc, SCRIPT, "CELL", steps))
 }
 
-/// Adds the moment, the worker or the lane, the change with its step, and what happens.
+/// Adds the second, the worker or the lane, the change with its step, and the kind of the event.
 fn push_event(rt: &impl Abort, text: &mut String, event: &Event) {
-    let told = (event.at, event.worker, event.change, event.step, event.what);
-    push_value(rt, text, "", &told);
+    let described = (event.at, event.worker, event.change, event.step, event.what);
+    push_value(rt, text, "", &described);
 }
 
-/// Adds when the change has ended so far, where that is another moment than before, and which step begins next, if any does.
-/// That moment.
+/// Adds the end of the change so far, if it has changed, and the step that begins next, if one
+/// does. Returns that end.
 fn push_stand(rt: &impl Abort, text: &mut String, runner: &Runner<'_>, before: u64) -> u64 {
     let ended = runner.ended_at();
     if ended != before {
@@ -140,7 +140,7 @@ fn is_small(rt: &impl Abort, number: u64)
     holds(rt, "a small number", number < 9);
 }
 
-/// Counts one more event. The counts of a test are small.
+/// Counts one event more. The totals of a test are small.
 fn count(rt: &impl Abort, counted: &mut Counts, plan: &Plan, script: &Script, event: &Event) {
     holds(rt, "an event that fits", fits(plan, script, event));
     is_small(rt, counted.added);
@@ -151,8 +151,7 @@ fn count(rt: &impl Abort, counted: &mut Counts, plan: &Plan, script: &Script, ev
     counted.count(plan, event);
 }
 
-/// Adds how many objects were added, changed and removed so far, and how many steps failed and were halted, where that is other
-/// than before.
+/// Adds the totals so far, if they have changed: added, changed, removed, failed and halted.
 fn push_counts(rt: &impl Abort, text: &mut String, counted: &Counts, before: &Counts) {
     if *counted != *before {
         let Counts {
@@ -162,13 +161,14 @@ fn push_counts(rt: &impl Abort, text: &mut String, counted: &Counts, before: &Co
             failed,
             halted,
         } = *counted;
-        let told = (added, changed, removed, failed, halted);
-        push_value(rt, text, "counted ", &told);
+        let described = (added, changed, removed, failed, halted);
+        push_value(rt, text, "counted ", &described);
     }
 }
 
-/// All events of a change that begins at that moment, the counts where they are others than before, and how it stands between.
-fn told(
+/// All events of a change that begins at that second, with the state of the runner and the totals
+/// between them where they change.
+fn described(
     rt: &impl Abort,
     alloc: Global,
     plan: &Plan,
@@ -187,11 +187,11 @@ fn told(
         ended = push_stand(rt, &mut text, &runner, ended);
     }
     holds(rt, "nothing behind the last event", runner.next().is_none());
-    kept(rt, alloc, text).as_str()
+    leaked(rt, alloc, text).as_str()
 }
 
-/// Fails where the one change of the plan, which worker 7 begins at that moment, is told otherwise.
-fn is_told(
+/// Fails if the change of the plan has other events. Worker 7 begins it at that second.
+fn events_are(
     rt: &impl Abort,
     alloc: Global,
     plan: &Plan,
@@ -203,30 +203,30 @@ fn is_told(
     holds(rt, "one change", plan.len() == 1);
     holds(rt, "in time", begin <= LAST_BEGIN);
     let runner = Runner::start(plan, script, registry, 7, 0, begin);
-    let found = told(rt, alloc, plan, script, runner, begin);
-    text_is(rt, wanted, found.trim_end(), wanted);
+    let actual = described(rt, alloc, plan, script, runner, begin);
+    text_is(rt, wanted, actual.trim_end(), wanted);
 }
 
-/// Fails where a row of a table is told otherwise: the actions, the steps, and the events of a change that begins at that
-/// moment.
-fn rows_are_told(rt: &impl Abort, alloc: Global, registry: &Registry, begin: u64, table: &str) {
+/// Fails if a change has other events than its row lists. A row has the actions, the steps, and the
+/// events of a change that begins at that second.
+fn rows_hold(rt: &impl Abort, alloc: Global, registry: &Registry, begin: u64, table: &str) {
     for row in table.lines() {
         let (actions, rest) = parted(rt, row);
         let (steps, wanted) = parted(rt, rest);
         let plan = plan_of(rt, alloc, actions);
         let script = script_of(rt, alloc, plan, steps);
-        is_told(rt, alloc, plan, script, registry, begin, wanted);
+        events_are(rt, alloc, plan, script, registry, begin, wanted);
     }
 }
 
-/// A list of one rule, which halts steps of that kind in that phase, or of each kind.
+/// One rule that halts steps of that kind, or of every kind, in that phase.
 fn halting(rt: &impl Abort, alloc: Global, phase: Phase, kind: Option<StepKind>) -> Rules
     ensures { result ≡ halting phase kind }
 {
     Rules::halting(alloc, Some(phase), kind, "").expect(rt, "memory")
 }
 
-/// What the closure of a hook with that rule answers.
+/// The verdict of the closure of a hook with that rule.
 fn halts(call: &HookCall<'_>, phase: Phase, kind: Option<StepKind>) -> Verdict
     ensures { result ≡ verdict_of (halting phase kind) (call_of call.now) }
 {
@@ -241,7 +241,7 @@ fn halts(call: &HookCall<'_>, phase: Phase, kind: Option<StepKind>) -> Verdict
     }
 }
 
-/// Adds a hook of that closure, which answers as the rules do.
+/// Adds a hook with that closure, which answers as the rules do.
 fn add_hook(rt: &impl Abort, registry: &mut Registry, rules: Rules, answer: HookClosure)
     requires { AnswersAs (pre answer) (post answer) rules }
 {
@@ -249,9 +249,10 @@ fn add_hook(rt: &impl Abort, registry: &mut Registry, rules: Rules, answer: Hook
     holds(rt, "a hook was added", added.is_ok());
 }
 
-/// Fails where a table has other events, of changes or in lanes, than are told under three hooks: one that halts updates in
-/// that phase, which the table has none of, and two that halt steps of that kind in it.
-fn rows_are_told_under(
+/// Fails if the events differ from a table, of changes or of lanes, under three hooks. The first
+/// hook halts updates in that phase, and the table has none. The two others halt steps of that kind
+/// in that phase.
+fn rows_hold_under(
     rt: &impl Abort,
     alloc: Global,
     phase: Phase,
@@ -270,6 +271,6 @@ fn rows_are_told_under(
     if table.contains("\nin ") {
         lanes::lanes_report(rt, alloc, &registry, table);
     } else {
-        rows_are_told(rt, alloc, &registry, 0, table);
+        rows_hold(rt, alloc, &registry, 0, table);
     }
 }

@@ -1,4 +1,4 @@
--- A loop that looks for the first item that passes, over things of which a list tells what is looked at.
+-- A loop that looks for the first item that passes a test, over values that a list describes.
 use Rattle.std.proofs.Common.{◌≡◌, ℕ, ◌+◌, ◌<◌, ◌≤◌, List, [], ◌∷◌, length, drop, map, get_or, not, cond, Bool, true, Some, None, position, refl, ap, sym, ◌∙◌}
 use Rattle.std.specs.List.{position_or_len, position_from}
 use Rattle.std.proofs.Math.Seq.{drop-cons}
@@ -12,14 +12,14 @@ position_or_len-map p f (x ∷ xs) = ap (λ n. cond (not (p (f x))) (1 + n) 0) (
 position-map : {X Y : Type 0} (p : Y → Bool) (f : X → Y) (xs : List X) → position (λ x. p (f x)) xs ≡ position p (map f xs)
 position-map p f xs = rw (position_or_len-map p f xs, length-map xs f) refl
 
--- The loop has come to place i with none found: what is found from there on is what is found from the beginning. So
--- an item there that passes is the first one.
+-- The loop is at position i, and no earlier item passes. The search from there gives the same
+-- answer as the search from the beginning. So an item at i that passes is the first one.
 pub position-found : {X Y : Type 0} (p : Y → Bool) (f : X → Y) (xs : List X) (i : ℕ) (x : X) → i < length xs → x ≡ get_or xs i x → p (f x) ≡ true
     → position_from (λ x. p (f x)) i (drop i xs) ≡ position_from (λ x. p (f x)) 0 xs → Some i ≡ position p (map f xs)
 position-found p f xs i x below is passes looked =
     sym (position_from-zero (λ x. p (f x)) xs ∙ sym looked ∙ rw (drop-cons xs i x below, ← is, passes) refl) ∙ position-map p f xs
 
--- behind the last item, none is the first
+-- after the last item, no item is the first
 pub position-none : {X Y : Type 0} (p : Y → Bool) (f : X → Y) (xs : List X) (i : ℕ) → length xs ≤ i
     → position_from (λ x. p (f x)) i (drop i xs) ≡ position_from (λ x. p (f x)) 0 xs → None ≡ position p (map f xs)
 position-none p f xs i all looked = sym (position_from-zero (λ x. p (f x)) xs ∙ sym looked ∙ rw (drop_all i xs all) refl) ∙ position-map p f xs

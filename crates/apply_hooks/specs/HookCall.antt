@@ -1,15 +1,16 @@
--- What a hook is told.
+-- The call of a hook.
 use Rattle.std.specs.Prelude.{ℕ, List}
 use Rattle.apply_model.specs.declared.plan.step_kind.StepKind.{StepKind}
 use Rattle.apply_hooks.specs.declared.hook_call.HookCall.{HookCall}
 use Rattle.apply_hooks.specs.declared.phase.Phase.{Phase}
 
--- a call without the place in memory where its address stands, so that definitions can make one
+-- A call with the bytes of its address, so that definitions can make calls.
 pub record Call : Type 0 where
   pub phase : Phase
   pub kind : StepKind
-  -- its bytes
+  -- The bytes of the address.
   pub address : List ℕ
 
+-- The call, by the bytes of its address.
 abbrev pub call_of : HookCall → Call
 call_of call = record { phase = call.phase; kind = call.kind; address = call.address.now }

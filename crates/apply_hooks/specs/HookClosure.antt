@@ -7,8 +7,9 @@ use Rattle.apply_hooks.specs.declared.hook_call.HookCall.{HookCall}
 use Rattle.apply_hooks.specs.declared.rule.Rule.{Rule}
 use Rattle.apply_hooks.specs.declared.verdict.Verdict.{Verdict}
 
--- A closure answers as rules do: it may be called on every call, and whatever it may answer is the rules' verdict.
--- Of the closure, `pre` says on which calls it may be called, and `post` what it may answer to them.
+-- The closure answers as the rules do: it accepts every call, and each answer that it may give is
+-- the verdict of the rules. `pre` states which calls the closure accepts, and `post` which answers
+-- it may give.
 pub record AnswersAs (pre : Bor HookCall → Type 0) (post : Bor HookCall → Verdict → Type 0) (rules : List Rule)
     : Type 0 where
   pub callable : (call : Bor HookCall) → pre call

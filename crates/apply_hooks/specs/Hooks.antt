@@ -1,4 +1,4 @@
--- Lists of hooks, each known by its rules.
+-- Lists of hooks. Each hook is known by its rules.
 use Rattle.std.specs.Prelude.{◌≡◌, ℕ, ◌<◌, List, [], length, position, Option, slice_index_or}
 use Rattle.apply_hooks.specs.HookCall.{Call}
 use Rattle.apply_hooks.specs.Rules.{verdict_of}
@@ -6,15 +6,15 @@ use Rattle.apply_hooks.specs.Verdict.{is_halt}
 use Rattle.apply_hooks.specs.declared.rule.Rule.{Rule}
 use Rattle.apply_hooks.specs.declared.verdict.Verdict.TheVariants.{Continue, Halt}
 
--- the greatest number of hooks in a registry
+-- The most hooks in a registry.
 abbrev pub max_hooks : ℕ
 max_hooks = 32
 
--- the least number of a hook whose verdict is Halt; none where no hook's is
+-- The number of the first hook with the verdict `Halt`; none where no hook has it.
 abbrev pub first_halting : List (List Rule) → Call → Option ℕ
 first_halting hooks call = position (λ rules. is_halt (verdict_of rules call)) hooks
 
--- the hook of that number halts the call, and none before it does
+-- The hook of that number halts the call, and no hook before it does.
 pub record IsFirstHalting (hooks : List (List Rule)) (call : Call) (number : ℕ) : Type 0 where
   pub below : number < length hooks
   pub halts : verdict_of (slice_index_or hooks number []) call ≡ Halt

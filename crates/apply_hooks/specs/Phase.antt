@@ -1,4 +1,4 @@
--- Phases.
+-- The phases in which hooks are called.
 use Rattle.std.specs.Prelude.{Bool, true, false}
 use Rattle.apply_hooks.specs.declared.phase.Phase.{Phase}
 use Rattle.apply_hooks.specs.declared.phase.Phase.TheVariants.{Pre, PostDone, PostFailed}

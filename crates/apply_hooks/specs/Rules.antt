@@ -1,4 +1,4 @@
--- Lists of rules.
+-- The verdict of a list of rules.
 use Rattle.std.specs.Prelude.{List, find}
 use Rattle.std.specs.Option.{option_map_or}
 use Rattle.apply_hooks.specs.HookCall.{Call}
@@ -7,6 +7,6 @@ use Rattle.apply_hooks.specs.declared.rule.Rule.{Rule}
 use Rattle.apply_hooks.specs.declared.verdict.Verdict.{Verdict}
 use Rattle.apply_hooks.specs.declared.verdict.Verdict.TheVariants.{Continue}
 
--- the verdict of the first rule that matches; `Continue` where none does
+-- The verdict of the first rule that matches, or `Continue` where no rule matches.
 abbrev pub verdict_of : List Rule → Call → Verdict
 verdict_of rules call = option_map_or (λ rule. rule.verdict) (find (λ rule. matches rule call) rules) Continue

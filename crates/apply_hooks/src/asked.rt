@@ -1,8 +1,8 @@
-/// What asking all hooks came to.
+/// The answer of all hooks together.
 #[derive(Clone, Copy, Debug, PartialEq, Eq)]
 pub enum Asked {
-    /// No hook halted.
+    /// No hook halts.
     Go,
-    /// The hook of that number, counted from 0, was the first to halt.
+    /// The number of the first hook that halts, counted from 0.
     HaltedBy(u8),
 }

@@ -8,14 +8,14 @@ use crate::hook_call::HookCall;
 use crate::rules::Rules;
 use crate::verdict::Verdict;
 
-/// A closure that answers calls, in a box, so that closures of different types stand side by side and threads share
-/// them.
+/// A closure that answers calls. The box lets closures of different types stand in one list, and
+/// threads share them.
 ///
-/// Whoever owns the hooks makes the box: a function that made one and handed it out would hide what the closure
-/// answers.
+/// The owner of the hooks makes the box. A function that returned one would hide the closure's
+/// answers from contracts.
 pub type HookClosure = Box<dyn Fn(&HookCall<'_>) -> Verdict + Send + Sync>;
 
-/// A closure that answers as a list of rules does, with those rules.
+/// A closure with a list of rules that gives the same answers.
 #[derive(Drop)]
 pub struct FnHook {
     rules: Rules,
@@ -26,7 +26,7 @@ pub struct FnHook {
 impl FnHook {
     ghost use Rattle.apply_hooks.specs.FnHook.{rules_of_hook};
 
-    /// A hook of the closure, which may be called on every call and answers each as the rules do.
+    /// A hook of the closure. The closure accepts every call, and answers each as the rules do.
     pub fn new(rules: Rules, answer: HookClosure) -> FnHook
         requires { AnswersAs (pre answer) (post answer) rules }
         ensures { rules_of_hook result ≡ rules }

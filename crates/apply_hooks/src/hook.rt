@@ -1,4 +1,4 @@
-//! Code that is asked.
+//! Code that answers calls.
 
 ghost use Rattle.std.specs.Prelude.{◌≡◌, List};
 ghost use Rattle.apply_hooks.specs.HookCall.{call_of};
@@ -9,12 +9,12 @@ ghost use Rattle.apply_hooks.specs.declared.rule.Rule.{Rule};
 use crate::hook_call::HookCall;
 use crate::verdict::Verdict;
 
-/// Code that answers calls as a list of rules does. Contracts know it by those rules.
+/// Code that answers calls as a list of rules does. Contracts know the code by those rules.
 pub trait Hook: Drop {
-    /// The rules.
+    /// The rules that give the same answers.
     ghost rules: { Self → List Rule };
 
-    /// The verdict of the first rule that matches the call; `Continue` where none does.
+    /// The verdict of the first rule that matches the call, or `Continue` where no rule matches.
     fn decide(&self, call: &HookCall<'_>) -> Verdict
         ensures { result ≡ verdict_of (rules self.now) (call_of call.now) };
 }

@@ -1,4 +1,4 @@
-//! What a hook is told.
+//! The call of a hook.
 
 ghost use Rattle.std.specs.Prelude.{◌≡◌, nat_eq};
 ghost use Rattle.std.specs.List.{starts_with};
@@ -6,12 +6,12 @@ ghost use Rattle.std.specs.List.{starts_with};
 use crate::phase::Phase;
 use apply_model::StepKind;
 
-/// What a hook is told when it is asked.
+/// What a hook learns from a call.
 #[derive(Clone, Copy, Debug)]
 pub struct HookCall<'a> {
-    /// When it is asked.
+    /// When the hook is called.
     pub phase: Phase,
-    /// What the step does.
+    /// The kind of the step.
     pub kind: StepKind,
     /// The whole address of the change.
     pub address: &'a str,
@@ -20,7 +20,8 @@ pub struct HookCall<'a> {
 impl HookCall<'_> {
     /// Whether the address begins with the text, which may be empty.
     ///
-    /// A closure that tests an address by this call is seen to answer as its rules do, with no proof of its own.
+    /// A closure that tests an address by this method needs no proof of its own that it answers as
+    /// its rules do.
     #[tactic(auto, using(std::proofs::lemmas::Str::Pattern::starts_text))]
     pub fn address_begins(&self, beginning: &str) -> bool
         ensures { result ≡ starts_with nat_eq self.now.address.now beginning.now }

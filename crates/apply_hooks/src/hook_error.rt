@@ -1,11 +1,11 @@
-//! Why a hook was not added.
+//! Why a registry refuses a hook.
 
 use thiserror::Error;
 
-/// Why a hook was not added. The variants are tested in this order.
+/// Why a registry refuses a hook. The variants are tested in this order.
 #[derive(Clone, Copy, Debug, Drop, Error, PartialEq, Eq)]
 pub enum HookError {
-    /// There are 32 hooks.
+    /// The registry has 32 hooks already.
     #[error("more than 32 hooks")]
     Full,
     /// Memory was refused.

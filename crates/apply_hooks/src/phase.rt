@@ -1,4 +1,4 @@
-/// When a hook is asked.
+/// When a hook is called.
 #[derive(Clone, Copy, Debug, PartialEq, Eq)]
 pub enum Phase {
     /// Before a step.

@@ -15,8 +15,8 @@ use std::alloc::Global;
 /// The greatest number of hooks in a registry.
 pub const MAX_HOOKS: usize = 32;
 
-/// Hooks in the order in which they are asked, 32 at most. Contracts know it by `rules_of`, the list of its hooks'
-/// lists of rules. Threads may share it.
+/// Hooks in the order in which they are called, at most 32. Contracts know a registry by
+/// `rules_of`, which lists the rules of each hook. Threads may share a registry.
 #[derive(Drop)]
 pub struct Registry {
     hooks: Vec<FnHook>,
@@ -27,7 +27,7 @@ impl Registry {
     ghost use Rattle.apply_hooks.specs.Asked.{asked_of};
     ghost use Rattle.apply_hooks.specs.Registry.{hooks_of, rules_of};
 
-    /// No hooks.
+    /// A registry without hooks.
     pub fn new(alloc: Global) -> Registry
         ensures { rules_of result ≡ [] }
     {
@@ -36,7 +36,7 @@ impl Registry {
         }
     }
 
-    /// The number of hooks, 32 at most.
+    /// The number of hooks, at most 32.
     pub fn len(&self) -> usize
         ensures len { result ≡ length (rules_of self.now) }
         ensures few { length (rules_of self.now) ≤ max_hooks }
@@ -44,13 +44,13 @@ impl Registry {
         self.hooks.len()
     }
 
-    /// Adds a hook as the last.
+    /// Adds a hook after the others.
     ///
-    /// `Err` with `Full` where there are 32 hooks already, and otherwise with `Memory` where memory is refused. Then
-    /// the hook comes back, and the registry is as before.
+    /// `Err` with `Full` means that the registry has 32 hooks already. `Err` with `Memory` means
+    /// that memory was refused. Both return the hook, and the registry is unchanged.
     pub fn add(&mut self, hook: FnHook) -> Result<(), (HookError, FnHook)>
         ensures ok { OnOk result (rules_of self.new ≡ rules_of self.old ++ rules_of_hook hook ∷ []) }
-        ensures kept { OnOk result (hooks_of self.new ≡ hooks_of self.old ++ hook ∷ []) }
+        ensures added { OnOk result (hooks_of self.new ≡ hooks_of self.old ++ hook ∷ []) }
         ensures err { OnErr result (hooks_of self.new ≡ hooks_of self.old) }
         ensures back { IfErr result (λ refused. refused.1 ≡ hook) }
         ensures full { (result ≡ Err (HookError.Full, hook))
@@ -65,7 +65,7 @@ impl Registry {
         }
     }
 
-    /// Asks the hooks in order. The first that halts ends the asking: the hooks behind it are not called.
+    /// Calls the hooks in order up to the first that halts. The hooks after it are not called.
     pub fn ask(&self, call: &HookCall<'_>) -> Asked
         ensures asked { result ≡ asked_of (first_halting (rules_of self.now) (call_of call.now)) }
         ensures few { (number : ℕ) → result ≡ Asked.HaltedBy number → number < max_hooks }
@@ -77,7 +77,7 @@ impl Registry {
     }
 }
 
-/// The least number of a hook that halts the call.
+/// The number of the first hook that halts the call.
 fn first_to_halt(hooks: &[FnHook], call: &HookCall<'_>) -> Option<usize>
     ensures first { result ≡ first_halting (map rules_of_hook hooks.now) (call_of call.now) }
     ensures below { IfSome result (λ number. number < length hooks.now) }

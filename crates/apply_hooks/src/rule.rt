@@ -1,4 +1,4 @@
-//! Rules.
+//! One rule of a hook.
 
 ghost use Rattle.std.specs.Prelude.{◌≡◌, true};
 ghost use Rattle.std.specs.Option.{option_map_or};
@@ -11,19 +11,19 @@ use crate::phase::Phase;
 use crate::verdict::Verdict;
 use apply_model::{StepKind, Text};
 
-/// A rule: what is answered to the calls that it matches.
+/// A rule: the verdict on the calls that it matches.
 ///
-/// It matches a call where each part that is given is equal, and the call's address begins with the rule's text. A
-/// part that is `None` matches every call, and so does the empty text.
+/// A rule matches a call if each part that it states is equal, and the call's address begins with
+/// the rule's text. A part that is `None` matches every call, and so does the empty text.
 #[derive(Debug, Drop)]
 pub struct Rule {
-    /// The phase of the calls.
+    /// The phase of the calls that match. `None` matches every phase.
     pub phase: Option<Phase>,
-    /// What the steps do.
+    /// The kind of the steps that match. `None` matches every kind.
     pub kind: Option<StepKind>,
-    /// What the addresses begin with.
+    /// The text that matching addresses begin with.
     pub address_begins: Text,
-    /// What is answered.
+    /// The verdict on the calls that match.
     pub verdict: Verdict,
 }
 
@@ -40,7 +40,7 @@ impl Rule {
     }
 }
 
-/// Whether the phase is the one that is given, or none is.
+/// Whether the stated phase, if any, is equal to the phase.
 fn phase_fits(given: Option<Phase>, phase: Phase) -> bool
     ensures { result ≡ option_map_or (is_phase phase) given true }
 {
@@ -50,7 +50,7 @@ fn phase_fits(given: Option<Phase>, phase: Phase) -> bool
     }
 }
 
-/// Whether the kind is the one that is given, or none is.
+/// Whether the stated kind, if any, is equal to the kind.
 fn kind_fits(given: Option<StepKind>, kind: StepKind) -> bool
     ensures { result ≡ option_map_or (is_kind kind) given true }
 {

@@ -14,7 +14,7 @@ use apply_model::{StepKind, Text};
 use std::alloc::{AllocError, Global};
 use std::marker::Model;
 
-/// A list of rules. The first that matches a call answers it.
+/// A list of rules. The first rule that matches a call decides the verdict.
 #[derive(Debug, Drop)]
 pub struct Rules {
     rules: Vec<Rule>,
@@ -30,7 +30,7 @@ impl Model for Rules {
 }
 
 impl Rules {
-    /// No rules.
+    /// The empty list.
     pub fn new(alloc: Global) -> Rules
         ensures { result ≡ [] }
     {
@@ -39,8 +39,8 @@ impl Rules {
         }
     }
 
-    /// One rule, which halts each call that it matches: of that phase and that kind, where they are given, and of an address
-    /// that begins with the text. `Err` where memory is refused.
+    /// One rule that halts each call that it matches: of that phase and that kind, if they are
+    /// stated, and of an address that begins with the text. `Err` where memory is refused.
     pub fn halting(
         alloc: Global,
         phase: Option<Phase>,
@@ -67,7 +67,8 @@ impl Rules {
         }
     }
 
-    /// Adds a rule as the last. `Err` where memory is refused: then the rule comes back, and the list is as before.
+    /// Adds a rule after the others. `Err` means that memory was refused: it returns the rule, and
+    /// the list is unchanged.
     pub fn push(&mut self, rule: Rule) -> Result<(), Rule>
         ensures ok { OnOk result (self.new ≡ self.old ++ rule ∷ []) }
         ensures err { OnErr result (self.new ≡ self.old) }

@@ -1,8 +1,8 @@
-/// What a hook answers.
+/// The answer of a hook.
 #[derive(Clone, Copy, Debug, PartialEq, Eq)]
 pub enum Verdict {
-    /// This hook does not halt the step.
+    /// The hook does not halt the step.
     Continue,
-    /// The change is halted: nothing more of it is applied.
+    /// The hook halts the change: none of its further steps is applied.
     Halt,
 }

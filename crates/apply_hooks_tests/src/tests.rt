@@ -1,5 +1,5 @@
-//! What no clause says: that closures which callers really write can be stored, that each is called and how often, and
-//! that the definitions are the ones that were meant.
+//! Checks what no contract states: closures that callers really write can be stored, and each is
+//! called as often as it should be. Rows check that the definitions mean what they should.
 
 ghost use Rattle.std.specs.Prelude.{◌≡◌, ◌∷◌, []};
 
@@ -20,9 +20,9 @@ use std::sync::atomic::{AtomicU64, Ordering};
 use std::thread;
 use std::thread::Threads;
 
-/// What stands before the first mark of a row, and behind it.
-fn parted<'a>(rt: &impl Abort, row: &'a str, mark: &str) -> (&'a str, &'a str) {
-    row.split_once(mark).expect(rt, row)
+/// The texts before and after the first separator of a row.
+fn parted<'a>(rt: &impl Abort, row: &'a str, separator: &str) -> (&'a str, &'a str) {
+    row.split_once(separator).expect(rt, row)
 }
 
 /// The phase of that name; none for `any`.
@@ -52,7 +52,7 @@ fn kind_of(rt: &impl Abort, name: &str) -> Option<StepKind> {
     }
 }
 
-/// The call that a row tells by its phase, its kind and its address.
+/// The call with the phase, the kind and the address of the row.
 fn call_of<'a>(rt: &impl Abort, row: &'a str) -> HookCall<'a> {
     let (phase, rest) = parted(rt, row, " ");
     let (kind, address) = parted(rt, rest, " ");
@@ -63,47 +63,47 @@ fn call_of<'a>(rt: &impl Abort, row: &'a str) -> HookCall<'a> {
     }
 }
 
-/// The value, for as long as the test runs: a proof grows with each place at which something has to be dropped.
-fn kept<'a, T: Drop + 'a>(rt: &impl Abort, alloc: Global, value: T) -> &'a mut T {
+/// The value, never dropped: each place that drops a value makes a proof longer.
+fn leaked<'a, T: Drop + 'a>(rt: &impl Abort, alloc: Global, value: T) -> &'a mut T {
     Box::leak(Box::new(alloc, value).expect(rt, "memory"))
 }
 
-/// What `Debug` prints of it.
+/// The text that `Debug` prints for the value.
 fn printed(rt: &impl Abort, alloc: Global, value: &impl Debug) -> &'static str {
     let text = format!(in alloc; "{value:?}").expect(rt, "memory");
-    kept(rt, alloc, text).as_str()
+    leaked(rt, alloc, text).as_str()
 }
 
-/// Fails where it is not so. A proof grows by each assertion, and by less where it is a call.
+/// Fails if the condition is false. A call costs a proof less than an assertion.
 fn holds(rt: &impl Abort, case: &str, is_so: bool) {
     assert!(rt; is_so, "{case}");
 }
 
-/// Fails where another text was found.
-fn text_is(rt: &impl Abort, case: &str, found: &str, wanted: &str) {
-    assert!(rt; found == wanted, "{case}: {found}");
+/// Fails if the texts differ.
+fn text_is(rt: &impl Abort, case: &str, actual: &str, wanted: &str) {
+    assert!(rt; actual == wanted, "{case}: {actual}");
 }
 
-/// Fails where a number is another than the text says.
-fn number_is(rt: &impl Abort, alloc: Global, case: &str, found: u64, wanted: &str) {
-    text_is(rt, case, printed(rt, alloc, &found), wanted);
+/// Fails if the number differs from the text.
+fn number_is(rt: &impl Abort, alloc: Global, case: &str, actual: u64, wanted: &str) {
+    text_is(rt, case, printed(rt, alloc, &actual), wanted);
 }
 
-/// Fails where the registry answers the call of the row otherwise.
+/// Fails if the registry gives another answer to the call of the row.
 fn is_asked(rt: &impl Abort, alloc: Global, registry: &Registry, row: &str) {
     let (call, wanted) = parted(rt, row, " => ");
     let asked = registry.ask(&call_of(rt, call));
     text_is(rt, row, printed(rt, alloc, &asked), wanted);
 }
 
-/// Fails where the hook answers the call of the row otherwise.
+/// Fails if the hook gives another verdict on the call of the row.
 fn is_decided(rt: &impl Abort, alloc: Global, hook: &impl Hook, row: &str) {
     let (call, wanted) = parted(rt, row, " => ");
     let verdict = hook.decide(&call_of(rt, call));
     text_is(rt, row, printed(rt, alloc, &verdict), wanted);
 }
 
-/// A list of one rule, which halts.
+/// One rule that halts.
 fn halting(
     rt: &impl Abort,
     alloc: Global,
@@ -124,23 +124,23 @@ fn halting(
 /// A count that closures may share.
 fn count(rt: &impl Abort, alloc: Global) -> &'static Arc<AtomicU64> {
     let count = Arc::new(alloc, AtomicU64::new(0)).expect(rt, "memory");
-    &*kept(rt, alloc, count)
+    &*leaked(rt, alloc, count)
 }
 
-/// One more owner of the count.
+/// Another owner of the count.
 fn shared(rt: &impl Abort, count: &Arc<AtomicU64>) -> Arc<AtomicU64> {
     Arc::try_clone(count).expect(rt, "memory")
 }
 
-/// Fails where the error has another text.
-fn says(rt: &impl Abort, alloc: Global, error: HookError, wanted: &str) {
+/// Fails if the error has another text.
+fn error_text_is(rt: &impl Abort, alloc: Global, error: HookError, wanted: &str) {
     let text = error.to_string(alloc).expect(rt, "memory");
-    text_is(rt, wanted, kept(rt, alloc, text).as_str(), wanted);
+    text_is(rt, wanted, leaked(rt, alloc, text).as_str(), wanted);
 }
 
-/// Errors, and their texts.
+/// The texts of errors.
 #[test]
 fn refusals_have_their_texts(rt: HostRuntime) {
-    says(&rt, rt.alloc(), HookError::Full, "more than 32 hooks");
-    says(&rt, rt.alloc(), HookError::Memory, "out of memory");
+    error_text_is(&rt, rt.alloc(), HookError::Full, "more than 32 hooks");
+    error_text_is(&rt, rt.alloc(), HookError::Memory, "out of memory");
 }

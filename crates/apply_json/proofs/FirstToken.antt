@@ -1,4 +1,4 @@
--- The value that a text begins with, by its first token.
+-- The value at the start of a text, by its first token.
 use Rattle.std.proofs.Common.{◌≡◌, ℕ, ◌-◌, ◌<◌, List, [], ◌∷◌, length, Option, Some, None, Result, Ok, Err, refl, sym, subst, ap, ap₂, ◌∙◌, arith, inl, inr}
 use Rattle.std.specs.Prelude.{◌⊎◌, Bool, IfOk, MatchOption, OnErr, OnOk}
 use Rattle.std.specs.Borrow.{Bor}
@@ -12,18 +12,18 @@ use Rattle.json.specs.Reads.{token_of}
 use Rattle.json.proofs.Grammar.{value_is, value-begin_array, value-begin_object}
 use Rattle.serde_json.specs.Data.{Data, null, boolean, number, string, array, object, Num, Items, Members, no_members}
 use Rattle.serde_json.specs.Read.{converted, number_of, of_items, of_json, of_members}
-use Rattle.apply_json.specs.Keeping.{BeginsNone, BeginsWith, HasOpened}
-use Rattle.apply_json.specs.Tokens.{HasBegun, IsNoValue}
-use Rattle.apply_json.specs.declared.begun.Begun.{Begun}
+use Rattle.apply_json.specs.Verbatim.{TokenStartsNone, TokenStarts, OpensValue}
+use Rattle.apply_json.specs.Tokens.{StartsValue, IsNoValue}
+use Rattle.apply_json.specs.declared.value_start.ValueStart.{ValueStart}
 use Rattle.apply_json.proofs.Turns.{converted-array, converted-object}
 
--- the first token, where there is one
+-- the first token, if there is one
 pub first_token : {E : Type 0} (read : Option token.Token) (t : token.Token) (e : E) (ts rest : List Token) → Ok t ≡ ok_or read e → MatchOption read ((ts ≡ []) × (rest ≡ [])) (λ t. ts ≡ token_of t ∷ rest)
     → ts ≡ token_of t ∷ rest
 first_token None t e ts rest found read = absurd (cc)
 first_token (Some u) t e ts rest found read = let same : u ≡ t = cc in read ∙ ap (λ k. token_of k ∷ rest) same
 
--- without it there is less
+-- without the first token the list is shorter
 pub shorter : (ts rest : List Token) (k : Token) → ts ≡ k ∷ rest → length rest < length ts
 shorter ts rest k first = rw first (omega arith)
 
@@ -52,14 +52,14 @@ module _ (depth : ℕ) (ts rest : List Token) (t : token.Token) (first : ts ≡ 
   pub no_number : (text : Bor (List ℕ)) → t ≡ variant.Number text → None ≡ number_of text.now → converted of_json (value depth ts) ≡ None
   no_number text is found = ap (converted of_json) (ap (value depth) (begins (variant.Number text) is) ∙ value_is depth _) ∙ rw (← found) refl
 
-  -- a token that begins no value
+  -- a token that starts no value
   pub no_value : (t ≡ variant.EndObject) ⊎ ((t ≡ variant.EndArray) ⊎ (((x : Bor (List ℕ)) × t ≡ variant.Key x) ⊎ (t ≡ variant.Bad))) → converted of_json (value depth ts) ≡ None
   no_value (inl is) = ap (converted of_json) (ap (value depth) (begins variant.EndObject is) ∙ value_is depth _)
   no_value (inr (inl is)) = ap (converted of_json) (ap (value depth) (begins variant.EndArray is) ∙ value_is depth _)
   no_value (inr (inr (inl h))) = ap (converted of_json) (ap (value depth) (begins (variant.Key h.0) h.1) ∙ value_is depth _)
   no_value (inr (inr (inr is))) = ap (converted of_json) (ap (value depth) (begins variant.Bad is) ∙ value_is depth _)
 
-  -- ---- an array or an object, of which no more than `depth` may nest
+  -- ---- an array or an object, nested at most `depth` deep
 
   pub array_too_deep : depth ≡ 0 → t ≡ variant.BeginArray → converted of_json (value depth ts) ≡ None
   unfolding value
@@ -69,7 +69,7 @@ module _ (depth : ℕ) (ts rest : List Token) (t : token.Token) (first : ts ≡ 
   unfolding value
   object_too_deep none is = ap (converted of_json) (ap₂ value none (begins variant.BeginObject is))
 
-  -- the same, before it is a tree
+  -- the array or object as JSON, before it becomes a tree
   pub opened_array : 0 < depth → t ≡ variant.BeginArray → value depth ts ≡ parse_map json.array (items (value (depth - 1)) (length rest) rest)
   opened_array some is = ap (value depth) (begins variant.BeginArray is) ∙ value-begin_array depth rest some
 
@@ -100,20 +100,20 @@ module _ (depth : ℕ) (ts rest : List Token) (t : token.Token) (first : ts ≡ 
       → converted of_json (value depth ts) ≡ Some (object ms, r)
   object_made ms r some is made = read_object some is ∙ ap (parse_map object) made
 
-  -- ---- what is said of the token alone
+  -- ---- facts about the token alone
 
-  pub begun_there : {E : Type 0} (r : Result Begun E) → IfOk r (λ begun. BeginsWith begun depth (token_of t)) → IfOk r (λ begun. HasBegun begun depth ts rest)
-  begun_there (Ok begun) said = subst (λ us. HasBegun begun depth us rest) (sym first) (said rest).0
+  pub begun_there : {E : Type 0} (r : Result ValueStart E) → IfOk r (λ value_start. TokenStarts value_start depth (token_of t)) → IfOk r (λ value_start. StartsValue value_start depth ts rest)
+  begun_there (Ok value_start) said = subst (λ us. StartsValue value_start depth us rest) (sym first) (said rest).0
   begun_there (Err e) said = tt
 
-  pub opened_there : {E : Type 0} (r : Result Begun E) → IfOk r (λ begun. BeginsWith begun depth (token_of t)) → IfOk r (λ begun. HasOpened begun depth ts rest)
-  opened_there (Ok begun) said = subst (λ us. HasOpened begun depth us rest) (sym first) (said rest).1
+  pub opened_there : {E : Type 0} (r : Result ValueStart E) → IfOk r (λ value_start. TokenStarts value_start depth (token_of t)) → IfOk r (λ value_start. OpensValue value_start depth ts rest)
+  opened_there (Ok value_start) said = subst (λ us. OpensValue value_start depth us rest) (sym first) (said rest).1
   opened_there (Err e) said = tt
 
-  pub none_there : {E : Type 0} (r : Result Begun E) → OnErr r (BeginsNone depth (token_of t)) → OnErr r (IsNoValue depth ts)
-  none_there (Ok begun) said = tt
+  pub none_there : {E : Type 0} (r : Result ValueStart E) → OnErr r (TokenStartsNone depth (token_of t)) → OnErr r (IsNoValue depth ts)
+  none_there (Ok value_start) said = tt
   none_there (Err e) said = subst (IsNoValue depth) (sym first) (said rest)
 
-  pub shorter_there : {E : Type 0} (r : Result Begun E) → OnOk r (length rest < length ts)
-  shorter_there (Ok begun) = shorter ts rest (token_of t) first
+  pub shorter_there : {E : Type 0} (r : Result ValueStart E) → OnOk r (length rest < length ts)
+  shorter_there (Ok value_start) = shorter ts rest (token_of t) first
   shorter_there (Err e) = tt

@@ -1,4 +1,4 @@
--- Items that stand before others, as a collector meets them.
+-- Items that a collector has read, before the items that follow.
 use Rattle.std.proofs.Common.{◌≡◌, List, [], ◌∷◌, ◌++◌, Option, Some, None, refl, ap}
 use Rattle.json.specs.Token.{Token}
 use Rattle.json.specs.Json.{parse_map}
@@ -17,7 +17,7 @@ pub list_of-before : (ds : List Data) → list_of (before ds no_items) ≡ ds
 list_of-before [] = refl
 list_of-before (d ∷ ds) = ap (λ (rest : List Data). d ∷ rest) (list_of-before ds)
 
--- none stands there yet
+-- no item was read yet
 pub nothing_before : (r : Option (Items × List Token)) → r ≡ parse_map (before []) r
 nothing_before None = refl
 nothing_before (Some p) = refl
@@ -25,7 +25,7 @@ nothing_before (Some p) = refl
 abbrev with_rest : List Token → Items → Option (Items × List Token)
 with_rest rest all = Some (all, rest)
 
--- one more does
+-- one more item was read
 pub one_before : (ds : List Data) (d : Data) (r : Option (Items × List Token)) → parse_map (λ rest. before ds (item d rest)) r ≡ parse_map (before (ds ++ d ∷ [])) r
 one_before ds d None = refl
 one_before ds d (Some p) = ap (with_rest p.1) (push ds d p.0)

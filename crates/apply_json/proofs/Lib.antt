@@ -2,7 +2,7 @@ pub mod Copied
 pub mod FirstToken
 pub mod Gathered
 pub mod Held
-pub mod Keeping
+pub mod VerbatimValues
 pub mod KeepingTurns
 pub mod OneMember
 pub mod Trees

@@ -1,4 +1,4 @@
--- A text that is one value, with nothing behind it.
+-- A text of one value, with nothing after it.
 use Rattle.std.proofs.Common.{◌≡◌, ℕ, List, [], ◌∷◌, Option, Some, None, option_map, option_and_then, refl, sym, ap, ◌∙◌}
 use Rattle.json.specs.Token.{Token}
 use Rattle.json.specs.Json.{Json, if_last, value}
@@ -7,7 +7,7 @@ use Rattle.serde_json.specs.Data.{Data}
 use Rattle.serde_json.specs.Read.{converted, max_depth}
 use Rattle.apply_json.proofs.Turns.{converted_some, refused}
 
--- the value, where nothing stands behind it
+-- the value, if nothing follows it
 abbrev pub alone : (Json → Option Data) → Option (Json × List Token) → Option Data
 alone f o = option_and_then f (option_and_then (λ p. if_last p.0 p.1) o)
 

@@ -1,5 +1,5 @@
-pub mod Keeping
+pub mod Verbatim
 pub mod Parsed
-pub mod Seen
+pub mod ShallowView
 pub mod Tokens
 pub mod Tree

@@ -1,4 +1,4 @@
--- Why bytes are no tree.
+-- Why bytes have no tree.
 use Rattle.std.specs.Prelude.{◌≡◌, ◌<◌, ◌≤◌, ℕ, List, length, None}
 use Rattle.apply_json.specs.declared.json_fault.JsonFault.{JsonFault}
 use Rattle.apply_json.specs.declared.json_fault.JsonFault.TheVariants.{TooLarge, NotJson, Memory}
@@ -6,12 +6,12 @@ use Rattle.apply_json.specs.declared.read_fault.ReadFault.{ReadFault}
 use Rattle.apply_json.specs.declared.read_fault.ReadFault.TheVariants as read
 use Rattle.apply_json.specs.Tree.{tree_of}
 
--- why bytes gave no tree whose text gave none
+-- the fault of bytes, by the fault of their text
 abbrev pub json_fault_of : ReadFault → JsonFault
 json_fault_of read.NotJson = NotJson
 json_fault_of read.Memory = Memory
 
--- there are more bytes than there may be, or they are no tree; want of memory says only that there are not more
+-- the bytes are too many, or have no tree; `Memory` states only that the bytes are not too many
 abbrev pub IsNoTree : (most : ℕ) → JsonFault → List ℕ → Type 0
 IsNoTree most TooLarge bytes = most < length bytes
 IsNoTree most NotJson bytes = (length bytes ≤ most) × (tree_of bytes ≡ None)

@@ -1,31 +1,35 @@
-//! What is kept of the items of an array, without a tree. The values of some members may be kept as their own texts.
+//! Reads an array item by item into a collector of the caller. No tree is built.
+//!
+//! Every `Err` is a [`ReadFault`]: the text is not JSON, or memory was refused.
 
 ghost use Rattle.std.specs.Prelude.{◌≡◌, ◌<◌, ◌++◌, ◌∷◌, [], length, Err, IfOk, List, OnOk, Some};
 ghost use Rattle.serde_json.specs.Data.{Data, Items};
-ghost use Rattle.apply_json.specs.Keeping.{AreKeptItems, AreNoKeptItems, IsKeptRead};
-ghost use Rattle.apply_json.specs.Seen.{IsScalar, items_in, listed, scalar_view, seen};
+ghost use Rattle.apply_json.specs.Verbatim.{AreMixedItems, AreNoMixedItems, IsMixedRead};
+ghost use Rattle.apply_json.specs.ShallowView.{IsScalar, items_in, array_presence, shallow_view, shallow_of};
 ghost use Rattle.apply_json.specs.Tokens.{IsNoValue};
 ghost use Rattle.apply_json.specs.Tree.{list_of};
 
-use crate::begun::{Begun, begin};
-use crate::listed::Listed;
-use crate::passing::pass_members;
+use crate::array_presence::ArrayPresence;
 use crate::read_fault::ReadFault;
-use crate::scalar::Scalar;
+use crate::shallow::Shallow;
+use crate::skipping::skip_members;
+use crate::value_start::{ValueStart, read_start};
 use json::Reader;
 use std::alloc::Global;
 
-/// What gathers the items of an array, one by one. Within them the value of a member of some names is its own text.
+/// Collects the items of an array, one by one.
+///
+/// Members for which `is_verbatim` holds are read as raw JSON text, at any depth in an item.
 pub trait Collector<'a> {
     ghost use Rattle.std.specs.Prelude.{Bool, ℕ};
 
-    /// Whether the value of a member of that name is its own text.
-    ghost kept: { List ℕ → Bool };
+    /// Whether the value of a member of this name is read as raw JSON text.
+    ghost is_verbatim: { List ℕ → Bool };
 
-    /// What the collector holds, of these items, where reading began with the collector that is named first.
+    /// `holds start now items`: the collector `start` became `now` after the items were read.
     ghost holds: { Self → Self → List Data → Type 0 };
 
-    /// Reads the next item, in which arrays and objects nest at most `depth` deep.
+    /// Reads the next item. Arrays and objects in the item may nest at most `depth` deep.
     fn take(
         &mut self,
         alloc: Global,
@@ -33,13 +37,13 @@ pub trait Collector<'a> {
         depth: usize,
     ) -> Result<(), ReadFault>
         requires { (start : Self) × (ds : List Data) × holds start self.old ds }
-        ensures ok { OnOk result ((d : Data) × IsKeptRead kept depth reader.old d reader.new
+        ensures ok { OnOk result ((d : Data) × IsMixedRead is_verbatim depth reader.old d reader.new
             × ((start : Self) → (ds : List Data) → holds start self.old ds → holds start self.new (ds ++ d ∷ []))) }
         ensures shorter { OnOk result (length reader.new < length reader.old) }
         ensures err { result ≡ Err ReadFault.NotJson → IsNoValue depth reader.old };
 }
 
-/// Reads the rest of an array into a collector.
+/// Reads an array after its `[` into a collector.
 #[inline(never)]
 fn read_items<'a, C: Collector<'a>>(
     alloc: Global,
@@ -48,10 +52,10 @@ fn read_items<'a, C: Collector<'a>>(
     collector: &mut C,
 ) -> Result<(), ReadFault>
     requires { C.holds collector.old collector.old [] }
-    ensures ok { OnOk result ((ds : Items) × AreKeptItems C.kept depth reader.old ds reader.new
+    ensures ok { OnOk result ((ds : Items) × AreMixedItems C.is_verbatim depth reader.old ds reader.new
         × C.holds collector.old collector.new (list_of ds)) }
     ensures shorter { OnOk result (length reader.new < length reader.old) }
-    ensures err { result ≡ Err ReadFault.NotJson → AreNoKeptItems C.kept depth reader.old }
+    ensures err { result ≡ Err ReadFault.NotJson → AreNoMixedItems C.is_verbatim depth reader.old }
 {
     'items: while !reader.take_end_array() {
         collector.take(alloc, reader, depth)?;
@@ -59,39 +63,41 @@ fn read_items<'a, C: Collector<'a>>(
     Ok(())
 }
 
-/// Reads a value: the items of an array into a collector. Anything else is passed over.
+/// Reads a value. The items of an array go into the collector; any other value is skipped.
+///
+/// Arrays and objects in the value may nest at most `depth` deep.
 #[inline(always)]
 pub fn read_list<'a, C: Collector<'a>>(
     alloc: Global,
     reader: &mut Reader<'a>,
     depth: usize,
     collector: &mut C,
-) -> Result<Listed, ReadFault>
+) -> Result<ArrayPresence, ReadFault>
     requires { C.holds collector.old collector.old [] }
-    ensures ok { IfOk result (λ kind. (d : Data) × IsKeptRead C.kept depth reader.old d reader.new
-        × (kind ≡ listed d) × C.holds collector.old collector.new (list_of (items_in d))) }
+    ensures ok { IfOk result (λ kind. (d : Data) × IsMixedRead C.is_verbatim depth reader.old d reader.new
+        × (kind ≡ array_presence d) × C.holds collector.old collector.new (list_of (items_in d))) }
     ensures shorter { OnOk result (length reader.new < length reader.old) }
     ensures err { result ≡ Err ReadFault.NotJson → IsNoValue depth reader.old }
 {
-    match begin(reader, depth)? {
-        Begun::Scalar(scalar) => Ok(listed(scalar)),
-        Begun::Array => {
+    match read_start(reader, depth)? {
+        ValueStart::Shallow(shallow) => Ok(array_presence(shallow)),
+        ValueStart::Array => {
             read_items(alloc, reader, depth - 1, collector)?;
-            Ok(Listed::List)
+            Ok(ArrayPresence::List)
         }
-        Begun::Object => {
-            pass_members(reader, depth - 1)?;
-            Ok(Listed::Other)
+        ValueStart::Object => {
+            skip_members(reader, depth - 1)?;
+            Ok(ArrayPresence::Other)
         }
     }
 }
 
-/// What a scalar is to who looks for a list.
-fn listed(scalar: Scalar<'_>) -> Listed
-    ensures { (d : Data) → IsScalar d → scalar_view scalar.entry ≡ seen (Some d) → result ≡ listed d }
+/// Tells `null` from the other scalars, none of which is an array.
+fn array_presence(shallow: Shallow<'_>) -> ArrayPresence
+    ensures { (d : Data) → IsScalar d → shallow_view shallow.entry ≡ shallow_of (Some d) → result ≡ array_presence d }
 {
-    match scalar {
-        Scalar::Absent => Listed::Absent,
-        _ => Listed::Other,
+    match shallow {
+        Shallow::Absent => ArrayPresence::Absent,
+        _ => ArrayPresence::Other,
     }
 }

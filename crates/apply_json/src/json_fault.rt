@@ -1,23 +1,25 @@
-//! Why bytes gave no tree.
+//! Why bytes were refused as JSON.
 
 ghost use Rattle.std.specs.Prelude.{◌≡◌};
 ghost use Rattle.apply_json.specs.Parsed.{json_fault_of};
 
 use crate::read_fault::ReadFault;
 
-/// Why there is no tree.
+/// Why bytes were refused as JSON.
 #[derive(Clone, Copy)]
 pub enum JsonFault {
-    /// There are more bytes than the caller allows.
+    /// The input has more bytes than the caller allows.
     TooLarge,
-    /// The bytes are not JSON (RFC 8259) in UTF-8, or it nests more than 127 deep.
+    /// The bytes are not UTF-8 or not JSON (RFC 8259), or values nest more than 127 deep.
+    ///
+    /// A number beyond the range of a 64-bit float counts as no JSON.
     NotJson,
     /// Memory was refused.
     Memory,
 }
 
 impl JsonFault {
-    /// Why bytes gave no tree whose text gave none.
+    /// Converts the fault of a text that was not too large.
     pub fn of(fault: ReadFault) -> JsonFault
         ensures { result ≡ json_fault_of fault }
     {

@@ -1,10 +1,10 @@
-//! From bytes to what is kept of them.
+//! Reads whole inputs: bytes to text, and the top-level object into slots.
 
 ghost use Rattle.std.specs.Prelude.{◌≡◌, ◌≢◌, ◌≤◌, [], length, Err, None, IfOk, IfErr, IsUtf8, OnErr, OnOk, Some};
 ghost use Rattle.serde_json.specs.Data.{Data, no_members};
 ghost use Rattle.serde_json.specs.Read.{read as read_text};
-ghost use Rattle.apply_json.specs.Keeping.{IsNoKeptTree, keeping_tree_of, keeping_tree_of_text};
-ghost use Rattle.apply_json.specs.Seen.{members_in};
+ghost use Rattle.apply_json.specs.Verbatim.{IsNoMixedTree, mixed_tree_of, mixed_tree_of_text};
+ghost use Rattle.apply_json.specs.ShallowView.{members_in};
 ghost use Rattle.apply_json.specs.Parsed.{IsNoTree};
 
 use crate::json_fault::JsonFault;
@@ -14,12 +14,13 @@ use json::{Reader, Scratch};
 use simdutf8::basic::from_utf8;
 use std::alloc::Global;
 
-/// How deep arrays and objects may nest.
+/// The greatest depth to which arrays and objects may nest.
 pub const MAX_DEPTH: usize = 127;
 
-/// The text that the bytes are, of which there may be `most`.
+/// The bytes as text.
 ///
-/// `Err` with `JsonFault::TooLarge` where there are more, and with `JsonFault::NotJson` where they are no UTF-8.
+/// `Err` is `JsonFault::TooLarge` for more than `most` bytes, and `JsonFault::NotJson` for bytes
+/// that are not UTF-8.
 pub fn text_of(bytes: &[u8], most: usize) -> Result<&str, JsonFault>
     ensures ok { IfOk result
         (λ text. (text.now ≡ bytes.now) × (length bytes.now ≤ most) × IsUtf8 bytes.now) }
@@ -34,11 +35,13 @@ pub fn text_of(bytes: &[u8], most: usize) -> Result<&str, JsonFault>
     }
 }
 
-/// Reads the members of the object that the bytes are, of which there may be `most`, into slots. The values of some members may
-/// be kept as their own texts. Bytes that are another value have none. `scratch` grows to the length of the bytes.
+/// Reads the members of a top-level object into slots. Any other value counts as an empty object.
 ///
-/// `Err` with `JsonFault::TooLarge` where there are more, else with `JsonFault::NotJson` where they are no JSON (RFC 8259)
-/// in UTF-8, or nest more than 127 deep; with `JsonFault::Memory` where memory is refused.
+/// `scratch` grows to the length of the bytes. `Err` is one of these:
+/// - `JsonFault::TooLarge`: there are more than `most` bytes.
+/// - `JsonFault::NotJson`: the bytes are not UTF-8 or not JSON (RFC 8259), or values nest more than
+///   127 deep.
+/// - `JsonFault::Memory`: memory was refused.
 pub fn read_slots<'a, S: Slots<'a>>(
     alloc: Global,
     scratch: &'a mut Scratch,
@@ -48,8 +51,8 @@ pub fn read_slots<'a, S: Slots<'a>>(
 ) -> Result<(), JsonFault>
     requires { S.holds slots.old slots.old no_members }
     ensures ok { OnOk result ((length bytes.now ≤ most)
-        × ((tree : Data) × (keeping_tree_of S.kept bytes.now ≡ Some tree) × S.holds slots.old slots.new (members_in tree))) }
-    ensures err { IfErr result (λ fault. IsNoKeptTree S.kept most fault bytes.now) }
+        × ((tree : Data) × (mixed_tree_of S.is_verbatim bytes.now ≡ Some tree) × S.holds slots.old slots.new (members_in tree))) }
+    ensures err { IfErr result (λ fault. IsNoMixedTree S.is_verbatim most fault bytes.now) }
 {
     let text = text_of(bytes, most)?;
     match read_whole(alloc, scratch, text, slots) {
@@ -58,7 +61,7 @@ pub fn read_slots<'a, S: Slots<'a>>(
     }
 }
 
-/// Reads the members of the object that the text is.
+/// Reads the members of a top-level object from a text.
 fn read_whole<'a, S: Slots<'a>>(
     alloc: Global,
     scratch: &'a mut Scratch,
@@ -66,7 +69,7 @@ fn read_whole<'a, S: Slots<'a>>(
     slots: &mut S,
 ) -> Result<(), ReadFault>
     requires { S.holds slots.old slots.old no_members }
-    ensures ok { OnOk result ((tree : Data) × (keeping_tree_of_text S.kept text.now ≡ Some tree) × S.holds slots.old slots.new (members_in tree)) }
+    ensures ok { OnOk result ((tree : Data) × (mixed_tree_of_text S.is_verbatim text.now ≡ Some tree) × S.holds slots.old slots.new (members_in tree)) }
     ensures err { result ≡ Err ReadFault.NotJson → read_text text.now ≡ None }
 {
     let mut reader = Reader::new(text, scratch)?;
@@ -74,7 +77,7 @@ fn read_whole<'a, S: Slots<'a>>(
     end(&mut reader)
 }
 
-/// That nothing stands behind a value.
+/// Checks that no token is left. `Err` is `ReadFault::NotJson` if one is.
 #[inline(always)]
 pub fn end(reader: &mut Reader<'_>) -> Result<(), ReadFault>
     ensures ok { OnOk result (reader.old ≡ []) }

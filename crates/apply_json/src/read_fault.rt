@@ -1,4 +1,4 @@
-//! Why no tree was read.
+//! Why a JSON text was refused.
 
 ghost use Rattle.std.specs.Prelude.{◌≡◌};
 ghost use Rattle.apply_json.specs.declared.read_fault.ReadFault.TheVariants.{Memory, NotJson};
@@ -6,10 +6,10 @@ ghost use Rattle.apply_json.specs.declared.read_fault.ReadFault.TheVariants.{Mem
 use json::Invalid;
 use std::alloc::{AllocError, AllocFailed};
 
-/// Why a text gave no tree.
+/// Why a JSON text was refused.
 #[derive(Clone, Copy, Drop)]
 pub enum ReadFault {
-    /// The text is not JSON (RFC 8259), or it nests more than 127 deep.
+    /// The text is not JSON (RFC 8259), a number is out of range, or values nest too deep.
     NotJson,
     /// Memory was refused.
     Memory,

@@ -1,4 +1,4 @@
--- What is made of what was read: it is there where nothing was wrong with that, and else refused as that was.
+-- A value that is given if a read succeeded. Otherwise the fault of the read is given.
 use Rattle.std.proofs.Common.{◌≡◌, Result, Ok, Err, subst, sym, ap}
 use Rattle.std.specs.Prelude.{IfOk, MatchResult, OnOk}
 use Rattle.serde_json.specs.declared.value.Value.{Value}

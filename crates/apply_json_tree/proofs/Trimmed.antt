@@ -1,4 +1,4 @@
--- Lemmas on trees without what nobody looks at.
+-- Lemmas on trimmed trees.
 pub mod Items
 pub mod Lookups
 pub mod Members

@@ -1,4 +1,4 @@
-//! Looking into a tree.
+//! Lookups in a tree.
 
 ghost use Rattle.std.specs.Prelude.{◌≡◌, option_map};
 ghost use Rattle.std.specs.Option.{option_copied};
@@ -8,50 +8,50 @@ ghost use Rattle.apply_json.specs.Tree.{is_word, items_or_empty, member_of, non_
 use apply_json::non_empty;
 use serde_json::Value;
 
-/// The member of that name. `null` counts as absent, and only an object has members.
+/// The member `name`. `null` counts as absent, and only objects have members.
 pub fn member<'a>(object: &'a Value, name: &str) -> Option<&'a Value>
-    ensures { option_map (λ found. view found.now) result ≡ member_of name.now (view object.now) }
+    ensures { option_map (λ value. view value.now) result ≡ member_of name.now (view object.now) }
 {
-    let found = object.get(name)?;
-    if found.is_null() { None } else { Some(found) }
+    let value = object.get(name)?;
+    if value.is_null() { None } else { Some(value) }
 }
 
-/// A member that has to be a text.
+/// The member `name`, or `None` if it is not a text.
 pub fn text_member<'a>(object: &'a Value, name: &str) -> Option<&'a str>
     ensures { option_copied result ≡ text_of name.now (view object.now) }
 {
     member(object, name)?.as_str()
 }
 
-/// A member that has to be a text, or `absent` where it is absent.
+/// The member `name`, or `absent` if there is none. `None` means a member that is not a text.
 pub fn text_member_or<'a>(object: &'a Value, name: &str, absent: &'a str) -> Option<&'a str>
     ensures { option_copied result ≡ text_or absent.now (member_of name.now (view object.now)) }
 {
     match member(object, name) {
-        Some(found) => found.as_str(),
+        Some(value) => value.as_str(),
         None => Some(absent),
     }
 }
 
-/// A member that has to be a text with at least one byte.
+/// The member `name`, or `None` if it is not a text or is empty.
 pub fn non_empty_text_member<'a>(object: &'a Value, name: &str) -> Option<&'a str>
     ensures { option_copied result ≡ non_empty_text_of name.now (view object.now) }
 {
     non_empty(text_member(object, name)?)
 }
 
-/// The values of an array, or no values where it is absent. `None` where it is no array.
-pub fn array_or_empty(found: Option<&Value>) -> Option<&[Value]>
+/// The items of an array, or no items if there is no value. `None` means a value of another type.
+pub fn array_or_empty(value: Option<&Value>) -> Option<&[Value]>
     ensures { option_map (λ items. items_view items.now) result
-        ≡ items_or_empty (option_map (λ value. view value.now) found.entry) }
+        ≡ items_or_empty (option_map (λ value. view value.now) value.entry) }
 {
-    match found {
+    match value {
         Some(value) => Some(value.as_array()?.as_slice()),
         None => Some(&[]),
     }
 }
 
-/// Whether the value is a text, and this one.
+/// Whether the value is the text `word`.
 pub fn is_text(value: &Value, word: &str) -> bool
     ensures { result ≡ is_word word.now (view value.now) }
 {

@@ -1,4 +1,4 @@
-//! From bytes to a tree.
+//! Parses bytes into a tree.
 
 ghost use Rattle.std.specs.Prelude.{◌≡◌, ◌≤◌, length, IfOk, IfErr, Some};
 ghost use Rattle.serde_json.specs.View.{view};
@@ -12,10 +12,11 @@ use apply_json::{JsonFault, Scratch, text_of};
 use serde_json::Value;
 use std::alloc::Global;
 
-/// The tree that the bytes are, of which there may be `most`.
-///
-/// `Err` with `JsonFault::TooLarge` where there are more, else with `JsonFault::NotJson` where they are no JSON (RFC 8259)
-/// in UTF-8, or nest more than 127 deep; with `JsonFault::Memory` where memory is refused.
+/// Parses bytes into a tree. `Err` is one of these:
+/// - `JsonFault::TooLarge`: there are more than `most` bytes.
+/// - `JsonFault::NotJson`: the bytes are not UTF-8 or not JSON (RFC 8259), or values nest more than
+///   127 deep.
+/// - `JsonFault::Memory`: memory was refused.
 pub fn parse(alloc: Global, bytes: &[u8], most: usize) -> Result<Value, JsonFault>
     ensures ok { IfOk result
         (λ tree. (length bytes.now ≤ most) × (tree_of bytes.now ≡ Some (view tree))) }
@@ -32,9 +33,10 @@ pub fn parse(alloc: Global, bytes: &[u8], most: usize) -> Result<Value, JsonFaul
     }
 }
 
-/// The tree that the bytes are, without what nobody looks at in a value of that shape. It takes no memory for that, which is
-/// checked as the rest is. `scratch` grows to the length of the bytes, and may be lent to one read after the other. `Err` as
-/// `parse`.
+/// Parses bytes into a tree that has only the members and items that `shape` selects.
+///
+/// Skipped parts take no memory, but are checked like the rest. `scratch` grows to the length of
+/// the bytes, and can be used again for the next call. `Err` is as in [`parse`].
 pub fn parse_trimmed<S: Shape>(
     alloc: Global,
     scratch: &mut Scratch,

@@ -1,4 +1,6 @@
-//! From text to a tree that holds what somebody looks at and no more, in one pass.
+//! Reads a text in one pass into a tree that has only the parts that a shape selects.
+//!
+//! Every `Err` is a [`ReadFault`]: the text is not JSON, or memory was refused.
 
 ghost use Rattle.std.specs.Prelude.{◌≡◌, ◌<◌, ◌++◌, ◌∷◌, [], length, Err, IfOk, MatchResult, None, Ok, OnOk, Some};
 ghost use Rattle.json.specs.Json.{items, members, value};
@@ -6,16 +8,16 @@ ghost use Rattle.serde_json.specs.Data.{Data, Items, Members, no_members, put as
 ghost use Rattle.serde_json.specs.Read.{converted, of_items, of_json, of_members, read as read_text};
 ghost use Rattle.serde_json.specs.View.{view, items_view, members_view};
 ghost use Rattle.serde_json.specs.declared.value.Value.{Value};
-ghost use Rattle.apply_json.specs.Seen.{IsScalar, scalar_view, seen};
+ghost use Rattle.apply_json.specs.ShallowView.{IsScalar, shallow_view, shallow_of};
 ghost use Rattle.apply_json_tree.specs.Trimmed.{is_within, trimmed, trimmed_items, trimmed_members};
 
 use crate::shape::Shape;
-use apply_json::{Begun, MAX_DEPTH, ReadFault, Scalar, begin, end, pass};
+use apply_json::{MAX_DEPTH, ReadFault, Shallow, ValueStart, end, read_start, skip_value};
 use json::{Reader, Scratch};
 use serde_json::{Map, Value, put};
 use std::alloc::Global;
 
-/// The tree that the text is, without what nobody looks at.
+/// Reads a whole text. Parts that `shape` does not select are skipped.
 pub fn read_trimmed<S: Shape>(
     alloc: Global,
     scratch: &mut Scratch,
@@ -47,36 +49,36 @@ fn read<S: Shape>(
     ensures err { result ≡ Err ReadFault.NotJson
         → converted of_json (value depth reader.old) ≡ None }
 {
-    match begin(reader, depth)? {
-        Begun::Scalar(scalar) => value_of(alloc, scalar),
-        Begun::Array => {
-            let mut found = Vec::new(alloc);
-            let is_read = read_items(alloc, reader, depth - 1, shape, &mut found);
-            made(is_read, Value::Array(found))
+    match read_start(reader, depth)? {
+        ValueStart::Shallow(shallow) => value_of(alloc, shallow),
+        ValueStart::Array => {
+            let mut stored = Vec::new(alloc);
+            let is_read = read_items(alloc, reader, depth - 1, shape, &mut stored);
+            made(is_read, Value::Array(stored))
         }
-        Begun::Object => {
-            let mut found = Map::new(alloc);
-            let is_read = read_members(alloc, reader, depth - 1, shape, &mut found);
-            made(is_read, Value::Object(found))
+        ValueStart::Object => {
+            let mut stored = Map::new(alloc);
+            let is_read = read_members(alloc, reader, depth - 1, shape, &mut stored);
+            made(is_read, Value::Object(stored))
         }
     }
 }
 
-/// The tree that a scalar is. Memory alone can be refused.
-fn value_of(alloc: Global, scalar: Scalar<'_>) -> Result<Value, ReadFault>
-    ensures ok { IfOk result (λ v. (d : Data) → IsScalar d → scalar_view scalar.entry ≡ seen (Some d) → view v ≡ d) }
+/// Copies a scalar into a tree. `Err` is always `ReadFault::Memory`.
+fn value_of(alloc: Global, shallow: Shallow<'_>) -> Result<Value, ReadFault>
+    ensures ok { IfOk result (λ v. (d : Data) → IsScalar d → shallow_view shallow.entry ≡ shallow_of (Some d) → view v ≡ d) }
     ensures err { result ≡ Err ReadFault.NotJson → ⊥ }
 {
-    match scalar {
-        // An array and an object are no scalars.
-        Scalar::Absent | Scalar::Array | Scalar::Object => Ok(Value::Null),
-        Scalar::Bool(b) => Ok(Value::Bool(b)),
-        Scalar::Number(number) => Ok(Value::Number(number)),
-        Scalar::Text(text) => Ok(Value::String(String::from_str(alloc, text)?)),
+    match shallow {
+        // Callers pass only scalars, so arrays and objects never come here.
+        Shallow::Absent | Shallow::Array | Shallow::Object => Ok(Value::Null),
+        Shallow::Bool(b) => Ok(Value::Bool(b)),
+        Shallow::Number(number) => Ok(Value::Number(number)),
+        Shallow::Text(text) => Ok(Value::String(String::from_str(alloc, text)?)),
     }
 }
 
-/// What was made of what was read, where nothing was wrong with it.
+/// Gives `whole` if the read succeeded, and the fault of the read otherwise.
 #[inline(always)]
 fn made(read: Result<(), ReadFault>, whole: Value) -> Result<Value, ReadFault>
     ensures { MatchResult read (λ _. result ≡ Ok whole) (λ fault. result ≡ Err fault) }
@@ -87,7 +89,7 @@ fn made(read: Result<(), ReadFault>, whole: Value) -> Result<Value, ReadFault>
     }
 }
 
-/// Whether an item is looked at that stands behind `count` others.
+/// Whether an item after `count` others is stored.
 fn is_within(limit: Option<usize>, count: usize) -> bool
     ensures { result ≡ is_within limit count }
 {
@@ -97,37 +99,37 @@ fn is_within(limit: Option<usize>, count: usize) -> bool
     }
 }
 
-/// Keeps an item behind the others, where it was read.
+/// Adds an item to the list if the read succeeded.
 #[inline(always)]
-fn keep_item(found: &mut Vec<Value>, item: Result<Value, ReadFault>) -> Result<(), ReadFault>
-    ensures ok { OnOk result ((v : Value) × (item ≡ Ok v) × (found.new.items ≡ found.old.items ++ v ∷ [])) }
+fn store_item(stored: &mut Vec<Value>, item: Result<Value, ReadFault>) -> Result<(), ReadFault>
+    ensures ok { OnOk result ((v : Value) × (item ≡ Ok v) × (stored.new.items ≡ stored.old.items ++ v ∷ [])) }
     ensures err { result ≡ Err ReadFault.NotJson → item ≡ Err ReadFault.NotJson }
 {
     match item {
-        Ok(item) => Ok(found.push(item)?),
+        Ok(item) => Ok(stored.push(item)?),
         Err(fault) => Err(fault),
     }
 }
 
-/// Keeps a member among the others, where it was read. It takes the place of an earlier one of that name.
+/// Adds a member to the map if the read succeeded. It replaces an earlier member of the same name.
 #[inline(always)]
-fn keep_member(
+fn store_member(
     alloc: Global,
-    found: &mut Map<String, Value>,
+    stored: &mut Map<String, Value>,
     name: &str,
     member: Result<Value, ReadFault>,
 ) -> Result<(), ReadFault>
     ensures ok { OnOk result ((v : Value) × (member ≡ Ok v)
-        × (members_view found.new.entries ≡ with_member name.now (view v) (members_view found.old.entries))) }
+        × (members_view stored.new.entries ≡ with_member name.now (view v) (members_view stored.old.entries))) }
     ensures err { result ≡ Err ReadFault.NotJson → member ≡ Err ReadFault.NotJson }
 {
     match member {
-        Ok(member) => Ok(put(found, alloc, name, member)?),
+        Ok(member) => Ok(put(stored, alloc, name, member)?),
         Err(fault) => Err(fault),
     }
 }
 
-/// Reads the rest of an array into an empty list.
+/// Reads an array after its `[` into an empty list.
 #[cycle(read)]
 #[inline(never)]
 fn read_items<S: Shape>(
@@ -135,30 +137,30 @@ fn read_items<S: Shape>(
     reader: &mut Reader<'_>,
     depth: usize,
     shape: S,
-    found: &mut Vec<Value>,
+    stored: &mut Vec<Value>,
 ) -> Result<(), ReadFault>
-    requires { found.old.items ≡ [] }
+    requires { stored.old.items ≡ [] }
     ensures ok { OnOk result ((ds : Items)
         × (converted of_items (items (value depth) (length reader.old) reader.old)
         ≡ Some (ds, reader.new))
-        × (items_view found.new.items
+        × (items_view stored.new.items
         ≡ trimmed_items S.selection (S.selection.item_shape shape) (S.selection.item_limit shape) ds)) }
     ensures shorter { OnOk result (length reader.new < length reader.old) }
     ensures err { result ≡ Err ReadFault.NotJson
         → converted of_items (items (value depth) (length reader.old) reader.old) ≡ None }
 {
     'items: while !reader.take_end_array() {
-        if is_within(shape.limit(), found.len()) {
+        if is_within(shape.limit(), stored.len()) {
             let item = read(alloc, reader, depth, shape.item());
-            keep_item(found, item)?;
+            store_item(stored, item)?;
         } else {
-            pass(reader, depth)?;
+            skip_value(reader, depth)?;
         }
     }
     Ok(())
 }
 
-/// Reads the rest of an object into an empty map.
+/// Reads an object after its `{` into an empty map.
 #[cycle(read)]
 #[inline(never)]
 fn read_members<S: Shape>(
@@ -166,25 +168,25 @@ fn read_members<S: Shape>(
     reader: &mut Reader<'_>,
     depth: usize,
     shape: S,
-    found: &mut Map<String, Value>,
+    stored: &mut Map<String, Value>,
 ) -> Result<(), ReadFault>
-    requires { found.old.entries ≡ [] }
+    requires { stored.old.entries ≡ [] }
     ensures ok { OnOk result ((ms : Members)
-        × (converted (λ found. of_members found no_members)
+        × (converted (λ stored. of_members stored no_members)
         (members (value depth) (length reader.old) reader.old) ≡ Some (ms, reader.new))
-        × (members_view found.new.entries ≡ trimmed_members S.selection shape ms)) }
+        × (members_view stored.new.entries ≡ trimmed_members S.selection shape ms)) }
     ensures shorter { OnOk result (length reader.new < length reader.old) }
     ensures err { result ≡ Err ReadFault.NotJson
-        → converted (λ found. of_members found no_members)
+        → converted (λ stored. of_members stored no_members)
         (members (value depth) (length reader.old) reader.old) ≡ None }
 {
     'members: while let Some(name) = reader.next_key()? {
         match shape.member(name) {
             Some(known) => {
                 let member = read(alloc, reader, depth, known);
-                keep_member(alloc, found, name, member)?;
+                store_member(alloc, stored, name, member)?;
             }
-            None => pass(reader, depth)?,
+            None => skip_value(reader, depth)?,
         }
     }
     Ok(())

@@ -1,4 +1,5 @@
-//! What no clause says: that the definitions are the ones that were meant, and that calls succeed with ample memory.
+//! Tests of what no contract states: the definitions mean what was intended, and calls succeed with
+//! enough memory.
 
 use apply_json::{JsonFault, Scratch, non_empty};
 use apply_json_tree::members::{
@@ -9,7 +10,7 @@ use serde_json::Value;
 use std::alloc::Global;
 use std::process::Abort;
 
-/// A shape for the tests: of an object the members `a` and `list` are looked at, of a list two items.
+/// A shape that selects the members `a` and `list` of an object, and two items of an array.
 #[derive(Clone, Copy)]
 enum TestShape {
     Object,
@@ -50,23 +51,23 @@ impl Shape for TestShape {
     }
 }
 
-/// The value, for as long as the test runs: a proof grows with each place at which something has to be dropped.
+/// Leaks a value until the test ends. A proof grows with each place where a value is dropped.
 fn kept<'a, T: Drop + 'a>(rt: &impl Abort, alloc: Global, value: T) -> &'a T {
     let kept = Box::new(alloc, value).expect(rt, "memory");
     &*Box::leak(kept)
 }
 
-/// What stands before the first mark of a row, and behind it.
+/// Splits a row at its first mark.
 fn parted<'a>(rt: &impl Abort, row: &'a str) -> (&'a str, &'a str) {
     row.split_once(" => ").expect(rt, row)
 }
 
-/// Fails where another text was found in the row or case.
+/// Fails if the text of the row or case is not the wanted one.
 fn compare(rt: &impl Abort, row: &str, found: &str, wanted: &str) {
     assert!(rt; found == wanted, "at {row}: {found}");
 }
 
-/// The fault in words.
+/// The name of the fault.
 fn named(fault: JsonFault) -> &'static str {
     match fault {
         JsonFault::TooLarge => "too large",
@@ -75,7 +76,7 @@ fn named(fault: JsonFault) -> &'static str {
     }
 }
 
-/// The tree of a text that is one.
+/// The tree of a valid text.
 fn tree_of(rt: &impl Abort, alloc: Global, text: &str) -> &'static Value {
     match kept(rt, alloc, parse(alloc, text.as_bytes(), text.len())) {
         Ok(tree) => tree,
@@ -83,13 +84,13 @@ fn tree_of(rt: &impl Abort, alloc: Global, text: &str) -> &'static Value {
     }
 }
 
-/// The tree that the bytes are, without what nobody looks at.
+/// The trimmed tree of the bytes.
 fn trimmed(alloc: Global, bytes: &[u8], most: usize, shape: TestShape) -> Result<Value, JsonFault> {
     let mut scratch = Scratch::new(alloc);
     parse_trimmed(alloc, &mut scratch, bytes, most, shape)
 }
 
-/// Texts, and what is left of them.
+/// Texts, and their trimmed trees as text.
 const TEXTS: &str = r#"
 {"z":1,"a":2,"b":[3]} => {"a":2}
 {"a":1,"b":2,"a":3} => {"a":3}
@@ -106,13 +107,13 @@ true => true
  => no JSON
 "#;
 
-/// Fails where the tree is another text.
+/// Fails if the tree is not the wanted text.
 fn is_text_of(rt: &impl Abort, alloc: Global, tree: &Value, text: &str, wanted: &str) {
     let left = tree.to_string(alloc).expect(rt, "memory");
     compare(rt, text, left.as_str(), wanted);
 }
 
-/// Fails where something else is left of the text, or it has another fault.
+/// Fails if the trimmed tree or the fault of the text is not the wanted one.
 fn is_left(rt: &impl Abort, alloc: Global, text: &str, wanted: &str) {
     let left = trimmed(alloc, text.as_bytes(), 100, TestShape::Object);
     match kept(rt, alloc, left) {
@@ -129,7 +130,7 @@ fn what_is_looked_at_is_left(rt: HostRuntime) {
     }
 }
 
-/// Why there is no tree.
+/// The fault, as text.
 fn refusal(found: Result<Value, JsonFault>) -> &'static str {
     match found.err() {
         Some(fault) => named(fault),
@@ -137,7 +138,7 @@ fn refusal(found: Result<Value, JsonFault>) -> &'static str {
     }
 }
 
-/// Fails where the bytes are not refused alike, whether the tree is trimmed or not.
+/// Fails unless both parsers refuse the bytes with the wanted fault.
 fn both_refuse(rt: &impl Abort, alloc: Global, bytes: &[u8], wanted: &str) {
     compare(rt, "a whole tree", refusal(parse(alloc, bytes, 4)), wanted);
     let found = refusal(trimmed(alloc, bytes, 4, TestShape::List));
@@ -151,7 +152,7 @@ fn bytes_are_refused(rt: HostRuntime) {
     both_refuse(&rt, rt.alloc(), b"tru", "no JSON");
 }
 
-/// A function, the name that it is asked for, and the text that it finds.
+/// A lookup function, the name of a member, and the text that the function gives.
 const FOUND: &str = r#"
 text_member => a => b
 text_member => number => nothing
@@ -162,7 +163,7 @@ non_empty_text_member => empty => nothing
 non_empty => a => a
 "#;
 
-/// What the function of that name finds.
+/// The text that the named lookup function gives.
 fn found<'a>(tree: &'a Value, function: &str, name: &'a str) -> Option<&'a str> {
     match function {
         "text_member" => text_member(tree, name),
@@ -172,7 +173,7 @@ fn found<'a>(tree: &'a Value, function: &str, name: &'a str) -> Option<&'a str> 
     }
 }
 
-/// Fails where another text is found in the tree than the row says.
+/// Fails if a lookup gives another text than the row states.
 fn is_found(rt: &impl Abort, tree: &Value, row: &str) {
     let (function, rest) = parted(rt, row);
     let (name, wanted) = parted(rt, rest);
@@ -180,17 +181,17 @@ fn is_found(rt: &impl Abort, tree: &Value, row: &str) {
     compare(rt, row, found, wanted);
 }
 
-/// Whether a text is a member, and `null` is none.
+/// Whether a text counts as a member, and `null` does not.
 fn null_is_absent(tree: &Value) -> bool {
     member(tree, "a").is_some() && member(tree, "none").is_none()
 }
 
-/// Whether the member is a text, and this one.
+/// Whether the member is the text `word`.
 fn says(rt: &impl Abort, tree: &Value, name: &str, word: &str) -> bool {
     is_text(tree.get(name).expect(rt, name), word)
 }
 
-/// Fails where it is not so.
+/// Fails if the condition is false.
 fn holds(rt: &impl Abort, case: &str, is_so: bool) {
     assert!(rt; is_so, "{case}");
 }
@@ -207,7 +208,7 @@ fn members_are_found(rt: HostRuntime) {
     holds(&rt, "5", !says(&rt, tree, "number", "5"));
 }
 
-/// Members, and how many items they have.
+/// Members, and the number of their items.
 const COUNTS: &str = r#"
 list => 3
 empty => 0
@@ -216,13 +217,13 @@ absent => 0
 number => no list
 "#;
 
-/// How many items the member has; none where it is no list.
+/// The number of items of the member. `None` means that it is not an array.
 fn count_of(tree: &Value, name: &str) -> Option<usize> {
     let items = array_or_empty(member(tree, name))?;
     Some(items.len())
 }
 
-/// Whether the member has so many items; it is no list where no number is wanted.
+/// Whether the member has the wanted number of items. Without a number it must not be an array.
 fn has_items(tree: &Value, name: &str, wanted: &str) -> bool {
     count_of(tree, name) == wanted.parse::<usize>().ok()
 }

@@ -1,7 +1,7 @@
-//! Lines, each in a text of its own and behind another.
+//! Builds lines, each in a text of its own and after another one.
 
+use crate::printing::{answer, begin, leaked};
 use crate::readers::{ONE_CREATE, plan_of};
-use crate::telling::{answer, begin, kept};
 use apply_events::{Counts, Runner};
 use apply_hooks::Registry;
 use apply_plan::{Plan, Script};
@@ -27,10 +27,10 @@ pub fn summary(rt: &impl Print, alloc: Global) -> io::Result<()> {
 
 /// A script without entries.
 fn no_script(alloc: Global) -> io::Result<&'static Script> {
-    Ok(kept(alloc, Script::empty())?)
+    Ok(leaked(alloc, Script::empty())?)
 }
 
-/// What is answered where the plan has no event.
+/// The answer if the plan has no event.
 fn no_event() -> io::Result<()> {
     Err(io::Error::from(ErrorKind::InvalidData))
 }
@@ -38,7 +38,7 @@ fn no_event() -> io::Result<()> {
 /// Makes the line of the plan's first event.
 pub fn event(rt: &impl Print, alloc: Global) -> io::Result<()> {
     let plan = plan_of(alloc, ONE_CREATE)?;
-    let registry = kept(alloc, Registry::new(alloc))?;
+    let registry = leaked(alloc, Registry::new(alloc))?;
     event_of(rt, alloc, plan, no_script(alloc)?, registry)
 }
 
@@ -64,52 +64,52 @@ fn event_of(
 
 /// A buffer with one line.
 fn begun(alloc: Global, plan: &Plan) -> io::Result<&'static mut LineBuffer> {
-    let buffer = kept(alloc, LineBuffer::new(alloc))?;
+    let buffer = leaked(alloc, LineBuffer::new(alloc))?;
     buffer.push_version(plan, Start::zero())?;
     Ok(buffer)
 }
 
-/// Tells what is in the buffer, behind a word.
-fn tell(rt: &impl Print, word: &str, buffer: &LineBuffer) -> io::Result<()> {
+/// Prints a word, and the content of the buffer.
+fn print_line(rt: &impl Print, word: &str, buffer: &LineBuffer) -> io::Result<()> {
     match str::from_utf8(buffer.as_bytes()) {
         Ok(lines) => println!(rt; "{word} {lines:?}"),
         Err(_) => println!(rt; "no text"),
     }
 }
 
-/// Tells how adding a line ended, and what is in the buffer then.
-fn tell_pushed(
+/// Prints how adding a line ended, and the content of the buffer.
+fn print_pushed(
     rt: &impl Print,
     pushed: Result<(), AllocError>,
     buffer: &LineBuffer,
 ) -> io::Result<()> {
     let word = if pushed.is_ok() { "Ok" } else { "Err" };
-    tell(rt, word, buffer)
+    print_line(rt, word, buffer)
 }
 
 /// Adds the version line to a buffer.
 pub fn pushed_version(rt: &impl Print, alloc: Global) -> io::Result<()> {
     let plan = plan_of(alloc, ONE_CREATE)?;
     let buffer = begun(alloc, plan)?;
-    tell(rt, "call", buffer)?;
+    print_line(rt, "call", buffer)?;
     let pushed = buffer.push_version(plan, Start::zero());
-    tell_pushed(rt, pushed, buffer)
+    print_pushed(rt, pushed, buffer)
 }
 
 /// Adds the summary to a buffer.
 pub fn pushed_summary(rt: &impl Print, alloc: Global) -> io::Result<()> {
     let plan = plan_of(alloc, ONE_CREATE)?;
     let buffer = begun(alloc, plan)?;
-    tell(rt, "call", buffer)?;
+    print_line(rt, "call", buffer)?;
     let pushed = buffer.push_summary(Start::zero(), 0, Operation::Apply, &Counts::new());
-    tell_pushed(rt, pushed, buffer)
+    print_pushed(rt, pushed, buffer)
 }
 
 /// Adds the line of the plan's first event to a buffer.
 pub fn pushed_event(rt: &impl Print, alloc: Global) -> io::Result<()> {
     let plan = plan_of(alloc, ONE_CREATE)?;
     let buffer = begun(alloc, plan)?;
-    let registry = kept(alloc, Registry::new(alloc))?;
+    let registry = leaked(alloc, Registry::new(alloc))?;
     push_event_of(rt, plan, no_script(alloc)?, registry, buffer)
 }
 
@@ -128,7 +128,7 @@ fn push_event_of(
     let Some(event) = runner.next() else {
         return no_event();
     };
-    tell(rt, "call", buffer)?;
+    print_line(rt, "call", buffer)?;
     let pushed = buffer.push_event(plan, script, Start::zero(), event.at, &event);
-    tell_pushed(rt, pushed, buffer)
+    print_pushed(rt, pushed, buffer)
 }

@@ -1,7 +1,7 @@
 //! A program that makes one public call, so that `checks/refuse_calls` can refuse it memory.
 //!
-//! The line before the answer begins with `call`, and tells what was there before. A call that could not be prepared has
-//! neither.
+//! The line before the answer begins with `call`, and prints what was there before. A call that
+//! could not be prepared prints neither line.
 #![tactic(auto)]
 
 mod command;
@@ -9,9 +9,9 @@ mod lanes;
 mod lines;
 mod lists;
 mod opening;
+mod printing;
 mod readers;
 mod runs;
-mod telling;
 mod whole_runs;
 
 use std::alloc::Global;
@@ -21,7 +21,7 @@ use std::process::ExitCode;
 use std::sync::Wait;
 use std::thread::Threads;
 
-/// What `main` answers where a call could not be prepared.
+/// The exit status of `main` if a call could not be prepared.
 const UNPREPARED: u8 = 4;
 
 fn main(rt: HostRuntime) -> ExitCode {
@@ -31,7 +31,8 @@ fn main(rt: HostRuntime) -> ExitCode {
     }
 }
 
-/// Makes the call that the first word names. `Err` where there is none, and where it could not be prepared or told.
+/// Makes the call that the first argument names. `Err` if it names none, or if the call could not
+/// be prepared or printed.
 fn answer<R: Print + Threads + Wait + Sync>(host: &HostRuntime, rt: &R) -> io::Result<()> {
     let words: Vec<String> = std::env::args(host)?.collect(host.alloc())?;
     let Some(word) = words.get(1) else {
@@ -40,7 +41,7 @@ fn answer<R: Print + Threads + Wait + Sync>(host: &HostRuntime, rt: &R) -> io::R
     answer_of(rt, host.alloc(), word.as_str())
 }
 
-/// Makes the call of that name.
+/// Makes the call with that name. `Err` if it could not be prepared or printed.
 fn answer_of<R: Print + Threads + Wait + Sync>(
     rt: &R,
     alloc: Global,

@@ -1,6 +1,6 @@
 //! The opening of a bus and of claims.
 
-use crate::telling::begin;
+use crate::printing::begin;
 use apply_bus::{Claims, open};
 use std::alloc::Global;
 use std::io;

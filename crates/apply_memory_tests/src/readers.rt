@@ -1,6 +1,6 @@
 //! The readers of plans and scripts.
 
-use crate::telling::{answer, begin, kept};
+use crate::printing::{answer, begin, leaked};
 use apply_plan::{Plan, read_plan, read_script};
 use std::alloc::Global;
 use std::io;
@@ -10,7 +10,7 @@ use std::io::ErrorKind;
 pub const ONE_CREATE: &str =
     r#"{"format_version":"1.2","terraform_version":"1.9.0","resource_changes":[{"address":"random_pet.animal","mode":"managed","type":"random_pet","name":"animal","change":{"actions":["create"]}}]}"#;
 
-/// Its script.
+/// The script of the plan.
 pub const ONE_SCRIPT: &str =
     r#"{"changes":[{"address":"random_pet.animal","steps":[{"seconds":12,"id":"brave-otter","warning":{"summary":"slow","detail":"The provider is slow."},"provisioners":[{"provisioner":"file","seconds":0},{"provisioner":"local-exec","seconds":1,"output":["hi","there"],"failed":{"summary":"boom"}},{"provisioner":"file","seconds":2}]}]}]}"#;
 
@@ -22,10 +22,10 @@ const QUOTED: &str =
 const REPEATED: &str =
     r#"{"format_version":"1.2","resource_changes":[{"address":"a_b.c","mode":"managed","type":"a_b","name":"c","change":{"actions":["create"]}},{"address":"a_b.c","mode":"managed","type":"a_b","name":"c","change":{"actions":["no-op"]}}]}"#;
 
-/// A plan that has to be accepted.
+/// A plan that must be accepted.
 pub fn plan_of(alloc: Global, text: &str) -> io::Result<&'static Plan> {
     match read_plan(alloc, text.as_bytes()) {
-        Ok(plan) => Ok(kept(alloc, plan)?),
+        Ok(plan) => Ok(leaked(alloc, plan)?),
         Err(_) => Err(io::Error::from(ErrorKind::OutOfMemory)),
     }
 }

@@ -1,7 +1,7 @@
 //! Runs from bytes.
 
+use crate::printing::{answer, begin, leaked, lines};
 use crate::readers::{ONE_CREATE, ONE_SCRIPT};
-use crate::telling::{answer, begin, kept, lines};
 use apply_hooks::Registry;
 use apply_run::{Gate, MemorySink, Options, Sink, apply_bytes};
 use apply_text::{Operation, Start};
@@ -15,7 +15,7 @@ use std::thread::Threads;
 pub const THREE_CREATES: &str =
     r#"{"format_version":"1.2","terraform_version":"1.9.0","resource_changes":[{"address":"null_resource.a","mode":"managed","type":"null_resource","name":"a","change":{"actions":["create"]}},{"address":"null_resource.b","mode":"managed","type":"null_resource","name":"b","change":{"actions":["create"]}},{"address":"null_resource.c","mode":"managed","type":"null_resource","name":"c","change":{"actions":["create"]}}]}"#;
 
-/// Its script.
+/// The script of the plan.
 pub const THREE_SPANS: &str =
     r#"{"changes":[{"address":"null_resource.b","steps":[{"seconds":20}]},{"address":"null_resource.c","steps":[{"seconds":5}]}]}"#;
 
@@ -41,7 +41,8 @@ pub fn by_eight<R: Print + Threads + Wait + Sync>(rt: &R, alloc: Global) -> io::
     apply(rt, alloc, THREE_CREATES, THREE_SPANS, 8, 1)
 }
 
-/// Applies the plan. Tells how it ended, how many writes failed, how often the gate was asked, and what was written.
+/// Applies the plan. Prints how the run ended, how many writes failed, how often the gate was
+/// asked, and what was written.
 fn apply<R: Print + Threads + Wait + Sync>(
     rt: &R,
     alloc: Global,
@@ -59,7 +60,7 @@ fn apply<R: Print + Threads + Wait + Sync>(
         start: Start::zero(),
         operation: Operation::Apply,
     };
-    let registry = kept(alloc, Registry::new(alloc))?;
+    let registry = leaked(alloc, Registry::new(alloc))?;
     begin(rt)?;
     let (sink, result) = apply_bytes(
         rt,
@@ -72,11 +73,11 @@ fn apply<R: Print + Threads + Wait + Sync>(
         &gate,
     );
     answer(rt, &result)?;
-    tell(rt, &sink, gate.asked.load(Ordering::SeqCst))
+    print_line(rt, &sink, gate.asked.load(Ordering::SeqCst))
 }
 
-/// Tells how many writes failed, how often the gate was asked, and what was written.
-fn tell(rt: &impl Print, sink: &MemorySink, asked: u64) -> io::Result<()> {
+/// Prints how many writes failed, how often the gate was asked, and what was written.
+fn print_line(rt: &impl Print, sink: &MemorySink, asked: u64) -> io::Result<()> {
     println!(rt; "failed {} asked {asked}", sink.failures())?;
     lines(rt, sink.bytes())
 }

@@ -1,8 +1,8 @@
-//! The input, and whole runs from it to the exit status. What they print has room before.
+//! Whole runs, from the input to the exit status. The room for what they print is reserved before.
 
+use crate::printing::{begin, leaked, lines};
 use crate::readers::{ONE_CREATE, ONE_SCRIPT};
 use crate::runs::{THREE_CREATES, THREE_SPANS};
-use crate::telling::{begin, kept, lines};
 use apply_cli::{read_all, run_command};
 use apply_cli_args::Settings;
 use apply_hooks::Registry;
@@ -18,10 +18,10 @@ const INPUT_LEN: usize = 200_000;
 
 /// Reads an input.
 pub fn input(rt: &impl Print, alloc: Global) -> io::Result<()> {
-    let bytes = kept(alloc, vec![in alloc; b'x'; INPUT_LEN]?)?.as_slice();
+    let bytes = leaked(alloc, vec![in alloc; b'x'; INPUT_LEN]?)?.as_slice();
     begin(rt)?;
     match read_all(alloc, bytes) {
-        Ok(found) => println!(rt; "Ok {}", found.as_slice() == bytes),
+        Ok(result) => println!(rt; "Ok {}", result.as_slice() == bytes),
         Err(fault) => println!(rt; "Err({fault:?})"),
     }
 }
@@ -36,7 +36,7 @@ pub fn by_eight<R: Print + Threads + Wait + Sync>(rt: &R, alloc: Global) -> io::
     run(rt, alloc, THREE_CREATES, THREE_SPANS, 8, 1)
 }
 
-/// What no words say, but for the workers and the queue.
+/// The default settings, with other workers and another queue.
 fn settings_of(alloc: Global, workers: u8, queue: u16) -> io::Result<&'static Settings> {
     let settings = Settings {
         at: Start::zero(),
@@ -46,15 +46,15 @@ fn settings_of(alloc: Global, workers: u8, queue: u16) -> io::Result<&'static Se
         operation: Operation::Apply,
         halts: Vec::new(alloc),
     };
-    Ok(kept(alloc, settings)?)
+    Ok(leaked(alloc, settings)?)
 }
 
-/// Room for more than is printed or said.
+/// Room for more bytes than are printed.
 fn room(alloc: Global) -> io::Result<Vec<u8>> {
     Ok(Vec::with_capacity(alloc, 16_384)?)
 }
 
-/// Runs the plan. Tells the status, what was said of faults, and what was printed.
+/// Runs the plan. Prints the status, the errors and the output.
 fn run<R: Print + Threads + Wait + Sync>(
     rt: &R,
     alloc: Global,
@@ -64,8 +64,8 @@ fn run<R: Print + Threads + Wait + Sync>(
     queue: u16,
 ) -> io::Result<()> {
     let settings = settings_of(alloc, workers, queue)?;
-    let registry = kept(alloc, Registry::new(alloc))?;
-    let (output, said) = (StdSink::new(room(alloc)?), kept(alloc, room(alloc)?)?);
+    let registry = leaked(alloc, Registry::new(alloc))?;
+    let (output, errors) = (StdSink::new(room(alloc)?), leaked(alloc, room(alloc)?)?);
     begin(rt)?;
     let (output, status) = run_command(
         rt,
@@ -75,10 +75,10 @@ fn run<R: Print + Threads + Wait + Sync>(
         Some(script.as_bytes()),
         plan.as_bytes(),
         output,
-        said,
+        errors,
     );
     println!(rt; "status {status}")?;
-    println!(rt; "said {} bytes", said.len())?;
-    lines(rt, said.as_slice())?;
+    println!(rt; "said {} bytes", errors.len())?;
+    lines(rt, errors.as_slice())?;
     lines(rt, output.into_inner().as_slice())
 }

@@ -17,6 +17,6 @@ pub stripped : (prefix text : List ℕ) (r : Option (Bor (List ℕ)))
     → MatchOption r (FindsTextPrefix prefix text None) (λ x. StripsPrefix (FindsTextPrefix prefix) text x.now)
     → option_copied r ≡ after_prefix prefix text
 stripped prefix text None lacks = rw (starts_not prefix text lacks) refl
-stripped prefix text (Some x) found =
-    let begins : starts_with nat_eq text prefix ≡ true = (starts_is Decides-eqb text prefix _ refl).1 _ found.1.1 in
-    rw (begins, found.2, found.1.0) refl
+stripped prefix text (Some x) answer =
+    let begins : starts_with nat_eq text prefix ≡ true = (starts_is Decides-eqb text prefix _ refl).1 _ answer.1.1 in
+    rw (begins, answer.2, answer.1.0) refl

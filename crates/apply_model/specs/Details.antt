@@ -1,9 +1,9 @@
--- What Terraform's form alone tells of a planned change.
+-- What only Terraform's form of a stream shows of a planned change.
 use Rattle.std.specs.Prelude.{ℕ, List, codes}
 use Rattle.apply_model.specs.declared.details.reason.Reason.{Reason}
 use Rattle.apply_model.specs.declared.details.reason.Reason.TheVariants.{CannotUpdate, Tainted, Requested, ReplaceTriggeredBy, DeleteBecauseNoResourceConfig, DeleteBecauseWrongRepetition, DeleteBecauseCountIndex, DeleteBecauseEachKey, DeleteBecauseNoModule, DeleteBecauseNoMoveTarget, ReadBecauseConfigUnknown, ReadBecauseDependencyPending, ReadBecauseCheckNested, Unknown}
 
--- why a change was planned, in the words of a stream
+-- The word of a stream for the reason of a planned change.
 abbrev pub reason_word : Reason → List ℕ
 reason_word CannotUpdate = codes "cannot_update"
 reason_word Tainted = codes "tainted"

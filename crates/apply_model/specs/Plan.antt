@@ -1,4 +1,4 @@
--- What plans are.
+-- Saved plans and their changes.
 pub mod Action
 pub mod Address
 pub mod ChangeParts

@@ -1,4 +1,4 @@
--- What scripts are.
+-- Scripts.
 pub mod Limits
 pub mod Outcome
 pub mod OutcomeMap

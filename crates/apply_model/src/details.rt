@@ -1,4 +1,4 @@
-//! What a plan and a script say for Terraform's own form of a stream alone.
+//! Parts of a plan and a script that only Terraform's form of a stream shows.
 
 pub mod change_details;
 pub mod importing;
@@ -6,4 +6,3 @@ pub mod note;
 pub mod output;
 pub mod previous_resource;
 pub mod reason;
-pub mod severity;

@@ -8,11 +8,10 @@ mod text;
 
 pub use details::change_details::ChangeDetails;
 pub use details::importing::Importing;
-pub use details::note::Note;
+pub use details::note::{Note, Severity};
 pub use details::output::Output;
 pub use details::previous_resource::PreviousResource;
 pub use details::reason::Reason;
-pub use details::severity::Severity;
 pub use plan::action::Action;
 pub use plan::address::relative_address;
 pub use plan::change::Change;

@@ -18,8 +18,8 @@ use std::marker::Model;
 /// The greatest number of changes in a plan.
 pub const MAX_CHANGES: usize = 10_000;
 
-/// A saved plan (JSON Output Format, "Plan Representation"): the version of Terraform that made it, and the list
-/// of its changes, 10,000 at most.
+/// A saved plan (JSON Output Format, "Plan Representation"): the version of Terraform that made it,
+/// and its changes, at most 10,000.
 #[derive(Debug, Drop)]
 pub struct Plan {
     version: Text,
@@ -38,7 +38,7 @@ impl Model for Plan {
 }
 
 impl Plan {
-    /// The plan of these changes, in this order, which that version of Terraform made.
+    /// A plan with these changes in this order, made by that version of Terraform.
     pub fn new(version: Text, changes: Vec<Change>) -> Plan
         requires { vec_len changes ≤ max_changes }
         ensures { result ≡ record { version = version; changes = changes.items } }
@@ -62,7 +62,7 @@ impl Plan {
         &self.changes[number as usize]
     }
 
-    /// The version of Terraform that made the plan; `0.0.0` where it does not say.
+    /// The version of Terraform that made the plan. It is `0.0.0` where the plan states none.
     pub fn version(&self) -> &str
         ensures { result.now ≡ self.now.version }
     {

@@ -1,11 +1,11 @@
-//! A script of outcomes.
+//! A script: the outcomes of the steps of a plan.
 
 ghost use Rattle.std.specs.Prelude.{◌≡◌, ◌≤◌, ℕ, [], IfSome, unwrap_or};
 ghost use Rattle.std.specs.Option.{option_copied};
 ghost use Rattle.apply_model.specs.declared.plan.step_kind.StepKind.{StepKind};
 ghost use Rattle.apply_model.specs.Script.Limits.{max_seconds};
 ghost use Rattle.apply_model.specs.Script.Outcome.{IsBounded, took};
-ghost use Rattle.apply_model.specs.Script.Waits.{has_waits, say_a_wait};
+ghost use Rattle.apply_model.specs.Script.Waits.{has_waits, states_a_wait};
 
 pub mod diag;
 pub mod ending;
@@ -24,12 +24,13 @@ use crate::script::step_outcomes::StepOutcomes;
 use crate::script::waits::Waits;
 use std::marker::Model;
 
-/// What the providers will answer to the steps of a plan.
+/// The answers of the providers to the steps of a plan.
 ///
-/// Contracts see, for each change by number, its first steps as the script tells them, or nothing.
+/// Contracts see a list with an item for each change, by number: the first steps of the change as
+/// the script states them, or nothing.
 #[derive(Debug, Drop)]
 pub struct Script {
-    /// None where nothing is said of any change.
+    /// `None` where the script states no change.
     changes: Option<Vec<Option<StepOutcomes>>>,
 }
 
@@ -46,17 +47,18 @@ impl Model for Script {
 }
 
 impl Script {
-    ghost use Rattle.apply_model.specs.Script.OutcomeMap.{IsInRange, first_skipped, given_outcome, said_at};
+    ghost use Rattle.apply_model.specs.Script.OutcomeMap.{IsInRange, first_skipped, stated_outcome, stated_steps};
     ghost use Rattle.apply_model.specs.Script.Waits.{named_for};
 
-    /// A script that says nothing: every step has the default outcome.
+    /// A script that states nothing: every step has the default outcome.
     pub fn empty() -> Script
         ensures { result ≡ [] }
     {
         Script { changes: None }
     }
 
-    /// A script that says this of each change, by number: its first steps, or nothing.
+    /// A script with these changes, by number. An item is `None` where the script does not state
+    /// the change.
     pub fn new(changes: Vec<Option<StepOutcomes>>) -> Script
         requires { IsInRange changes.items }
         ensures { result ≡ changes.items }
@@ -66,59 +68,60 @@ impl Script {
         }
     }
 
-    /// What the provider answers to a step of a change, both counted from 0. `None` means the default, where the step is
-    /// not skipped: it is done after 0 seconds, with no id, no warning and no provisioners.
+    /// The answer of the provider to a step of a change, both counted from 0. `None` means the
+    /// default outcome, unless the step is skipped. By default a step succeeds after 0 seconds,
+    /// with no id, no warning and no provisioners.
     ///
-    /// Any numbers may be asked for, also those of another plan than the one that the script was read for.
+    /// Every number is allowed, even one that the plan of the script does not have.
     pub fn outcome(&self, change: u32, step: u8) -> Option<&Outcome>
-        ensures given { option_copied result ≡ given_outcome self.now change step }
-        ensures in_range { IfSome (given_outcome self.now change step) IsBounded }
-        ensures in_time { IfSome (given_outcome self.now change step)
+        ensures given { option_copied result ≡ stated_outcome self.now change step }
+        ensures in_range { IfSome (stated_outcome self.now change step) IsBounded }
+        ensures in_time { IfSome (stated_outcome self.now change step)
             (λ outcome. (kind : StepKind) → took kind outcome ≤ max_seconds) }
     {
-        self.said(change)?.get(step as usize)?.outcome()
+        self.stated(change)?.get(step as usize)?.outcome()
     }
 
-    /// The number of the first step of a change that is skipped, counted from 0: the change ends before it. `None` where
-    /// none of those is that `outcome` may be asked for.
+    /// The number of the first skipped step of a change, counted from 0. The change ends before
+    /// that step. `None` where the script skips none of the steps that `outcome` accepts.
     pub fn skipped(&self, change: u32) -> Option<u8>
         ensures { result ≡ first_skipped self.now change }
     {
-        self.said(change)?.first_skipped()
+        self.stated(change)?.first_skipped()
     }
 
-    /// The steps that the script names for a step of a change, skipped or not, as those for which it waits. `None` where
-    /// it says nothing of the step.
+    /// The steps that the script names in `after` of a step, whether or not the step is skipped.
+    /// `None` where the script does not state the step.
     pub fn after(&self, change: u32, step: u8) -> Option<&Waits>
         ensures { unwrap_or (option_copied result) [] ≡ named_for self.now change step }
     {
-        Some(self.said(change)?.get(step as usize)?.after())
+        Some(self.stated(change)?.get(step as usize)?.after())
     }
 
-    /// What is said of a change.
-    fn said(&self, change: u32) -> Option<&StepOutcomes>
-        ensures said { option_copied result ≡ said_at self.now change }
-        ensures in_range { (k : ℕ) → IfSome (given_outcome self.now change k) IsBounded }
+    /// The steps of a change as the script states them.
+    fn stated(&self, change: u32) -> Option<&StepOutcomes>
+        ensures stated { option_copied result ≡ stated_steps self.now change }
+        ensures in_range { (k : ℕ) → IfSome (stated_outcome self.now change k) IsBounded }
     {
         self.changes.as_ref()?.get(change as usize)?.as_ref()
     }
 
-    /// Whether it says of some step that is not skipped what it waits for.
+    /// Whether a step that is not skipped names a step that it waits for.
     pub fn has_waits(&self) -> bool
         ensures { result ≡ has_waits self.now }
     {
         match &self.changes {
-            Some(changes) => changes.iter().any(say_a_wait),
+            Some(changes) => changes.iter().any(states_a_wait),
             None => false,
         }
     }
 }
 
-/// Whether one of the steps that may be told of a change is not skipped, and names a step for which it waits.
-fn say_a_wait(said: &Option<StepOutcomes>) -> bool
-    ensures { result ≡ say_a_wait said.now }
+/// Whether the script states a step of the change that is not skipped and names a step to wait for.
+fn states_a_wait(stated: &Option<StepOutcomes>) -> bool
+    ensures { result ≡ states_a_wait stated.now }
 {
-    match said {
+    match stated {
         Some(steps) => steps.name_a_wait(),
         None => false,
     }

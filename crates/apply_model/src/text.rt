@@ -1,4 +1,6 @@
-//! Texts that a plan owns.
+//! Owned texts.
+//!
+//! Every `Err` means that memory was refused.
 
 ghost use Rattle.std.specs.Prelude.{◌≡◌, IfOk};
 ghost use Rattle.std.specs.Option.{option_copied};
@@ -6,7 +8,7 @@ ghost use Rattle.std.specs.Option.{option_copied};
 use std::alloc::{AllocError, Global};
 use std::marker::Model;
 
-/// An owned text, which contracts see as the list of its bytes in UTF-8.
+/// An owned text. Contracts see its bytes in UTF-8.
 #[derive(Debug, Drop)]
 pub struct Text {
     inner: String,
@@ -30,7 +32,7 @@ impl Text {
         })
     }
 
-    /// A copy of the text, where there is one. `Err` where memory is refused.
+    /// A copy of the text, if there is one. `Err` where memory is refused.
     pub fn of_option(alloc: Global, text: Option<&str>) -> Result<Option<Text>, AllocError>
         ensures { IfOk result (λ copy. copy ≡ option_copied text.entry) }
     {

@@ -6,7 +6,7 @@ use Rattle.apply_json.specs.Tree.{list_of}
 use Rattle.apply_plan.specs.ListReading.{items_of, made_after}
 use Rattle.apply_plan.specs.Results.{◌>>=◌}
 
--- of one element more, behind what was made
+-- one element more, after the earlier results
 abbrev pub one_more : {A E : Type 0} → (List A → Data → Result A E) → Data → List A → Result (List A) E
 one_more answer d all = answer all d >>= λ one. Ok (all ++ one ∷ [])
 

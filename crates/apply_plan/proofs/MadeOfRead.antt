@@ -1,4 +1,4 @@
--- What is made of what was read, where nothing was wrong with it: `result_and` of what the reader answers and what is made.
+-- A value that is given if a read succeeded: `result_and` of the read and the value.
 use Rattle.std.proofs.Common.{◌≡◌, Result, Ok, OnOk, sym, subst}
 use Rattle.std.specs.Prelude.{Err, IfOk}
 use Rattle.std.specs.Result.{result_and}
@@ -15,6 +15,6 @@ pub fault : {T U E : Type 0} (A : Type 0) (read : Result U E) (x : T) (result : 
 fault A (Ok u) x result e is known fails = absurd cc
 fault A (Err f) x result e is known fails = known (let same : f ≡ e = cc in cc)
 
--- a fault that is handed on, where something else would have been made
+-- a fault that is handed on in place of the value
 pub same_fault : {T U E : Type 0} (a b : E) → ◌≡◌ {A = Result T E} (Err a) (Err b) → ◌≡◌ {A = Result U E} (Err a) (Err b)
 same_fault a b same = cc

@@ -11,6 +11,6 @@ pub mod Read
 pub mod Refusals
 pub mod Slots
 pub mod Timed
-pub mod TreeSteps
+pub mod RawSteps
 pub mod Waited
 pub mod WholeList

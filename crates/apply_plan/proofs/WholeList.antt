@@ -1,5 +1,5 @@
--- Reading a list one by one gives what is said of the whole list, where an element is answered alike by what stands
--- before it and by what was made of that.
+-- Reading a list one by one gives what is defined over the whole list. The results for an element
+-- must agree, by the elements before it and by the results before it.
 use Rattle.std.proofs.Common.{◌≡◌, ℕ, ◌+◌, List, [], ◌∷◌, ◌++◌, length, take, map, Result, Ok, Err, refl, sym, ap, ◌∙◌, append_assoc, arith}
 use Rattle.std.specs.List.{enumerate_from}
 use Rattle.std.proofs.lemmas.List.{append-nil, length-append, take_at}
@@ -9,13 +9,13 @@ use Rattle.apply_plan.specs.ListReading.{made_after}
 use Rattle.apply_plan.specs.Results.{◌>>=◌, all_or_first, each_with_earlier}
 use Rattle.apply_plan.proofs.Results.{done}
 
--- Made of the elements before it, or by them: an element is answered alike, and stays so with one element more.
+-- The two results for an element agree, and still agree with one element more.
 pub record AnswersAlike {A E : Type 0} (after : List A → Data → Result A E) (at : List Data → Data → Result A E) (AreOf : List Data → List A → Type 0) : Type 0 where
   pub none : AreOf [] []
   pub same : (before : List Data) (made : List A) (d : Data) → AreOf before made → after made d ≡ at before d
   pub more : (before : List Data) (made : List A) (d : Data) (one : A) → AreOf before made → after made d ≡ Ok one → AreOf (before ++ d ∷ []) (made ++ one ∷ [])
 
--- the answers for the elements from the n-th on
+-- the results for the elements from the n-th on
 abbrev answers : {A E : Type 0} → (List Data → Data → Result A E) → List Data → ℕ → List Data → List (Result A E)
 answers at all n ds = map (λ p. at (take p.0 all) p.1) (enumerate_from n ds)
 

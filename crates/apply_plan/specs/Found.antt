@@ -1,7 +1,7 @@
--- A list of what was found, for private clauses.
+-- Lists in which each item must be valid, for private clauses.
 use Rattle.std.specs.Prelude.{List, [], ◌∷◌, ◌++◌, Option, Some, None}
 
--- with one item more, where none is missing
+-- the list with one item more; none if an item is missing
 abbrev pub added : {A : Type 0} → Option (List A) → Option A → Option (List A)
 added None item = None
 added (Some items) None = None

@@ -1,4 +1,4 @@
--- Why bytes are neither a plan nor a script that gave no tree.
+-- The error of a plan or script, by the fault of the JSON reader.
 use Rattle.apply_json.specs.declared.json_fault.JsonFault.{JsonFault}
 use Rattle.apply_json.specs.declared.json_fault.JsonFault.TheVariants.{TooLarge, NotJson, Memory}
 use Rattle.apply_plan.specs.declared.plan.plan_error.PlanError.{PlanError}

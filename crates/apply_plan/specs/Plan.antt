@@ -1,4 +1,4 @@
--- Plans: how they are read, and what is seen of the types that read one. What they are is passed on.
+-- How plans are read. The definitions of plans themselves are those of `apply_model`.
 pub use Rattle.apply_model.specs.Plan.Action
 pub use Rattle.apply_model.specs.Plan.Address
 pub use Rattle.apply_model.specs.Plan.ResourceChange

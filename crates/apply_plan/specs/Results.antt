@@ -1,4 +1,4 @@
--- Answers that may be refusals: one step after another, and the answers for a whole list.
+-- Results that may be errors: in sequence, and for a whole list.
 use Rattle.std.specs.Prelude.{◌≡◌, ◌≢◌, List, [], ◌∷◌, map, take, Option, Some, None, Result, Ok, Err}
 use Rattle.std.specs.List.{enumerate_from}
 
@@ -7,17 +7,17 @@ abbrev pub ◌>>=◌ : {A B E : Type 0} → Result A E → (A → Result B E) �
 (Ok x) >>= f = f x
 (Err e) >>= f = Err e
 
--- a value that has to be there, or the refusal
+-- the value, or the error if there is none
 abbrev pub or_refuse : {A E : Type 0} → E → Option A → Result A E
 or_refuse refusal None = Err refusal
 or_refuse refusal (Some x) = Ok x
 
--- a value, unless there is a refusal
+-- the value, unless there is an error
 abbrev pub unless_refused : {A E : Type 0} → Option E → A → Result A E
 unless_refused None x = Ok x
 unless_refused (Some refusal) x = Err refusal
 
--- all values, or the first refusal among them
+-- all values, or the first error among them
 abbrev pub all_or_first : {A E : Type 0} → List (Result A E) → Result (List A) E
 all_or_first [] = Ok []
 all_or_first (answer ∷ answers) = do
@@ -25,16 +25,16 @@ all_or_first (answer ∷ answers) = do
   xs ← all_or_first answers
   Ok (x ∷ xs)
 
--- the answer for each element of a list, given all elements before it
+-- the result for each element of a list, given all elements before it
 abbrev pub each_with_earlier : {D A : Type 0} → (List D → D → A) → List D → List A
 each_with_earlier answer ds = map (λ p. answer (take p.0 ds) p.1) (enumerate_from 0 ds)
 
--- an answer, seen by view, is the defined one
+-- the result, as `view` shows it, is the defined one
 abbrev pub IsExactly : {X Y E : Type 0} → (X → Y) → Result X E → Result Y E → Type 0
 IsExactly view (Ok x) defined = defined ≡ Ok (view x)
 IsExactly view (Err e) defined = defined ≡ Err e
 
--- an answer, seen by view, is the defined one, unless it is want of memory
+-- the result, as `view` shows it, is the defined one, unless memory was refused
 abbrev pub Gives : {X Y E : Type 0} → E → (X → Y) → Result X E → Result Y E → Type 0
 Gives memory view (Ok x) defined = defined ≡ Ok (view x)
 Gives memory view (Err e) defined = e ≢ memory → defined ≡ Err e

@@ -1,4 +1,4 @@
--- Scripts: how they are read, and what is seen of the types that read one. What they are is passed on.
+-- How scripts are read. The definitions of scripts themselves are those of `apply_model`.
 pub use Rattle.apply_model.specs.Script.Limits
 pub use Rattle.apply_model.specs.Script.Outcome
 pub use Rattle.apply_model.specs.Script.Step
@@ -12,6 +12,6 @@ pub mod NextEntry
 pub mod OutcomeMap
 pub mod OutputView
 pub mod Refusals
-pub mod TreeView
+pub mod RawView
 pub mod WaitedStep
 pub mod WaitedView

@@ -1,11 +1,13 @@
-//! A list of what was found, until something is missing.
+//! Lists in which each item must be valid.
 
 ghost use Rattle.std.specs.Prelude.{◌≡◌, OnOk, option_map};
 ghost use Rattle.apply_plan.specs.Found.{added};
 
 use std::alloc::AllocError;
 
-/// Adds an item to a list. There is no list any more where an item is missing.
+/// Adds an item to a list. A missing item turns the list into `None` for good.
+///
+/// `Err` means that memory was refused.
 pub fn add<T: Drop>(list: &mut Option<Vec<T>>, item: Option<T>) -> Result<(), AllocError>
     ensures { OnOk result (option_map (λ found. found.items) list.new ≡ added (option_map (λ found. found.items) list.old) item) }
 {

@@ -1,13 +1,13 @@
 //! Reads a saved Terraform plan (JSON Output Format 1.x) and a script of outcomes.
 #![tactic(auto)]
 
-mod both_made;
 mod bytes;
 mod filled_text;
 mod found;
 mod members;
 mod plan;
 mod script;
+mod zip_results;
 
 pub use apply_model::{
     Change, Diag, Ending, Key, MAX_CHANGES, MAX_OUTPUTS, MAX_PROVISIONERS, MAX_SECONDS, MAX_WAITS,

@@ -1,9 +1,9 @@
-//! Members that are read into slots, by their names.
+//! Reads members into slots, by name.
 
-/// Reads the value of the member of that name into its slot. One of another name is passed over.
+/// Reads the value of the member `$name` into its slot. A member without a slot is skipped.
 macro_rules! take_member {
     ($name:ident, $reader:ident, $depth:ident,) => {
-        apply_json::pass_member($reader, $depth)
+        apply_json::skip_member($reader, $depth)
     };
     ($name:ident, $reader:ident, $depth:ident, $member:literal => $read:expr, $($others:tt)*) => {
         if apply_json::is_text($name, $member) {

@@ -1,4 +1,4 @@
--- The items of the array that a text is, by the first of its tokens and those behind the array.
+-- The items of the array in a text, from its first token and the tokens after the array.
 use Rattle.std.proofs.Common.{◌≡◌, ℕ, List, [], ◌∷◌, ◌++◌, length, map, Bool, true, false, Option, Some, None, lit<, refl, sym, ap, ◌∙◌, append_assoc}
 use Rattle.std.specs.Prelude.{MatchOption, is_some, option_and_then}
 use Rattle.std.specs.Option.{option_map_or}
@@ -27,9 +27,9 @@ is_array (array js) = true
 is_array (object ms) = false
 
 abbrev is_of_array : Option (Json × List Token) → Bool
-is_of_array found = option_map_or (λ p. is_array p.0) found false
+is_of_array collected = option_map_or (λ p. is_array p.0) collected false
 
-no_array_in_object : (found : Option (Members × List Token)) → is_of_array (parse_map object found) ≡ false
+no_array_in_object : (collected : Option (Members × List Token)) → is_of_array (parse_map object collected) ≡ false
 no_array_in_object None = refl
 no_array_in_object (Some p) = refl
 
@@ -54,10 +54,10 @@ no_items_in (string s) [] is = refl
 no_items_in (array js) [] is = absurd cc
 no_items_in (object ms) [] is = refl
 
-abbrev found_items : Option (Json × List Token) → Option (List Data)
-found_items found = option_and_then (λ p. if_last p.0 p.1) found >>= items_in
+abbrev collected_items : Option (Json × List Token) → Option (List Data)
+collected_items collected = option_and_then (λ p. if_last p.0 p.1) collected >>= items_in
 
-no_array : (found : Option (Json × List Token)) → is_of_array found ≡ false → found_items found ≡ None
+no_array : (collected : Option (Json × List Token)) → is_of_array collected ≡ false → collected_items collected ≡ None
 no_array None is = refl
 no_array (Some p) is = no_items_in p.0 p.1 is
 
@@ -65,16 +65,16 @@ no_array (Some p) is = no_items_in p.0 p.1 is
 
 module _ (text : List ℕ) where
   pub of_nothing : tokens text ≡ [] → items_in_text text ≡ None
-  of_nothing is = ap (λ ts. found_items (value 127 ts)) is ∙ ap found_items (value_is 127 [])
+  of_nothing is = ap (λ ts. collected_items (value 127 ts)) is ∙ ap collected_items (value_is 127 [])
 
   pub of_other : (t : token.Token) (rest : List Token) → tokens text ≡ token_of t ∷ rest → (t ≡ variant.BeginArray → ⊥) → items_in_text text ≡ None
-  of_other t rest is other = ap (λ ts. found_items (value 127 ts)) is ∙ no_array (value 127 (token_of t ∷ rest)) (other_token 127 t rest other)
+  of_other t rest is other = ap (λ ts. collected_items (value 127 ts)) is ∙ no_array (value 127 (token_of t ∷ rest)) (other_token 127 t rest other)
 
   module _ (t : token.Token) (rest : List Token) (is : tokens text ≡ token_of t ∷ rest) (begins : t ≡ variant.BeginArray) where
-    of_array : (found : Option (Items × List Token)) → items (value 126) (length rest) rest ≡ found → items_in_text text ≡ found_items (parse_map array found)
-    of_array found read =
-        ap (λ ts. found_items (value 127 ts)) (is ∙ ap (λ t. token_of t ∷ rest) begins)
-        ∙ ap found_items (value-begin_array 127 rest (lit< tt) ∙ ap (parse_map array) read)
+    of_array : (collected : Option (Items × List Token)) → items (value 126) (length rest) rest ≡ collected → items_in_text text ≡ collected_items (parse_map array collected)
+    of_array collected read =
+        ap (λ ts. collected_items (value 127 ts)) (is ∙ ap (λ t. token_of t ∷ rest) begins)
+        ∙ ap collected_items (value-begin_array 127 rest (lit< tt) ∙ ap (parse_map array) read)
 
     pub of_broken : items (value 126) (length rest) rest ≡ None → items_in_text text ≡ None
     of_broken read = of_array None read

@@ -15,7 +15,7 @@ abbrev pub if_ok : {T E P Q : Type 0} (r : Result T E) → (P → Q) → OnOk r 
 if_ok (Ok x) f p = f p
 if_ok (Err e) f p = tt
 
--- one map behind another, and one that changes nothing
+-- one map after another, and a map that changes nothing
 pub fused : {A B C : Type 0} (g : B → C) (f : A → B) (r : Option (A × List Token)) → parse_map g (parse_map f r) ≡ parse_map (λ a. g (f a)) r
 fused g f None = refl
 fused g f (Some p) = refl
@@ -24,9 +24,9 @@ pub unchanged : {A : Type 0} (r : Option (A × List Token)) → r ≡ parse_map 
 unchanged None = refl
 unchanged (Some p) = refl
 
--- tokens behind those of a copy
-pub behind : (old new first rest all : List Token) → new ≡ old ++ first → all ≡ first ++ rest → old ++ all ≡ new ++ rest
-behind old new first rest all copied whole = ap (λ ts. old ++ ts) whole ∙ sym (append_assoc old first rest) ∙ ap (λ ts. ts ++ rest) (sym copied)
+-- tokens after those of a copy
+pub after : (old new first rest all : List Token) → new ≡ old ++ first → all ≡ first ++ rest → old ++ all ≡ new ++ rest
+after old new first rest all copied whole = ap (λ ts. old ++ ts) whole ∙ sym (append_assoc old first rest) ∙ ap (λ ts. ts ++ rest) (sym copied)
 
 module _ (depth : ℕ) (rest : List Token) where
   pub nothing_left : (ts : List Token) → ts ≡ [] → value depth ts ≡ None
@@ -59,10 +59,10 @@ module _ (depth : ℕ) (rest : List Token) where
   unfolding value
   object_too_deep t is none = ap (λ t. value depth (token_of t ∷ rest)) is ∙ ap (λ d. value d (Token.begin_object ∷ rest)) none
 
-  pub array_is : (t : token.Token) (found : Option (Items × List Token)) → t ≡ variant.BeginArray → 0 < depth → items (value (depth - 1)) (length rest) rest ≡ found
-      → value depth (token_of t ∷ rest) ≡ parse_map array found
-  array_is t found is some read = ap (λ t. value depth (token_of t ∷ rest)) is ∙ value-begin_array depth rest some ∙ ap (parse_map array) read
+  pub array_is : (t : token.Token) (collected : Option (Items × List Token)) → t ≡ variant.BeginArray → 0 < depth → items (value (depth - 1)) (length rest) rest ≡ collected
+      → value depth (token_of t ∷ rest) ≡ parse_map array collected
+  array_is t collected is some read = ap (λ t. value depth (token_of t ∷ rest)) is ∙ value-begin_array depth rest some ∙ ap (parse_map array) read
 
-  pub object_is : (t : token.Token) (found : Option (Members × List Token)) → t ≡ variant.BeginObject → 0 < depth → members (value (depth - 1)) (length rest) rest ≡ found
-      → value depth (token_of t ∷ rest) ≡ parse_map object found
-  object_is t found is some read = ap (λ t. value depth (token_of t ∷ rest)) is ∙ value-begin_object depth rest some ∙ ap (parse_map object) read
+  pub object_is : (t : token.Token) (collected : Option (Members × List Token)) → t ≡ variant.BeginObject → 0 < depth → members (value (depth - 1)) (length rest) rest ≡ collected
+      → value depth (token_of t ∷ rest) ≡ parse_map object collected
+  object_is t collected is some read = ap (λ t. value depth (token_of t ∷ rest)) is ∙ value-begin_object depth rest some ∙ ap (parse_map object) read

@@ -10,7 +10,7 @@ use Rattle.apply_json.specs.Tree.{tree_of}
 use Rattle.apply_plan_terraform.specs.Texts.{json_of, json_of_text}
 
 pub json_is : (bytes : List ℕ) (j : Json) → IsUtf8 bytes → json_of_text bytes ≡ Some j → json_of bytes ≡ Some j
-json_is bytes j utf8 found = rw (is_utf8-from_IsUtf8 bytes utf8) found
+json_is bytes j utf8 collected = rw (is_utf8-from_IsUtf8 bytes utf8) collected
 
 pub no_json : (bytes : List ℕ) → (IsUtf8 bytes → json_of_text bytes ≡ None) → json_of bytes ≡ None
 no_json bytes refused =

@@ -5,8 +5,8 @@ mod Copying
 mod Documents
 mod ElementLists
 mod InOrder
-mod KeptOutputs
-mod KeptTexts
+mod StoredMembers
+mod RawTexts
 mod MapMembers
 mod MemberTurns
 mod Names

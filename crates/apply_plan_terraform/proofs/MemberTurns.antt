@@ -1,4 +1,4 @@
--- The grammar's loop over members, a turn at a time, behind a front of members that were passed.
+-- The grammar's loop over members, turn by turn, after a front of members that were read.
 use Rattle.std.proofs.Common.{◌≡◌, ℕ, ◌-◌, ◌<◌, ◌≤◌, List, length, Option, Some, None, ap, ◌∙◌}
 use Rattle.json.specs.Token.{Token}
 use Rattle.json.specs.Json.{Json, Members, no_members, member, Parse, parse_map, read_key, members}
@@ -10,7 +10,7 @@ module _ (p : Parse Json) (all : Option (Members × List Token)) (front : Member
   pub turn : (k : List ℕ) (s r : List Token) (j : Json) → 0 < n → read_key ts ≡ Some (Some k, s) → p s ≡ Some (j, r) → all ≡ parse_map (λ ms. front (member k j ms)) (members p (n - 1) r)
   turn k s r j some key read = so_far ∙ ap (parse_map front) (members_more p n k ts s r j some key read) ∙ fused front (member k j) _
 
-  -- no key is next, or no value behind it
+  -- no key is next, or no value after the key
   pub no_key : read_key ts ≡ None → all ≡ None
   no_key refused = so_far ∙ ap (parse_map front) (members_no_key p n ts refused)
 

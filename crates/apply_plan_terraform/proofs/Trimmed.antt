@@ -1,4 +1,4 @@
--- What is said for Terraform's form is the same when the tree of the plan is trimmed.
+-- A trimmed tree of the plan gives the same details for Terraform's form.
 use Rattle.std.proofs.Common.{◌≡◌, Bool, true, false, [], codes, map, Option, Some, None, option_map, refl, ap, ◌∙◌}
 use Rattle.std.specs.Option.{option_map_or}
 use Rattle.serde_json.specs.Data.{Data, null, boolean, number, string, array, object, Items, no_items, item}
@@ -48,9 +48,9 @@ object_trimmed (string s) = refl
 object_trimmed (array ds) = refl
 object_trimmed (object ms) = refl
 
-object_found : (o : Option Data) → (option_map (trimmed details_selection shape.Importing) o >>= unless_other) ≡ option_map (trimmed details_selection shape.Importing) (o >>= unless_other)
-object_found None = refl
-object_found (Some d) = object_trimmed d
+object_read : (o : Option Data) → (option_map (trimmed details_selection shape.Importing) o >>= unless_other) ≡ option_map (trimmed details_selection shape.Importing) (o >>= unless_other)
+object_read None = refl
+object_read (Some d) = object_trimmed d
 
 with_id : (o : Option Data) → importing_of (option_map (trimmed details_selection shape.Importing) o) ≡ importing_of o
 with_id None = refl
@@ -60,7 +60,7 @@ same_importing : (change : Option Data) → importing_of (imported_in (option_ma
 same_importing None = refl
 same_importing (Some change) =
     ap (λ o. importing_of (o >>= unless_other)) (member_trimmed details_selection shape.Change shape.Importing (codes "importing") change refl)
-    ∙ ap importing_of (object_found (member_of (codes "importing") change))
+    ∙ ap importing_of (object_read (member_of (codes "importing") change))
     ∙ with_id (member_of (codes "importing") change >>= unless_other)
 
 same_config : (change : Option Data) → config_in (option_map (trimmed details_selection shape.Change) change) ≡ config_in change
@@ -85,10 +85,10 @@ same_planned_id None = refl
 same_planned_id (Some change) =
     let hidden : hides_id (member_of (codes "after_sensitive") (trimmed details_selection shape.Change change)) ≡ hides_id (member_of (codes "after_sensitive") change) =
     ap hides_id (member_trimmed details_selection shape.Change shape.After (codes "after_sensitive") change refl) ∙ same_hiding (member_of (codes "after_sensitive") change) in
-    let found : (member_of (codes "after") (trimmed details_selection shape.Change change) >>= λ after. non_empty_text_of (codes "id") after) ≡ (member_of (codes "after") change >>= λ after. non_empty_text_of (codes "id") after) =
+    let collected : (member_of (codes "after") (trimmed details_selection shape.Change change) >>= λ after. non_empty_text_of (codes "id") after) ≡ (member_of (codes "after") change >>= λ after. non_empty_text_of (codes "id") after) =
     ap (λ o. o >>= λ after. non_empty_text_of (codes "id") after) (member_trimmed details_selection shape.Change shape.After (codes "after") change refl)
     ∙ bind_mapped (trimmed details_selection shape.After) _ _ (λ after. non_empty_text_trimmed details_selection shape.After shape.Scalar (codes "id") after refl) (member_of (codes "after") change) in
-    rw (hidden, found) refl
+    rw (hidden, collected) refl
 
 -- ---- elements
 

@@ -1,4 +1,4 @@
--- What the elements of `resource_changes` say for Terraform's form alone.
+-- The details of a plan's changes, for Terraform's form only.
 use Rattle.std.specs.Prelude.{List, [], codes, map, Option}
 use Rattle.std.specs.Option.{option_map_or}
 use Rattle.serde_json.specs.Data.{Data, Items}
@@ -11,10 +11,10 @@ use Rattle.apply_plan_terraform.specs.Details.{element_details}
 abbrev pub array_in : Data → Option Items
 array_in plan = member_of (codes "resource_changes") plan >>= as_array
 
--- its elements; no elements where there is no such array
+-- the elements of `resource_changes`; none where there is no such array
 abbrev pub elements_of : Data → List Data
 elements_of plan = option_map_or list_of (array_in plan) []
 
--- what each of them says, in their order
+-- the details of each element, in their order
 abbrev pub changes_of : Data → List ChangeDetails
 changes_of plan = map element_details (elements_of plan)

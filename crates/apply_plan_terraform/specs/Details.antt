@@ -1,5 +1,5 @@
--- What an element of `resource_changes` says for Terraform's form alone (JSON Output Format, "Plan Representation"). A member
--- of another kind counts as absent.
+-- The details of an element of `resource_changes`, for Terraform's form only (JSON Output Format,
+-- "Plan Representation"). A member of the wrong kind counts as absent.
 use Rattle.std.specs.Prelude.{ℕ, List, codes, Bool, true, false, ◌||◌, if◌then◌else◌, Option, Some, None, option_map}
 use Rattle.std.specs.Option.{option_map_or}
 use Rattle.std.specs.Str.{bytes_eq}
@@ -14,7 +14,7 @@ use Rattle.apply_model.specs.declared.details.previous_resource.PreviousResource
 use Rattle.apply_model.specs.declared.details.reason.Reason.{Reason}
 use Rattle.apply_model.specs.declared.details.reason.Reason.TheVariants.{CannotUpdate, Tainted, Requested, ReplaceTriggeredBy, DeleteBecauseNoResourceConfig, DeleteBecauseWrongRepetition, DeleteBecauseCountIndex, DeleteBecauseEachKey, DeleteBecauseNoModule, DeleteBecauseNoMoveTarget, ReadBecauseConfigUnknown, ReadBecauseDependencyPending, ReadBecauseCheckNested, Unknown}
 
--- the reason to read that a plan gives in that word
+-- the reason to read that a word stands for
 abbrev pub read_reason : List ℕ → Reason
 read_reason word =
     if bytes_eq word (codes "read_because_config_unknown") then ReadBecauseConfigUnknown
@@ -22,7 +22,7 @@ read_reason word =
     else if bytes_eq word (codes "read_because_check_nested") then ReadBecauseCheckNested
     else Unknown
 
--- the reason to delete or to read
+-- the reason to delete or to read that a word stands for
 abbrev pub delete_reason : List ℕ → Reason
 delete_reason word =
     if bytes_eq word (codes "delete_because_no_resource_config") then DeleteBecauseNoResourceConfig
@@ -33,7 +33,7 @@ delete_reason word =
     else if bytes_eq word (codes "delete_because_no_move_target") then DeleteBecauseNoMoveTarget
     else read_reason word
 
--- the reason that a plan gives in that word
+-- the reason that a word of a plan stands for
 abbrev pub reason_named : List ℕ → Reason
 reason_named word =
     if bytes_eq word (codes "replace_because_cannot_update") then CannotUpdate
@@ -42,12 +42,12 @@ reason_named word =
     else if bytes_eq word (codes "replace_by_triggers") then ReplaceTriggeredBy
     else delete_reason word
 
--- the value is that flag and nothing else
+-- the value is the boolean `wanted`
 abbrev pub is_flag : Bool → Option Data → Bool
 is_flag wanted None = false
 is_flag wanted (Some d) = option_map_or (λ flag. if wanted then flag else (if flag then false else true)) (as_bool d) false
 
--- the id after the change: a text that is not empty, unless `after_sensitive` is `true`, or an object whose `id` is `true`
+-- `after_sensitive` marks the id as sensitive: it is `true`, or an object whose `id` is `true`
 abbrev pub hides_id : Option Data → Bool
 hides_id None = false
 hides_id (Some sensitive) = is_flag true (Some sensitive) || is_flag true (member_of (codes "id") sensitive)
@@ -58,7 +58,7 @@ planned_id_in (Some change) =
     if hides_id (member_of (codes "after_sensitive") change) then None
     else (member_of (codes "after") change >>= λ after. non_empty_text_of (codes "id") after)
 
--- the value, where it is an object
+-- the value if it is an object; nothing else
 abbrev pub unless_other : Data → Option Data
 unless_other null = None
 unless_other (boolean b) = None
@@ -67,7 +67,7 @@ unless_other (string s) = None
 unless_other (array ds) = None
 unless_other (object ms) = Some (object ms)
 
--- what is imported
+-- the object that describes an import
 abbrev pub imported_in : (change : Option Data) → Option Data
 imported_in None = None
 imported_in (Some change) = member_of (codes "importing") change >>= unless_other
@@ -76,7 +76,7 @@ abbrev pub importing_of : (imported : Option Data) → Option Importing
 importing_of None = None
 importing_of (Some d) = Some (record { id = non_empty_text_of (codes "id") d })
 
--- the configuration that was made for it
+-- the configuration that Terraform generated for an imported object
 abbrev pub config_in : (change : Option Data) → Option (List ℕ)
 config_in None = None
 config_in (Some change) = non_empty_text_of (codes "generated_config") change
@@ -85,7 +85,7 @@ abbrev pub actions_in : (change : Option Data) → Option Items
 actions_in None = None
 actions_in (Some change) = member_of (codes "actions") change >>= as_array
 
--- the list is that of forgetting
+-- the list of actions is `["forget"]`
 abbrev pub is_forgetting : Items → Bool
 is_forgetting no_items = false
 is_forgetting (item action no_items) = is_word (codes "forget") action
@@ -94,11 +94,11 @@ is_forgetting (item first (item second others)) = false
 abbrev pub forgets_in : (change : Option Data) → Bool
 forgets_in change = option_map_or is_forgetting (actions_in change) false
 
--- why the change was planned
+-- the reason for the change
 abbrev pub reason_of : Data → Option Reason
 reason_of d = option_map reason_named (non_empty_text_of (codes "action_reason") d)
 
--- the resource that the object was before it was moved: where the text is an address, by its parts
+-- the resource that the object was before its move; nothing where the text is no address
 abbrev pub with_parts : (address : List ℕ) → Parts → PreviousResource
 with_parts address parts = record {
   address = address;
@@ -115,7 +115,7 @@ previous_at address = option_map (with_parts address) (parts_in address)
 abbrev pub previous_of : Data → Option PreviousResource
 previous_of d = non_empty_text_of (codes "previous_address") d >>= previous_at
 
--- what an element says
+-- all details of an element
 abbrev pub element_details : Data → ChangeDetails
 element_details d = record {
   forgets = forgets_in (member_of (codes "change") d);

@@ -2,12 +2,12 @@ pub mod Changes
 pub mod Details
 pub mod Extras
 pub mod InOrder
-pub mod Kept
+pub mod StoredOutputs
 pub mod Notes
-pub mod OutputTexts
+pub mod RawOutput
 pub mod Outputs
 pub mod Plan
 pub mod Selection
-pub mod Sought
+pub mod Sections
 pub mod Texts
-pub mod Told
+pub mod ReadDetails

@@ -1,11 +1,11 @@
--- What of a plan is looked at for Terraform's form alone, for private clauses.
+-- Which members of a plan are read for Terraform's form, for private clauses.
 use Rattle.std.specs.Prelude.{ℕ, List, ◌||◌, codes, if◌then◌else◌, Option, Some, None}
 use Rattle.std.specs.Str.{bytes_eq}
 use Rattle.apply_json_tree.specs.Trimmed.{Selection}
 use Rattle.apply_plan_terraform.specs.declared.details_shape.DetailsShape.{DetailsShape}
 use Rattle.apply_plan_terraform.specs.declared.details_shape.DetailsShape.TheVariants.{Scalar, Plan, Changes, Element, Change, Actions, Importing, After}
 
--- the shape of the member of that name; none where nobody looks at it
+-- the shape of the member with that name; nothing where it is skipped
 abbrev pub member_shape : DetailsShape → List ℕ → Option DetailsShape
 member_shape Plan name =
     if bytes_eq name (codes "resource_changes") then Some Changes
@@ -29,7 +29,7 @@ abbrev pub item_shape : DetailsShape → DetailsShape
 item_shape Changes = Element
 item_shape _ = Scalar
 
--- how many items are looked at; all elements
+-- how many items are read; no limit for the elements
 abbrev pub item_limit : DetailsShape → Option ℕ
 item_limit Changes = None
 item_limit Actions = Some 2

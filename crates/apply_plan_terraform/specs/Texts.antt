@@ -1,5 +1,5 @@
--- Values that are kept as their own texts: as they stand in a JSON text, token by token, without blanks, members in their
--- order, numbers as they were written, strings in the shortest escapes (RFC 8259).
+-- Values that are stored as JSON texts. A text has no blanks, and the members in their order.
+-- Numbers stand as they were written, and strings in the shortest escapes (RFC 8259).
 use Rattle.std.specs.Prelude.{ℕ, List, codes, Bool, true, false, ◌||◌, if◌then◌else◌, Option, Some, None, option_and_then}
 use Rattle.std.specs.Option.{option_map_or}
 use Rattle.std.specs.Str.{bytes_eq, is_utf8}
@@ -12,13 +12,13 @@ use Rattle.serde_json.specs.Read.{max_depth}
 use Rattle.apply_plan_terraform.specs.declared.texts.part.Part.{Part}
 use Rattle.apply_plan_terraform.specs.declared.texts.part.Part.TheVariants.{Plan, State, Values, Script, Diagnostics, Diagnostic, Outputs, Output, OutputChanges, OutputChange, Text}
 
--- a diagnostic has a member of that name
+-- a diagnostic has a member with that name
 abbrev pub is_of_diagnostic : List ℕ → Bool
 is_of_diagnostic name =
     bytes_eq name (codes "severity") || (bytes_eq name (codes "summary") || (bytes_eq name (codes "detail")
     || (bytes_eq name (codes "address") || (bytes_eq name (codes "range") || bytes_eq name (codes "snippet")))))
 
--- what the member of that name is; none where it is passed over
+-- the part that the member with that name is; nothing where it is skipped
 abbrev pub part_named : Part → List ℕ → Option Part
 part_named Plan name =
     if bytes_eq name (codes "prior_state") then Some State
@@ -39,7 +39,7 @@ part_named OutputChanges name = Some OutputChange
 part_named OutputChange name = if bytes_eq name (codes "actions") || bytes_eq name (codes "after_unknown") then Some Text else None
 part_named Text name = None
 
--- the value is kept as text, whatever it is
+-- any value of the part is stored as JSON text, objects too
 abbrev pub is_text : Part → Bool
 is_text Plan = false
 is_text State = false
@@ -53,12 +53,12 @@ is_text OutputChanges = false
 is_text OutputChange = false
 is_text Text = true
 
--- the value as it stands
+-- the value as JSON text
 abbrev pub text_of : json.Json → List ℕ
 text_of j = print (json_tokens j)
 
--- objects as trees, of which the last member of a name counts, down to the values that are kept; these, and what is no
--- object, as texts
+-- objects become trees down to the values that are stored as JSON text; any other value becomes its
+-- text; of members with the same name the last one counts
 abbrev mutual
   pub with_texts : Part → json.Json → Data
   with_texts part json.null = string (text_of json.null)
@@ -69,16 +69,16 @@ abbrev mutual
   with_texts part (json.object ms) =
       if is_text part then string (text_of (json.object ms)) else object (members_with_texts part ms no_members)
 
-  -- the members go in one after another, beside those that were found
-  pub members_with_texts : Part → json.Members → (found : Members) → Members
-  members_with_texts part json.no_members found = found
-  members_with_texts part (json.member name j ms) found =
-      members_with_texts part ms (option_map_or (λ inner. put name (with_texts inner j) found) (part_named part name) found)
+  -- members go in one after another
+  pub members_with_texts : Part → json.Members → (collected : Members) → Members
+  members_with_texts part json.no_members collected = collected
+  members_with_texts part (json.member name j ms) collected =
+      members_with_texts part ms (option_map_or (λ inner. put name (with_texts inner j) collected) (part_named part name) collected)
 
--- the value that a text is; none where it is no JSON, or nests more than 127 deep
+-- the value of a JSON text; nothing where it is no JSON, or nests more than 127 deep
 abbrev pub json_of_text : List ℕ → Option json.Json
 json_of_text text = option_and_then (λ p. json.if_last p.0 p.1) (json.value max_depth (tokens text))
 
--- the value that bytes are; none where they are no text in UTF-8, or the text is none
+-- the value of bytes; nothing where they are no JSON in UTF-8
 abbrev pub json_of : List ℕ → Option json.Json
 json_of bytes = if is_utf8 bytes then json_of_text bytes else None

@@ -1,4 +1,4 @@
-//! Reading what only Terraform's form tells of a plan.
+//! Reads from a plan what only Terraform's form needs, except its outputs.
 
 ghost use Rattle.std.specs.Prelude.{◌≡◌, ◌≤◌, length, codes, map, IfErr, IfOk, Some, option_map};
 ghost use Rattle.serde_json.specs.Data.{Data};
@@ -10,10 +10,10 @@ ghost use Rattle.apply_plan_terraform.specs.Changes.{array_in, changes_of};
 ghost use Rattle.apply_plan_terraform.specs.Details.{element_details};
 ghost use Rattle.apply_plan_terraform.specs.Plan.{note_of};
 
+use crate::details::PlanDetails;
 use crate::details_shape::DetailsShape;
 use crate::elements::change_details;
 use crate::notes::plan_note;
-use crate::plan_details::PlanDetails;
 use apply_json::{JsonFault, Scratch};
 use apply_json_tree::members::member;
 use apply_json_tree::parse_trimmed;
@@ -22,14 +22,14 @@ use apply_plan::MAX_BYTES;
 use serde_json::Value;
 use std::alloc::{AllocError, Global};
 
-/// The elements of `resource_changes`. `None` where there is no such array.
+/// The elements of `resource_changes`. `None` when the plan has no such array.
 fn elements(plan: &Value) -> Option<&[Value]>
     ensures { option_map (λ items. items_view items.now) result ≡ array_in (view plan.now) }
 {
     Some(member(plan, "resource_changes")?.as_array()?.as_slice())
 }
 
-/// What each of the elements says.
+/// Reads the details of each element. `Err` when memory is refused.
 fn details_of(alloc: Global, elements: &[Value]) -> Result<Vec<ChangeDetails>, AllocError>
     ensures { IfOk result (λ changes. changes.items
         ≡ map element_details (list_of (items_view elements.now))) }
@@ -41,7 +41,7 @@ fn details_of(alloc: Global, elements: &[Value]) -> Result<Vec<ChangeDetails>, A
     Ok(changes)
 }
 
-/// What the elements of `resource_changes` say.
+/// Reads the details of all elements of `resource_changes`. `Err` when memory is refused.
 fn changes_of(alloc: Global, plan: &Value) -> Result<Vec<ChangeDetails>, AllocError>
     ensures { IfOk result (λ changes. changes.items ≡ changes_of (view plan.now)) }
 {
@@ -51,7 +51,7 @@ fn changes_of(alloc: Global, plan: &Value) -> Result<Vec<ChangeDetails>, AllocEr
     }
 }
 
-/// What the tree says.
+/// Reads the details of a parsed plan. `Err` when memory is refused.
 fn plan_details(alloc: Global, plan: &Value) -> Result<PlanDetails, AllocError>
     ensures changes { IfOk result (λ details. details.changes.items ≡ changes_of (view plan.now)) }
     ensures note { IfOk result (λ details. details.note ≡ note_of (view plan.now)) }
@@ -62,13 +62,16 @@ fn plan_details(alloc: Global, plan: &Value) -> Result<PlanDetails, AllocError>
     })
 }
 
-/// What a saved plan (JSON Output Format, "Plan Representation") says for Terraform's form alone: what the elements of
-/// `resource_changes` say, in their order, and what is said of the plan as a whole.
+/// Reads from a saved plan (JSON Output Format, "Plan Representation") what only Terraform's form
+/// needs: the details of each element of `resource_changes`, and the note about the plan.
 ///
-/// It is meant for bytes that `apply_plan::read_plan` took for a plan, and refuses no other JSON: a member of another kind
-/// counts as absent. All elements are read, however many there are. `scratch` grows to the length of the bytes. `Err` with
-/// `JsonFault::TooLarge` where there are more than 64 MiB, with `JsonFault::NotJson` where they are no JSON (RFC 8259) in
-/// UTF-8, or nest more than 127 deep, with `JsonFault::Memory` where memory is refused.
+/// Give it bytes that `apply_plan::read_plan` accepted. It refuses no other JSON: a member of the
+/// wrong kind counts as absent. It reads all elements, however many there are. `scratch` grows to
+/// the length of `bytes`.
+///
+/// `Err` with `JsonFault::TooLarge` when there are more than 64 MiB. `Err` with
+/// `JsonFault::NotJson` when the bytes are no JSON (RFC 8259) in UTF-8, or nest more than 127 deep.
+/// `Err` with `JsonFault::Memory` when memory is refused.
 pub fn read_plan_details(
     alloc: Global,
     scratch: &mut Scratch,

@@ -1,4 +1,4 @@
-//! What of a plan is looked at for Terraform's form alone.
+//! Which members of a plan are read for Terraform's form. The parser skips all others.
 
 ghost use Rattle.std.specs.Prelude.{◌≡◌};
 ghost use Rattle.apply_plan_terraform.specs.Selection.{details_selection, member_shape};
@@ -6,10 +6,10 @@ ghost use Rattle.apply_plan_terraform.specs.Selection.{details_selection, member
 use apply_json::is_text;
 use apply_json_tree::Shape;
 
-/// What of a value in a plan is looked at. A shape is named after the value that it belongs to.
+/// Which members and items of a value are read. Each shape is named after its value in the plan.
 #[derive(Clone, Copy)]
 pub enum DetailsShape {
-    /// Neither a member nor an item.
+    /// Neither members nor items.
     Scalar,
     /// The top level of a plan.
     Plan,
@@ -19,7 +19,7 @@ pub enum DetailsShape {
     Element,
     /// `change` of an element.
     Change,
-    /// `actions` of a change, with one item more than the list of forgetting has.
+    /// `actions` of a change. Two items are read, since the list of a forgotten object has one.
     Actions,
     /// `importing` of a change.
     Importing,

@@ -1,4 +1,5 @@
-//! What an element of `resource_changes` says for Terraform's form alone.
+//! Reads from an element of `resource_changes` what only Terraform's form needs. Every `Err` means
+//! that memory was refused.
 
 ghost use Rattle.std.specs.Prelude.{◌≡◌, IfOk, option_map};
 ghost use Rattle.std.specs.Option.{option_copied};
@@ -7,7 +8,7 @@ ghost use Rattle.apply_address.specs.Parts.{parts_view};
 ghost use Rattle.apply_plan_terraform.specs.Details as specs;
 ghost use Rattle.apply_plan_terraform.specs.Details.{element_details};
 
-use crate::flags::says;
+use crate::flags::is_flag;
 use crate::reasons::reason_named;
 use apply_address::{AddressParts, parts_of};
 use apply_json_tree::members::{is_text, member, non_empty_text_member};
@@ -15,7 +16,7 @@ use apply_model::{ChangeDetails, Importing, PreviousResource, Reason, Text};
 use serde_json::Value;
 use std::alloc::{AllocError, Global};
 
-/// What an element says, with copies of its texts. `Err` where memory is refused.
+/// Reads the details of an element, and copies their texts.
 pub fn change_details(alloc: Global, element: &Value) -> Result<ChangeDetails, AllocError>
     ensures { IfOk result (λ details. details ≡ element_details (view element.now)) }
 {
@@ -30,7 +31,7 @@ pub fn change_details(alloc: Global, element: &Value) -> Result<ChangeDetails, A
     })
 }
 
-/// Why the change was planned.
+/// The reason for the change. `None` when the plan gives none.
 fn reason(element: &Value) -> Option<Reason>
     ensures { result ≡ specs.reason_of (view element.now) }
 {
@@ -40,7 +41,7 @@ fn reason(element: &Value) -> Option<Reason>
     }
 }
 
-/// Whether the object is to be forgotten.
+/// Whether Terraform forgets the object.
 fn forgets(change: Option<&Value>) -> bool
     ensures { result ≡ specs.forgets_in (option_map (λ value. view value.now) change.entry) }
 {
@@ -50,7 +51,7 @@ fn forgets(change: Option<&Value>) -> bool
     }
 }
 
-/// Whether the list of actions is that of forgetting.
+/// Whether the list of actions is `["forget"]`.
 fn is_forgetting(actions: &[Value]) -> bool
     ensures { result ≡ specs.is_forgetting (items_view actions.now) }
 {
@@ -69,9 +70,9 @@ fn actions(change: Option<&Value>) -> Option<&[Value]>
     Some(member(change?, "actions")?.as_array()?.as_slice())
 }
 
-/// What is imported, with a copy of its id.
+/// Reads the import of a change, and copies its id. `None` when nothing is imported.
 fn importing(alloc: Global, change: Option<&Value>) -> Result<Option<Importing>, AllocError>
-    ensures { IfOk result (λ found. found
+    ensures { IfOk result (λ read. read
         ≡ specs.importing_of (specs.imported_in (option_map (λ value. view value.now) change.entry))) }
 {
     match imported(change) {
@@ -82,16 +83,16 @@ fn importing(alloc: Global, change: Option<&Value>) -> Result<Option<Importing>,
     }
 }
 
-/// The object `importing`.
+/// The object `importing`. `None` when there is none.
 fn imported(change: Option<&Value>) -> Option<&Value>
     ensures { option_map (λ value. view value.now) result
         ≡ specs.imported_in (option_map (λ value. view value.now) change.entry) }
 {
-    let found = member(change?, "importing")?;
-    if found.is_object() { Some(found) } else { None }
+    let read = member(change?, "importing")?;
+    if read.is_object() { Some(read) } else { None }
 }
 
-/// The configuration that was made for an imported object.
+/// The configuration that Terraform generated for an imported object.
 fn generated_config(change: Option<&Value>) -> Option<&str>
     ensures { option_copied result
         ≡ specs.config_in (option_map (λ value. view value.now) change.entry) }
@@ -99,7 +100,7 @@ fn generated_config(change: Option<&Value>) -> Option<&str>
     non_empty_text_member(change?, "generated_config")
 }
 
-/// The id after the change, where it is known and not hidden.
+/// The id after the change. `None` when the id is unknown or sensitive.
 fn planned_id(change: Option<&Value>) -> Option<&str>
     ensures { option_copied result
         ≡ specs.planned_id_in (option_map (λ value. view value.now) change.entry) }
@@ -111,19 +112,19 @@ fn planned_id(change: Option<&Value>) -> Option<&str>
     non_empty_text_member(member(change, "after")?, "id")
 }
 
-/// Whether `after_sensitive` hides the id.
+/// Whether `after_sensitive` marks the id as sensitive.
 fn hides(sensitive: Option<&Value>) -> bool
     ensures { result ≡ specs.hides_id (option_map (λ value. view value.now) sensitive.entry) }
 {
     match sensitive {
-        Some(value) => says(Some(value), true) || says(member(value, "id"), true),
+        Some(value) => is_flag(Some(value), true) || is_flag(member(value, "id"), true),
         None => false,
     }
 }
 
-/// The resource that the object was before it was moved, with copies of its parts. `Err` where memory is refused.
+/// Reads the resource that the object was before its move, and copies its parts.
 fn previous(alloc: Global, element: &Value) -> Result<Option<PreviousResource>, AllocError>
-    ensures { IfOk result (λ found. found ≡ specs.previous_of (view element.now)) }
+    ensures { IfOk result (λ read. read ≡ specs.previous_of (view element.now)) }
 {
     match non_empty_text_member(element, "previous_address") {
         Some(address) => previous_at(alloc, address),
@@ -131,9 +132,9 @@ fn previous(alloc: Global, element: &Value) -> Result<Option<PreviousResource>, 
     }
 }
 
-/// The resource with that address. `None` where it is no address.
+/// Reads the resource with that address. `None` when the text is no address.
 fn previous_at(alloc: Global, address: &str) -> Result<Option<PreviousResource>, AllocError>
-    ensures { IfOk result (λ found. found ≡ specs.previous_at address.now) }
+    ensures { IfOk result (λ read. read ≡ specs.previous_at address.now) }
 {
     match parts_of(alloc, address) {
         Ok(Some(parts)) => match copied(alloc, address, parts) {
@@ -145,7 +146,7 @@ fn previous_at(alloc: Global, address: &str) -> Result<Option<PreviousResource>,
     }
 }
 
-/// The resource with that address, of which these are the parts.
+/// Copies the resource with that address and these parts.
 fn copied(
     alloc: Global,
     address: &str,

@@ -1,29 +1,29 @@
-//! What a script says for Terraform's form alone.
+//! What only Terraform's form needs of a script.
 
 ghost use Rattle.std.specs.Prelude.{◌≡◌, []};
 ghost use Rattle.serde_json.specs.Data.{no_members};
-ghost use Rattle.apply_plan_terraform.specs.Kept.{members_view};
-ghost use Rattle.apply_plan_terraform.specs.Extras.{seen_extras};
+ghost use Rattle.apply_plan_terraform.specs.StoredOutputs.{members_view};
+ghost use Rattle.apply_plan_terraform.specs.Extras.{extras_view};
 
-use crate::kept::kept_output::KeptOutput;
+use crate::stored::stored_output::StoredOutput;
 use apply_model::Note;
 use serde_json::Map;
 use std::alloc::Global;
 use std::mem::replace;
 
-/// What a script says for Terraform's form alone, with types and values as texts.
+/// What only Terraform's form needs of a script. Types and values are JSON texts.
 #[derive(Debug, Drop)]
 pub struct Extras {
     /// The outputs, by their names.
-    pub(crate) outputs: Map<String, KeptOutput>,
+    pub(crate) outputs: Map<String, StoredOutput>,
     /// The diagnostics of no step, in their order.
     pub(crate) notes: Vec<Note>,
 }
 
 impl Extras {
-    /// What is said where there is no script.
+    /// The content for a run without a script.
     pub fn none(alloc: Global) -> Extras
-        ensures { seen_extras result ≡ record { outputs = no_members; notes = [] } }
+        ensures { extras_view result ≡ record { outputs = no_members; notes = [] } }
     {
         Extras {
             outputs: Map::new(alloc),
@@ -31,7 +31,7 @@ impl Extras {
         }
     }
 
-    /// Takes the diagnostics of no step out of it, in their order.
+    /// Takes out the diagnostics of no step, and leaves none.
     pub fn take_notes(&mut self, alloc: Global) -> Vec<Note>
         ensures notes { result.items ≡ self.old.notes.items }
         ensures outputs { self.new.outputs ≡ self.old.outputs }

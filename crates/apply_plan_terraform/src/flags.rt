@@ -1,4 +1,4 @@
-//! Flags of a plan.
+//! Boolean members of a plan.
 
 ghost use Rattle.std.specs.Prelude.{◌≡◌, option_map};
 ghost use Rattle.serde_json.specs.View.{view};
@@ -6,11 +6,11 @@ ghost use Rattle.apply_plan_terraform.specs.Details.{is_flag};
 
 use serde_json::Value;
 
-/// Whether the value is that flag and nothing else.
-pub fn says(found: Option<&Value>, wanted: bool) -> bool
-    ensures { result ≡ is_flag wanted (option_map (λ value. view value.now) found.entry) }
+/// Whether the value is the boolean `wanted`. False for `None` and for values of other kinds.
+pub fn is_flag(value: Option<&Value>, wanted: bool) -> bool
+    ensures { result ≡ is_flag wanted (option_map (λ value. view value.now) value.entry) }
 {
-    match found {
+    match value {
         Some(value) => match value.as_bool() {
             Some(flag) => flag == wanted,
             None => false,

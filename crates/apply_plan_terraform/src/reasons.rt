@@ -1,4 +1,4 @@
-//! Why changes were planned, in the words of a plan.
+//! The words of a plan for the reasons of changes.
 
 ghost use Rattle.std.specs.Prelude.{◌≡◌};
 ghost use Rattle.apply_plan_terraform.specs.Details as details;
@@ -6,7 +6,7 @@ ghost use Rattle.apply_plan_terraform.specs.Details as details;
 use apply_json::is_text;
 use apply_model::Reason;
 
-/// The reason that a plan gives in that word; `Unknown` for any other word.
+/// The reason that `word` stands for. `Unknown` for any other word.
 pub fn reason_named(word: &str) -> Reason
     ensures { result ≡ details.reason_named word.now }
 {
@@ -23,7 +23,7 @@ pub fn reason_named(word: &str) -> Reason
     }
 }
 
-/// The same of a word that is no reason to replace.
+/// Like `reason_named`, for words that are no reason to replace.
 fn delete_reason(word: &str) -> Reason
     ensures { result ≡ details.delete_reason word.now }
 {
@@ -44,7 +44,7 @@ fn delete_reason(word: &str) -> Reason
     }
 }
 
-/// The same of a word that is no reason to replace or to delete.
+/// Like `reason_named`, for words that are no reason to replace or delete.
 fn read_reason(word: &str) -> Reason
     ensures { result ≡ details.read_reason word.now }
 {

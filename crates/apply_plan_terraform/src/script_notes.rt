@@ -1,4 +1,4 @@
-//! Diagnostics of no step that a script gives.
+//! The diagnostics of no step in a script. An `Err` without a name means that memory was refused.
 
 ghost use Rattle.std.specs.Prelude.{◌≡◌, IfOk, Some, map, option_map};
 ghost use Rattle.std.specs.Option.{option_copied};
@@ -7,7 +7,7 @@ ghost use Rattle.apply_plan.specs.Results.{Gives};
 ghost use Rattle.apply_plan_terraform.specs.Notes as specs;
 
 use crate::output_changes::text_of;
-use crate::output_text::is_that;
+use crate::raw_output::equals_word;
 use crate::texts::items::read_items;
 use apply_json::{ReadFault, non_empty};
 use apply_model::{Diag, Note, Severity, Text};
@@ -15,15 +15,17 @@ use apply_plan::ScriptError;
 use serde_json::Value;
 use std::alloc::{AllocError, Global};
 
-/// The diagnostics of a script, in which that was found. `Err` with `ScriptError::BadShape` where it is no array; with
-/// `ScriptError::BadDiagnostic` of the first item with a member that breaks its rule; with `ScriptError::Memory` where memory is
-/// refused.
-pub fn notes_in(alloc: Global, found: Option<&Value>) -> Result<Vec<Note>, ScriptError>
+/// Reads the diagnostics of a script from the value of its member.
+///
+/// `Err` with `ScriptError::BadShape` when the value is no array. `Err` with
+/// `ScriptError::BadDiagnostic` when an item has a member that breaks its rule; the first such item
+/// counts. `Err` with `ScriptError::Memory` when memory is refused.
+pub fn notes_in(alloc: Global, value: Option<&Value>) -> Result<Vec<Note>, ScriptError>
     ensures { Gives ScriptError.Memory (λ notes. notes.items) result
-        (specs.notes_in_script (option_map (λ value. view value.now) found.entry)) }
+        (specs.notes_in_script (option_map (λ value. view value.now) value.entry)) }
 {
-    match text_of(found) {
-        Some(text) => if is_that(Some(text), "null") {
+    match text_of(value) {
+        Some(text) => if equals_word(Some(text), "null") {
             Ok(Vec::new(alloc))
         } else {
             notes_of_text(alloc, text)
@@ -32,7 +34,7 @@ pub fn notes_in(alloc: Global, found: Option<&Value>) -> Result<Vec<Note>, Scrip
     }
 }
 
-/// Those of an array that is kept as text.
+/// Reads the diagnostics from the JSON text of an array. Its errors are those of `notes_in`.
 fn notes_of_text(alloc: Global, text: &str) -> Result<Vec<Note>, ScriptError>
     ensures { Gives ScriptError.Memory (λ notes. notes.items) result (specs.notes_of_text text.now) }
 {
@@ -44,7 +46,8 @@ fn notes_of_text(alloc: Global, text: &str) -> Result<Vec<Note>, ScriptError>
     }
 }
 
-/// Those that the items of an array are.
+/// Reads a diagnostic from each item. `Err` with `ScriptError::BadDiagnostic` or
+/// `ScriptError::Memory`, as in `notes_in`.
 fn notes_of(alloc: Global, items: &[Value]) -> Result<Vec<Note>, ScriptError>
     ensures { Gives ScriptError.Memory (λ notes. notes.items) result (specs.notes_from 0 (map view items.now)) }
 {
@@ -58,7 +61,7 @@ fn notes_of(alloc: Global, items: &[Value]) -> Result<Vec<Note>, ScriptError>
     Ok(notes)
 }
 
-/// The diagnostic that an item is. `None` where a member of it breaks its rule. `Err` where memory is refused.
+/// Reads a diagnostic. `None` when a member breaks its rule.
 fn note_in(alloc: Global, item: &Value) -> Result<Option<Note>, AllocError>
     ensures { IfOk result (λ note. note ≡ specs.note_in (view item.now)) }
 {
@@ -68,7 +71,7 @@ fn note_in(alloc: Global, item: &Value) -> Result<Option<Note>, AllocError>
     let Some(diag) = diag_in(alloc, item)? else {
         return Ok(None);
     };
-    match said_or_empty(alloc, kept_at(item, "address"))? {
+    match decoded_or_empty(alloc, raw_member(item, "address"))? {
         Some(address) => Ok(Some(Note {
             severity,
             diag,
@@ -78,11 +81,11 @@ fn note_in(alloc: Global, item: &Value) -> Result<Option<Note>, AllocError>
     }
 }
 
-/// How severe the diagnostic is that an item is.
+/// The severity of a diagnostic. `None` when the member is absent or has another value.
 fn severity_in(item: &Value) -> Option<Severity>
     ensures { result ≡ specs.severity_in (view item.now) }
 {
-    let text = kept_at(item, "severity")?;
+    let text = raw_member(item, "severity")?;
     if text == "\"error\"" {
         Some(Severity::Error)
     } else if text == "\"warning\"" {
@@ -92,20 +95,20 @@ fn severity_in(item: &Value) -> Option<Severity>
     }
 }
 
-/// What the diagnostic says that an item is.
+/// Reads the texts of a diagnostic. `None` when a member breaks its rule.
 fn diag_in(alloc: Global, item: &Value) -> Result<Option<Diag>, AllocError>
     ensures { IfOk result (λ diag. diag ≡ specs.diag_in (view item.now)) }
 {
-    let Some(summary) = said_at(alloc, item, "summary")? else {
+    let Some(summary) = decoded_member(alloc, item, "summary")? else {
         return Ok(None);
     };
-    let Some(detail) = said_or_empty(alloc, kept_at(item, "detail"))? else {
+    let Some(detail) = decoded_or_empty(alloc, raw_member(item, "detail"))? else {
         return Ok(None);
     };
-    let Some(range) = object_or_none(kept_at(item, "range")) else {
+    let Some(range) = object_or_none(raw_member(item, "range")) else {
         return Ok(None);
     };
-    let Some(snippet) = object_or_none(kept_at(item, "snippet")) else {
+    let Some(snippet) = object_or_none(raw_member(item, "snippet")) else {
         return Ok(None);
     };
     Ok(Some(Diag {
@@ -116,30 +119,30 @@ fn diag_in(alloc: Global, item: &Value) -> Result<Option<Diag>, AllocError>
     }))
 }
 
-/// A member as its text of JSON. `null` counts as absent.
-fn kept_at<'a>(item: &'a Value, name: &str) -> Option<&'a str>
-    ensures { option_copied result ≡ specs.kept_at name.now (view item.now) }
+/// A member as JSON text. `null` counts as absent.
+fn raw_member<'a>(item: &'a Value, name: &str) -> Option<&'a str>
+    ensures { option_copied result ≡ specs.raw_member name.now (view item.now) }
 {
     let text = item.get(name)?.as_str()?;
     if text == "null" { None } else { Some(text) }
 }
 
-/// A member that has to be a text. `None` where it is none.
-fn said_at(alloc: Global, item: &Value, name: &str) -> Result<Option<Text>, AllocError>
-    ensures { IfOk result (λ found. found ≡ specs.said_at name.now (view item.now)) }
+/// Reads a member that must be a string. `None` when it is absent or no string.
+fn decoded_member(alloc: Global, item: &Value, name: &str) -> Result<Option<Text>, AllocError>
+    ensures { IfOk result (λ value. value ≡ specs.decoded_member name.now (view item.now)) }
 {
-    match kept_at(item, name) {
-        Some(text) => said(alloc, text),
+    match raw_member(item, name) {
+        Some(text) => decoded(alloc, text),
         None => Ok(None),
     }
 }
 
-/// A text that may be absent, which is then empty. `None` where it is no text.
-fn said_or_empty(alloc: Global, text: Option<&str>) -> Result<Option<Text>, AllocError>
-    ensures { IfOk result (λ found. found ≡ specs.said_or_empty (option_copied text.entry)) }
+/// Decodes an optional string. It is empty when absent. `None` when the JSON text is no string.
+fn decoded_or_empty(alloc: Global, text: Option<&str>) -> Result<Option<Text>, AllocError>
+    ensures { IfOk result (λ value. value ≡ specs.decoded_or_empty (option_copied text.entry)) }
 {
     match text {
-        Some(text) => said(alloc, text),
+        Some(text) => decoded(alloc, text),
         None => match Text::new(alloc, "") {
             Ok(empty) => Ok(Some(empty)),
             Err(refused) => Err(refused),
@@ -147,9 +150,9 @@ fn said_or_empty(alloc: Global, text: Option<&str>) -> Result<Option<Text>, Allo
     }
 }
 
-/// The text that a text of JSON says. `None` where it says another value.
-fn said(alloc: Global, text: &str) -> Result<Option<Text>, AllocError>
-    ensures { IfOk result (λ found. found ≡ specs.said text.now) }
+/// Decodes a JSON text. `None` when the value is no string.
+fn decoded(alloc: Global, text: &str) -> Result<Option<Text>, AllocError>
+    ensures { IfOk result (λ value. value ≡ specs.decoded text.now) }
 {
     match Value::from_str(alloc, text) {
         Ok(value) => Text::of_option(alloc, value.as_str()),
@@ -161,7 +164,7 @@ fn said(alloc: Global, text: &str) -> Result<Option<Text>, AllocError>
     }
 }
 
-/// An object as its text, where there is one. `None` where another value stands there.
+/// Checks an optional object, and leaves it as JSON text. `None` when the value is no object.
 fn object_or_none(text: Option<&str>) -> Option<Option<&str>>
     ensures { option_map option_copied result ≡ specs.object_or_none (option_copied text.entry) }
 {

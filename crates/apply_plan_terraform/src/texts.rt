@@ -1,4 +1,4 @@
-//! Values that are kept as their own texts.
+//! Values that are stored as JSON texts.
 
 mod beginning;
 mod copying;

@@ -1,15 +1,17 @@
-//! What no clause says: that the definitions are the ones that were meant, and that calls succeed with ample memory.
+//! What no clause states: that the definitions are the intended ones, and that calls succeed when
+//! memory suffices.
 
 use apply_json_tree::parse;
 use apply_model::{ChangeDetails, Importing, Key, Note, PreviousResource, Severity, Text};
 use apply_plan_terraform::{
-    PlanNote, change_details, is_errored, is_partial, plan_note, told_notes,
+    PlanNote, change_details, is_errored, is_partial, plan_note, written_notes,
 };
 use serde_json::Value;
 use std::alloc::Global;
 use std::process::Abort;
 
-/// The value, for as long as the test runs: a proof grows with each place at which something has to be dropped.
+/// Keeps a value as long as the test runs. A proof grows with each place at which a value is
+/// dropped.
 fn kept<'a, T: Drop + 'a>(rt: &impl Abort, alloc: Global, value: T) -> &'a T {
     let kept = Box::new(alloc, value).expect(rt, "memory");
     &*Box::leak(kept)
@@ -24,7 +26,7 @@ fn tree_of(rt: &impl Abort, alloc: Global, text: &str) -> &'static Value {
     kept(rt, alloc, tree.ok().expect(rt, "a tree"))
 }
 
-/// The text, or a dash where there is none.
+/// The text, or `-` when there is none.
 fn shown(text: Option<&Text>) -> &str {
     match text {
         Some(text) => text.as_str(),
@@ -32,7 +34,7 @@ fn shown(text: Option<&Text>) -> &str {
     }
 }
 
-/// The id, a star where something is imported without one, or a dash.
+/// The id. `*` for an import without an id, `-` when nothing is imported.
 fn shown_importing(importing: Option<&Importing>) -> &str {
     match importing {
         Some(Importing { id: Some(id) }) => id.as_str(),
@@ -41,7 +43,7 @@ fn shown_importing(importing: Option<&Importing>) -> &str {
     }
 }
 
-/// The details, in one row.
+/// The details as one row.
 fn row_of(rt: &impl Abort, alloc: Global, details: &ChangeDetails) -> &'static str {
     let forgets = if details.forgets { "forgets" } else { "-" };
     let reason = match details.reason {
@@ -55,7 +57,8 @@ fn row_of(rt: &impl Abort, alloc: Global, details: &ChangeDetails) -> &'static s
     kept(rt, alloc, row.expect(rt, "memory")).as_str()
 }
 
-/// Elements, and what is told of each: whether it is forgotten, the reason, what is imported, the configuration, the planned id.
+/// Elements and their details: whether Terraform forgets the object, the reason, the import, the
+/// configuration, the planned id.
 const ELEMENTS: &str = r#"{"change":{"actions":["create"]}} => - - - - -
 {} => - - - - -
 [] => - - - - -
@@ -106,7 +109,7 @@ fn each_member_of_another_kind_is_absent(rt: HostRuntime) {
     }
 }
 
-/// Plans, and what is said of each.
+/// Plans and their notes.
 const PLANS: &str = r#"{} => nothing
 [] => nothing
 {"errored":true} => unfinished
@@ -116,7 +119,7 @@ const PLANS: &str = r#"{} => nothing
 {"complete":false,"errored":false} => partial
 {"complete":false,"errored":true} => unfinished"#;
 
-/// What is said of a plan, in a word.
+/// The name of a note.
 fn said(note: Option<PlanNote>) -> &'static str {
     match note {
         Some(PlanNote::Partial) => "partial",
@@ -137,8 +140,8 @@ fn one_thing_is_said_of_a_plan(rt: HostRuntime) {
     }
 }
 
-/// Where objects were before, in the members of an element, and what is told of each: the module, the resource, the provider,
-/// the type, the name and the key.
+/// Members of elements, and the previous resource that they give: module, resource, provider, type,
+/// name and key.
 const MOVED: &str = r#"{} => -
 {"previous_address":5} => -
 {"previous_address":null} => -
@@ -155,7 +158,7 @@ const MOVED: &str = r#"{} => -
 {"previous_address":"module.m.a.b.c"} => -
 {"previous_address":"a.b[9223372036854775808]"} => -"#;
 
-/// The parts of where an object was, in one row.
+/// The parts of a previous resource as one row.
 fn shown_previous(
     rt: &impl Abort,
     alloc: Global,
@@ -192,7 +195,7 @@ fn an_address_from_before_is_taken_apart(rt: HostRuntime) {
     }
 }
 
-/// Severities and summaries, in one row.
+/// Severities and summaries as one row.
 fn shown_notes(rt: &impl Abort, alloc: Global, notes: &[Note]) -> &'static str {
     let mut row = String::new(alloc);
     for note in notes {
@@ -207,13 +210,13 @@ fn shown_notes(rt: &impl Abort, alloc: Global, notes: &[Note]) -> &'static str {
     kept(rt, alloc, row).as_str()
 }
 
-/// What is told beside one diagnostic of a script.
+/// The diagnostics that a stream shows for one diagnostic of a script and the note of a plan.
 fn told_beside(rt: &impl Abort, alloc: Global, plan: Option<PlanNote>) -> &'static str {
     let own = PlanNote::Partial.note(alloc);
     let mut script = Vec::new(alloc);
     let pushed = script.push(own.ok().expect(rt, "memory"));
     pushed.ok().expect(rt, "memory");
-    let notes = told_notes(alloc, plan, script);
+    let notes = written_notes(alloc, plan, script);
     let notes = kept(rt, alloc, notes.ok().expect(rt, "memory"));
     shown_notes(rt, alloc, notes.as_slice())
 }

@@ -1,4 +1,5 @@
-//! What no clause says: that the definitions are the ones that were meant, and that calls succeed with ample memory.
+//! Tests of what no contract states: the definitions mean what was intended, and calls succeed with
+//! enough memory.
 
 ghost use Rattle.std.specs.Prelude.{◌≡◌, true};
 
@@ -23,36 +24,38 @@ use std::process::Abort;
 const ONE_CREATE: &str =
     r#"{"format_version":"1.2","terraform_version":"1.9.0","resource_changes":[{"address":"null_resource.a","mode":"managed","type":"null_resource","name":"a","change":{"actions":["create"]}}]}"#;
 
-/// The value, for as long as the test runs: a proof grows with each place at which something has to be dropped.
+/// Leaks a value until the test ends. A proof grows with each place where a value is dropped.
 fn kept<'a, T: Drop + 'a>(rt: &impl Abort, alloc: Global, value: T) -> &'a T {
     let kept = Box::new(alloc, value).expect(rt, "memory");
     &*Box::leak(kept)
 }
 
-/// The text, for as long as the test runs.
+/// Leaks a text until the test ends.
 fn kept_text(rt: &impl Abort, alloc: Global, text: String) -> &'static str {
     kept(rt, alloc, text).as_str()
 }
 
-/// The plan that the text has to be.
+/// Reads a plan that must be valid.
 fn plan_of(rt: &impl Abort, alloc: Global, text: &str) -> &'static Plan {
     let plan = read_plan(alloc, text.as_bytes());
     kept(rt, alloc, plan.ok().expect(rt, text))
 }
 
-/// The script for the plan that the text has to be.
+/// Reads a script that must be valid.
 fn script_of(rt: &impl Abort, alloc: Global, plan: &str, text: &str) -> &'static Script {
     let plan = plan_of(rt, alloc, plan);
     let script = read_script(alloc, text.as_bytes(), plan);
     kept(rt, alloc, script.ok().expect(rt, text))
 }
 
-/// What `Display` prints of it.
+/// The value as `Display` prints it.
 fn shown(rt: &impl Abort, alloc: Global, value: &impl Display) -> &'static str {
     kept_text(rt, alloc, value.to_string(alloc).expect(rt, "memory"))
 }
 
-/// What `Debug` prints of it. The lifetime is left open: the borrow checker takes no `'static` here where the value has several.
+/// The value as `Debug` prints it.
+///
+/// The lifetime is open: the borrow checker refuses `'static` for a value with several lifetimes.
 fn printed<'a>(rt: &impl Abort, alloc: Global, value: &impl Debug) -> &'a str {
     kept_text(
         rt,
@@ -61,7 +64,7 @@ fn printed<'a>(rt: &impl Abort, alloc: Global, value: &impl Debug) -> &'a str {
     )
 }
 
-/// Fails where it is not so. A proof grows by each assertion, and by less where it is a call.
+/// Fails if the condition is false. A call makes a proof grow less than an assertion does.
 fn holds(rt: &impl Abort, case: &str, is_so: bool)
     ensures { is_so ≡ true }
 {

@@ -6,4 +6,4 @@ pub mod Orders
 pub mod Rounds
 pub mod Searching
 pub mod Sets
-pub mod Stuck
+pub mod Unreachable

@@ -9,10 +9,10 @@ use Rattle.std.proofs.lemmas.List.Sums.{sum_by-set}
 use Rattle.apply_model.proofs.Lists.{left_at}
 use Rattle.apply_model.specs.declared.script.wait.Wait.{Wait}
 use Rattle.apply_model.specs.Script.OutcomeMap.{OutcomeMap}
-use Rattle.apply_resolve.specs.declared.beginning.Visit.{Visit}
-use Rattle.apply_resolve.specs.declared.mark.Mark.{Mark}
-use Rattle.apply_resolve.specs.declared.mark.Mark.TheVariants.{Unseen, OnPath, Begins, Stuck}
-use Rattle.apply_resolve.specs.Marks.{MarkedStuck, index_of, is_known, mark_of, with_stuck}
+use Rattle.apply_resolve.specs.declared.reachability.Visit.{Visit}
+use Rattle.apply_resolve.specs.declared.visit_state.VisitState.{VisitState}
+use Rattle.apply_resolve.specs.declared.visit_state.VisitState.TheVariants.{Unseen, OnPath, Begins, Unreachable}
+use Rattle.apply_resolve.specs.VisitStates.{AreUnreachable, index_of, is_known, state_of, with_unreachable}
 use Rattle.apply_resolve.specs.Placed.{IsPlaced}
 use Rattle.apply_resolve.proofs.Rounds.{is_step, same_step, steps_equal}
 
@@ -23,66 +23,66 @@ index_same n one other here there same =
     let change : one.change ≡ other.change = omega arith in
     (change, omega arith)
 
-pub in_marks : (n : ℕ) (marks : List Mark) (wait : Wait) → length marks ≡ 2 * n → IsPlaced n wait → index_of wait < length marks
-in_marks n marks wait long placed = let below = placed.change_below in let low = placed.step_below in omega arith
+pub in_states : (n : ℕ) (states : List VisitState) (wait : Wait) → length states ≡ 2 * n → IsPlaced n wait → index_of wait < length states
+in_states n states wait long placed = let below = placed.change_below in let low = placed.step_below in omega arith
 
--- the mark of a step, where one was set
-pub mark_after : (marks : List Mark) (wait other : Wait) (mark : Mark) → index_of wait < length marks
-    → ((index_of other ≡ index_of wait) × (mark_of (set marks (index_of wait) mark) other ≡ mark)) ⊎ ((index_of other ≡ index_of wait → ⊥) × (mark_of (set marks (index_of wait) mark) other ≡ mark_of marks other))
-mark_after marks wait other mark below = ⊎_elim
+-- the state of a step, after one state was set
+pub state_after : (states : List VisitState) (wait other : Wait) (state : VisitState) → index_of wait < length states
+    → ((index_of other ≡ index_of wait) × (state_of (set states (index_of wait) state) other ≡ state)) ⊎ ((index_of other ≡ index_of wait → ⊥) × (state_of (set states (index_of wait) state) other ≡ state_of states other))
+state_after states wait other state below = ⊎_elim
     (λ (yes : ((index_of other == index_of wait) ≡ true) × (index_of other ≡ index_of wait)).
-    inl (yes.1, ap (λ (i : ℕ). get_or (set marks (index_of wait) mark) i Unseen) yes.1 ∙ get_or-set_same marks (index_of wait) mark Unseen below))
-    (λ (no : ((index_of other == index_of wait) ≡ false) × (index_of other ≡ index_of wait → ⊥)). inr (no.1, get_or-set_other marks (index_of wait) (index_of other) mark Unseen no.1))
+    inl (yes.1, ap (λ (i : ℕ). get_or (set states (index_of wait) state) i Unseen) yes.1 ∙ get_or-set_same states (index_of wait) state Unseen below))
+    (λ (no : ((index_of other == index_of wait) ≡ false) × (index_of other ≡ index_of wait → ⊥)). inr (no.1, get_or-set_other states (index_of wait) (index_of other) state Unseen no.1))
     (eqb_tells (index_of other) (index_of wait))
 
-abbrev pub is_unseen : Mark → Bool
+abbrev pub is_unseen : VisitState → Bool
 is_unseen Unseen = true
 is_unseen OnPath = false
 is_unseen Begins = false
-is_unseen Stuck = false
+is_unseen Unreachable = false
 
 -- the step is on the path, or was, and could begin
-abbrev pub is_going : Mark → Bool
+abbrev pub is_going : VisitState → Bool
 is_going Unseen = false
 is_going OnPath = true
 is_going Begins = true
-is_going Stuck = false
+is_going Unreachable = false
 
 abbrev pub one_where : Bool → ℕ
 one_where b = cond b 1 0
 
--- how often a test passes, where one mark was set
-pub counted_after : (p : Mark → Bool) (marks : List Mark) (wait : Wait) (mark : Mark) → index_of wait < length marks
-    → count_by p (set marks (index_of wait) mark) + one_where (p (mark_of marks wait)) ≡ count_by p marks + one_where (p mark)
-counted_after p marks wait mark below = sum_by-set (λ (m : Mark). one_where (p m)) marks (index_of wait) mark Unseen below
+-- how often a test passes, after one state was set
+pub counted_after : (p : VisitState → Bool) (states : List VisitState) (wait : Wait) (state : VisitState) → index_of wait < length states
+    → count_by p (set states (index_of wait) state) + one_where (p (state_of states wait)) ≡ count_by p states + one_where (p state)
+counted_after p states wait state below = sum_by-set (λ (m : VisitState). one_where (p m)) states (index_of wait) state Unseen below
 
--- a step that goes on still does where another one, or it, was marked so
-pub going_after : (marks : List Mark) (wait other : Wait) (mark : Mark) → index_of wait < length marks → is_going mark ≡ true → is_going (mark_of marks other) ≡ true
-    → is_going (mark_of (set marks (index_of wait) mark) other) ≡ true
-going_after marks wait other mark below goes was = ⊎_elim
-    (λ (same : (index_of other ≡ index_of wait) × (mark_of (set marks (index_of wait) mark) other ≡ mark)). ap is_going same.1 ∙ goes)
-    (λ (apart : (index_of other ≡ index_of wait → ⊥) × (mark_of (set marks (index_of wait) mark) other ≡ mark_of marks other)). ap is_going apart.1 ∙ was)
-    (mark_after marks wait other mark below)
+-- a step that goes on still does, after the state of any step was set to this
+pub going_after : (states : List VisitState) (wait other : Wait) (state : VisitState) → index_of wait < length states → is_going state ≡ true → is_going (state_of states other) ≡ true
+    → is_going (state_of (set states (index_of wait) state) other) ≡ true
+going_after states wait other state below goes was = ⊎_elim
+    (λ (same : (index_of other ≡ index_of wait) × (state_of (set states (index_of wait) state) other ≡ state)). ap is_going same.1 ∙ goes)
+    (λ (apart : (index_of other ≡ index_of wait → ⊥) × (state_of (set states (index_of wait) state) other ≡ state_of states other)). ap is_going apart.1 ∙ was)
+    (state_after states wait other state below)
 
--- where a mark that is none of these was set, what is marked so was before
-pub stuck_before : (script : OutcomeMap) (marks : List Mark) (wait : Wait) (mark : Mark) → index_of wait < length marks → (mark ≡ Stuck → ⊥) → MarkedStuck script marks → MarkedStuck script (set marks (index_of wait) mark)
-stuck_before script marks wait mark below not stuck other placed marked = ⊎_elim
-    (λ (same : (index_of other ≡ index_of wait) × (mark_of (set marks (index_of wait) mark) other ≡ mark)). absurd (not (sym same.1 ∙ marked)))
-    (λ (apart : (index_of other ≡ index_of wait → ⊥) × (mark_of (set marks (index_of wait) mark) other ≡ mark_of marks other)). stuck other placed (sym apart.1 ∙ marked))
-    (mark_after marks wait other mark below)
+-- if another state was set, a step that has one of these states had it before
+pub unreachable_before : (script : OutcomeMap) (states : List VisitState) (wait : Wait) (state : VisitState) → index_of wait < length states → (state ≡ Unreachable → ⊥) → AreUnreachable script states → AreUnreachable script (set states (index_of wait) state)
+unreachable_before script states wait state below not unreachable other placed marked = ⊎_elim
+    (λ (same : (index_of other ≡ index_of wait) × (state_of (set states (index_of wait) state) other ≡ state)). absurd (not (sym same.1 ∙ marked)))
+    (λ (apart : (index_of other ≡ index_of wait → ⊥) × (state_of (set states (index_of wait) state) other ≡ state_of states other)). unreachable other placed (sym apart.1 ∙ marked))
+    (state_after states wait other state below)
 
 -- of as many steps it is known after a step was put on the path
-pub same_known : (marks : List Mark) (wait : Wait) → index_of wait < length marks → is_known (mark_of marks wait) ≡ false → count_by is_known (set marks (index_of wait) OnPath) ≡ count_by is_known marks
-same_known marks wait below not =
-    let counted = counted_after is_known marks wait OnPath below in
-    let none : one_where (is_known (mark_of marks wait)) ≡ 0 = ap one_where not in
+pub same_known : (states : List VisitState) (wait : Wait) → index_of wait < length states → is_known (state_of states wait) ≡ false → count_by is_known (set states (index_of wait) OnPath) ≡ count_by is_known states
+same_known states wait below not =
+    let counted = counted_after is_known states wait OnPath below in
+    let none : one_where (is_known (state_of states wait)) ≡ 0 = ap one_where not in
     omega (arith, counted, none)
 
-pub path_is_not_stuck : OnPath ≡ Stuck → ⊥
-path_is_not_stuck e = absurd cc
+pub path_is_not_unreachable : OnPath ≡ Unreachable → ⊥
+path_is_not_unreachable e = absurd cc
 
-pub set_going : (marks : List Mark) (wait : Wait) → index_of wait < length marks → is_going (mark_of (set marks (index_of wait) OnPath) wait) ≡ true
-set_going marks wait below = ap is_going (get_or-set_same marks (index_of wait) OnPath Unseen below)
+pub set_going : (states : List VisitState) (wait : Wait) → index_of wait < length states → is_going (state_of (set states (index_of wait) OnPath) wait) ≡ true
+set_going states wait below = ap is_going (get_or-set_same states (index_of wait) OnPath Unseen below)
 
 pub is_step_of : (n : ℕ) (one other : Wait) → IsPlaced n one → IsPlaced n other → index_of one ≡ index_of other → is_step one other ≡ true
 is_step_of n one other here there same =
@@ -91,21 +91,21 @@ is_step_of n one other here there same =
 
 -- ---- a path is marked
 
--- the mark of a step behind that: another one where the step is on the path
-pub marked_among : (n : ℕ) (waits : List Wait) → AllByRecursion (IsPlaced n) waits → (marks : List Mark) → length marks ≡ 2 * n → (other : Wait) → IsPlaced n other
-    → mark_of (with_stuck marks waits) other ≡ cond (list_any (is_step other) waits) Stuck (mark_of marks other)
-marked_among n [] all marks long other there = refl
-marked_among n (wait ∷ waits) all marks long other there =
-    let below = in_marks n marks wait long all.0 in
-    marked_among n waits all.1 (set marks (index_of wait) Stuck) (length-set marks (index_of wait) Stuck ∙ long) other there
+-- the state of a step afterwards: another state if the step is on the path
+pub marked_among : (n : ℕ) (waits : List Wait) → AllByRecursion (IsPlaced n) waits → (states : List VisitState) → length states ≡ 2 * n → (other : Wait) → IsPlaced n other
+    → state_of (with_unreachable states waits) other ≡ cond (list_any (is_step other) waits) Unreachable (state_of states other)
+marked_among n [] all states long other there = refl
+marked_among n (wait ∷ waits) all states long other there =
+    let below = in_states n states wait long all.0 in
+    marked_among n waits all.1 (set states (index_of wait) Unreachable) (length-set states (index_of wait) Unreachable ∙ long) other there
     ∙ ⊎_elim
-    (λ (same : (index_of other ≡ index_of wait) × (mark_of (set marks (index_of wait) Stuck) other ≡ Stuck)).
+    (λ (same : (index_of other ≡ index_of wait) × (state_of (set states (index_of wait) Unreachable) other ≡ Unreachable)).
     rw (same.1, is_step_of n other wait there all.0 same.0) (either_way (list_any (is_step other) waits)))
-    (λ (apart : (index_of other ≡ index_of wait → ⊥) × (mark_of (set marks (index_of wait) Stuck) other ≡ mark_of marks other)).
+    (λ (apart : (index_of other ≡ index_of wait → ⊥) × (state_of (set states (index_of wait) Unreachable) other ≡ state_of states other)).
     rw (apart.1, not_step_of other wait apart.0) refl)
-    (mark_after marks wait other Stuck below)
+    (state_after states wait other Unreachable below)
   where
-    either_way : (b : Bool) → cond b Stuck Stuck ≡ Stuck
+    either_way : (b : Bool) → cond b Unreachable Unreachable ≡ Unreachable
     either_way true = refl
     either_way false = refl
 
@@ -115,18 +115,18 @@ marked_among n (wait ∷ waits) all marks long other there =
         (λ (no : is_step one another ≡ false). no)
         (cases_Bool (is_step one another))
 
-pub length-with_stuck : (waits : List Wait) (marks : List Mark) → length (with_stuck marks waits) ≡ length marks
-length-with_stuck [] marks = refl
-length-with_stuck (wait ∷ waits) marks = length-with_stuck waits (set marks (index_of wait) Stuck) ∙ length-set marks (index_of wait) Stuck
+pub length-with_unreachable : (waits : List Wait) (states : List VisitState) → length (with_unreachable states waits) ≡ length states
+length-with_unreachable [] states = refl
+length-with_unreachable (wait ∷ waits) states = length-with_unreachable waits (set states (index_of wait) Unreachable) ∙ length-set states (index_of wait) Unreachable
 
 -- of no fewer steps it is known then
-pub more_known : (n : ℕ) (waits : List Wait) → AllByRecursion (IsPlaced n) waits → (marks : List Mark) → length marks ≡ 2 * n → count_by is_known marks ≤ count_by is_known (with_stuck marks waits)
-more_known n [] all marks long = let same : count_by is_known (with_stuck marks []) ≡ count_by is_known marks = refl in omega (arith, same)
-more_known n (wait ∷ waits) all marks long =
-    let counted = counted_after is_known marks wait Stuck (in_marks n marks wait long all.0) in
-    let few = at_most_one (is_known (mark_of marks wait)) in
-    let rest = more_known n waits all.1 (set marks (index_of wait) Stuck) (length-set marks (index_of wait) Stuck ∙ long) in
-    let first : count_by is_known marks ≤ count_by is_known (set marks (index_of wait) Stuck) = omega (arith, counted, few) in
+pub more_known : (n : ℕ) (waits : List Wait) → AllByRecursion (IsPlaced n) waits → (states : List VisitState) → length states ≡ 2 * n → count_by is_known states ≤ count_by is_known (with_unreachable states waits)
+more_known n [] all states long = let same : count_by is_known (with_unreachable states []) ≡ count_by is_known states = refl in omega (arith, same)
+more_known n (wait ∷ waits) all states long =
+    let counted = counted_after is_known states wait Unreachable (in_states n states wait long all.0) in
+    let few = at_most_one (is_known (state_of states wait)) in
+    let rest = more_known n waits all.1 (set states (index_of wait) Unreachable) (length-set states (index_of wait) Unreachable ∙ long) in
+    let first : count_by is_known states ≤ count_by is_known (set states (index_of wait) Unreachable) = omega (arith, counted, few) in
     omega (arith, first, rest)
   where
     at_most_one : (b : Bool) → one_where b ≤ 1
@@ -138,9 +138,9 @@ more_known n (wait ∷ waits) all marks long =
 abbrev pub steps_left : ℕ → List Visit → List Wait
 steps_left n path = map (λ visit. visit.step) (drop n path)
 
-pub one_marked : (marks : List Mark) (path : List Visit) (n : ℕ) (visit : Visit) → n < length path → visit ≡ get_or path n visit
-    → with_stuck (set marks (index_of visit.step) Stuck) (steps_left (n + 1) path) ≡ with_stuck marks (steps_left n path)
-one_marked marks path n visit below is = rw (left_at path n visit below is) refl
+pub one_marked : (states : List VisitState) (path : List Visit) (n : ℕ) (visit : Visit) → n < length path → visit ≡ get_or path n visit
+    → with_unreachable (set states (index_of visit.step) Unreachable) (steps_left (n + 1) path) ≡ with_unreachable states (steps_left n path)
+one_marked states path n visit below is = rw (left_at path n visit below is) refl
 
-pub all_marked : (marks : List Mark) (path : List Visit) (n : ℕ) → length path ≤ n → with_stuck marks (steps_left n path) ≡ marks
-all_marked marks path n past = rw (drop_all n path past) refl
+pub all_marked : (states : List VisitState) (path : List Visit) (n : ℕ) → length path ≤ n → with_unreachable states (steps_left n path) ≡ states
+all_marked states path n past = rw (drop_all n path past) refl

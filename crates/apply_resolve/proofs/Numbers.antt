@@ -77,10 +77,10 @@ mapped false i change o = refl
 
 one_more : (changes : List ResourceChange) (i : ℕ) (change : ResourceChange) (id : ObjectId) → Some change ≡ slice_get changes i
     → number_from changes i id ≡ cond (is_of id change) (Some i) (number_from changes (i + 1) id)
-one_more changes i change id found =
-    let below = slice_get_within changes i change (sym found) in
+one_more changes i change id answer =
+    let below = slice_get_within changes i change (sym answer) in
     let rest : drop i changes ≡ change ∷ drop (i + 1) changes =
-    rw (add-one, drop-cons changes i change below) (ap (λ (c : ResourceChange). c ∷ drop (suc i) changes) (get_or_from_slice_get changes i change change (sym found))) in
+    rw (add-one, drop-cons changes i change below) (ap (λ (c : ResourceChange). c ∷ drop (suc i) changes) (get_or_from_slice_get changes i change change (sym answer))) in
     ap (λ (cs : List ResourceChange). option_map (λ p. p.0) (find (λ p. is_of id p.1) (enumerate_from i cs))) rest
     ∙ mapped (is_of id change) i change (find (λ p. is_of id p.1) (enumerate_from (i + 1) (drop (i + 1) changes)))
 
@@ -88,9 +88,9 @@ one_more changes i change id found =
 pub numbers_more : (old new : BTreeMap HashedId ℕ) (changes : List ResourceChange) (n : ℕ) (change : ResourceChange) (object : ObjectId) (key : HashedId) → 0 < n → Some change ≡ slice_get changes (n - 1)
     → object.address.now ≡ change.address → option_copied object.deposed ≡ change.deposed → key ≡ hashed object
     → HasNumbersFrom old changes n → Updates by_hash_and_object old new key (Some (n - 1)) → HasNumbersFrom new changes (n - 1)
-numbers_more old new changes n change object key some found address deposed is has updates id =
+numbers_more old new changes n change object key some answer address deposed is has updates id =
     let next : n - 1 + 1 ≡ n = omega arith in
     sym (get_is new (hashed id)) ∙ updates.0 (hashed id)
     ∙ rw (tells key (hashed id), is, same_object object id, address, deposed, get_is old (hashed id), has id) refl
     ∙ ap (λ (m : ℕ). cond (is_of id change) (Some (n - 1)) (number_from changes m id)) (sym next)
-    ∙ sym (one_more changes (n - 1) change id found)
+    ∙ sym (one_more changes (n - 1) change id answer)

@@ -6,7 +6,7 @@ use Rattle.std.proofs.lemmas.Bool.{cases_Bool}
 use Rattle.std.proofs.lemmas.Bool.Decides.{eqb_tells}
 use Rattle.apply_model.specs.declared.script.wait.Wait.{Wait}
 use Rattle.apply_model.specs.Script.OutcomeMap.{OutcomeMap}
-use Rattle.apply_model.specs.Script.Waits.{begins_within, waits_told}
+use Rattle.apply_model.specs.Script.Waits.{begins_within, stated_waits}
 
 -- ---- tests of all items
 
@@ -36,13 +36,13 @@ abbrev pub begins_at : OutcomeMap → ℕ → Wait → Bool
 begins_at script rounds wait = begins_within script rounds wait.change wait.step
 
 -- a step begins where all that it waits for has begun in the rounds before
-pub one_round_more : (script : OutcomeMap) (rounds : ℕ) (wait : Wait) → list_all (begins_at script rounds) (waits_told script wait.change wait.step) ≡ true → begins_at script (suc rounds) wait ≡ true
+pub one_round_more : (script : OutcomeMap) (rounds : ℕ) (wait : Wait) → list_all (begins_at script rounds) (stated_waits script wait.change wait.step) ≡ true → begins_at script (suc rounds) wait ≡ true
 unfolding begins_within
 one_round_more script rounds wait all = all
 
-waits_for_one : (script : OutcomeMap) (rounds : ℕ) (wait : Wait) (k : ℕ) (other : Wait) → slice_get (waits_told script wait.change wait.step) k ≡ Some other → begins_at script rounds other ≡ false → begins_at script (suc rounds) wait ≡ false
+waits_for_one : (script : OutcomeMap) (rounds : ℕ) (wait : Wait) (k : ℕ) (other : Wait) → slice_get (stated_waits script wait.change wait.step) k ≡ Some other → begins_at script rounds other ≡ false → begins_at script (suc rounds) wait ≡ false
 unfolding begins_within
-waits_for_one script rounds wait k other at none = not_all (begins_at script rounds) (waits_told script wait.change wait.step) k other at none
+waits_for_one script rounds wait k other at none = not_all (begins_at script rounds) (stated_waits script wait.change wait.step) k other at none
 
 never_at_first : (script : OutcomeMap) (wait : Wait) → begins_at script 0 wait ≡ false
 unfolding begins_within
@@ -51,7 +51,7 @@ never_at_first script wait = refl
 next_round : (script : OutcomeMap) (rounds : ℕ) (wait : Wait) → begins_at script rounds wait ≡ true → begins_at script (suc rounds) wait ≡ true
 unfolding begins_within
 next_round script zero wait e = absurd cc
-next_round script (suc rounds) wait e = all_more (begins_at script rounds) (begins_at script (suc rounds)) (λ x begun. next_round script rounds x begun) (waits_told script wait.change wait.step) e
+next_round script (suc rounds) wait e = all_more (begins_at script rounds) (begins_at script (suc rounds)) (λ x begun. next_round script rounds x begun) (stated_waits script wait.change wait.step) e
 
 -- what begins within some rounds begins within more
 rounds_more : (script : OutcomeMap) (wait : Wait) (rounds more : ℕ) → begins_at script rounds wait ≡ true → begins_at script (more + rounds) wait ≡ true
@@ -88,7 +88,7 @@ steps_equal one other e =
 
 -- a step waits for another
 abbrev pub WaitsFor : OutcomeMap → Wait → Wait → Type 0
-WaitsFor script wait other = (k : ℕ) × (slice_get (waits_told script wait.change wait.step) k ≡ Some other)
+WaitsFor script wait other = (k : ℕ) × (slice_get (stated_waits script wait.change wait.step) k ≡ Some other)
 
 -- each step waits for the next
 abbrev pub IsChain : OutcomeMap → List Wait → Type 0
@@ -131,13 +131,13 @@ waits_for_none script rounds wait other waits none = ⊎_elim
     (λ (not : begins_at script rounds wait ≡ false). not)
     (cases_Bool (begins_at script rounds wait))
 
-none_to_stuck : (script : OutcomeMap) (rounds : ℕ) (front : List Wait) (last other : Wait) → IsChain script (front ++ last ∷ []) → WaitsFor script last other → begins_at script rounds other ≡ false → NoneBegins script rounds (front ++ last ∷ [])
-none_to_stuck script rounds [] last other chain waits none = (waits_for_none script rounds last other waits none, tt)
-none_to_stuck script rounds (wait ∷ []) last other chain waits none =
-    let rest = none_to_stuck script rounds [] last other tt waits none in
+none_to_unreachable : (script : OutcomeMap) (rounds : ℕ) (front : List Wait) (last other : Wait) → IsChain script (front ++ last ∷ []) → WaitsFor script last other → begins_at script rounds other ≡ false → NoneBegins script rounds (front ++ last ∷ [])
+none_to_unreachable script rounds [] last other chain waits none = (waits_for_none script rounds last other waits none, tt)
+none_to_unreachable script rounds (wait ∷ []) last other chain waits none =
+    let rest = none_to_unreachable script rounds [] last other tt waits none in
     (waits_for_none script rounds wait last chain.0 rest.0, rest)
-none_to_stuck script rounds (wait ∷ (next ∷ rest)) last other chain waits none =
-    let behind = none_to_stuck script rounds (next ∷ rest) last other chain.1 waits none in
+none_to_unreachable script rounds (wait ∷ (next ∷ rest)) last other chain waits none =
+    let behind = none_to_unreachable script rounds (next ∷ rest) last other chain.1 waits none in
     (waits_for_none script rounds wait next chain.0 behind.0, behind)
 
 or_either : (a b : Bool) → (a || b) ≡ true → (a ≡ false) → b ≡ true
@@ -164,7 +164,7 @@ pub none_of_circle : (script : OutcomeMap) (rounds : ℕ) (front : List Wait) (l
 none_of_circle script rounds front last other one chain waits among here =
     among_none script rounds (front ++ last ∷ []) one (circle script rounds front last other chain waits among) here
 
-pub none_of_stuck : (script : OutcomeMap) (rounds : ℕ) (front : List Wait) (last other one : Wait) → IsChain script (front ++ last ∷ []) → WaitsFor script last other → begins_at script rounds other ≡ false
+pub none_of_unreachable : (script : OutcomeMap) (rounds : ℕ) (front : List Wait) (last other one : Wait) → IsChain script (front ++ last ∷ []) → WaitsFor script last other → begins_at script rounds other ≡ false
     → list_any (is_step one) (front ++ last ∷ []) ≡ true → begins_at script rounds one ≡ false
-none_of_stuck script rounds front last other one chain waits none here =
-    among_none script rounds (front ++ last ∷ []) one (none_to_stuck script rounds front last other chain waits none) here
+none_of_unreachable script rounds front last other one chain waits none here =
+    among_none script rounds (front ++ last ∷ []) one (none_to_unreachable script rounds front last other chain waits none) here

@@ -13,8 +13,8 @@ any_same : (p q : HashedId → Bool) → ((id : HashedId) → p id ≡ q id) →
 any_same p q same [] = refl
 any_same p q same (id ∷ ids) = rw (same id, any_same p q same ids) refl
 
-pub contains_is : (seen : BTreeSet HashedId) (id : HashedId) → contains by_hash_and_object seen id ≡ list_any (is_same id) seen.keys
-contains_is seen id = any_same _ _ (λ other. tells id other) seen.keys
+pub contains_is : (objects : BTreeSet HashedId) (id : HashedId) → contains by_hash_and_object objects id ≡ list_any (is_same id) objects.keys
+contains_is objects id = any_same _ _ (λ other. tells id other) objects.keys
 
 or_from_cond : (a b : Bool) → cond a true b ≡ (a || b)
 or_from_cond true b = refl

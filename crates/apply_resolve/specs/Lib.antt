@@ -1,9 +1,9 @@
 pub mod ChangeNumbers
 pub mod HashedId
-pub mod Marks
-pub mod NamedStep
+pub mod VisitStates
+pub mod WaitedStep
 pub mod ObjectIds
 pub mod ObjectName
 pub mod Placed
-pub mod SeenObjects
-pub mod Stuck
+pub mod ObjectSet
+pub mod Unreachable

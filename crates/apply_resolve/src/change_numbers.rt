@@ -1,4 +1,6 @@
 //! The numbers of a plan's changes, by object.
+//!
+//! Every `Err` means that memory was refused.
 
 ghost use Rattle.std.specs.Prelude.{◌≡◌, IfOk, find, option_map};
 ghost use Rattle.std.specs.List.{enumerate_from};
@@ -19,13 +21,13 @@ impl<'a> ChangeNumbers<'a> {
     ghost use Rattle.apply_resolve.specs.ObjectIds.{is_of};
     ghost use Rattle.apply_resolve.specs.ChangeNumbers.{number_of};
 
-    /// The numbers of the changes of the plan.
+    /// The numbers of the changes of the plan. `Err` where memory is refused.
     pub fn of(alloc: Global, plan: &'a Plan) -> Result<ChangeNumbers<'a>, AllocError>
         ensures { IfOk result (λ numbers. (id : _) → number_of numbers id
             ≡ option_map (λ p. p.0) (find (λ p. is_of id p.1) (enumerate_from 0 plan.now.changes))) }
     {
         let mut numbers = BTreeMap::new(alloc);
-        // From the last to the first, so that the first of several would count.
+        // From the last change to the first, so that an object with several changes gets the first.
         for number in (0..plan.len()).rev() {
             let id = ObjectId::of_change(plan.change(number));
             numbers.insert(HashedId::of(id), number)?;
@@ -33,7 +35,8 @@ impl<'a> ChangeNumbers<'a> {
         Ok(ChangeNumbers { numbers })
     }
 
-    /// The number of the change of the object.
+    /// The number of the object's change, counted from 0. `None` where the plan has no change of
+    /// the object.
     pub fn get(&self, id: ObjectId<'a>) -> Option<u32>
         ensures { result ≡ number_of self.now id.entry }
     {

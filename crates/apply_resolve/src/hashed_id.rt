@@ -1,4 +1,4 @@
-//! An object, in an order that is quickly told.
+//! Objects in an order that is fast to compare.
 
 ghost use Rattle.std.specs.Prelude.{◌≡◌};
 ghost use Rattle.apply_resolve.specs.HashedId.{hash_of, hashed};
@@ -6,9 +6,9 @@ ghost use Rattle.apply_resolve.specs.HashedId.{hash_of, hashed};
 use crate::object_id::ObjectId;
 use std::hash::{FoldHasher, Hasher};
 
-/// An object, ordered by a hash of its address before the address itself: addresses of one plan often begin alike, so that
-/// to compare two takes long. Objects of one hash are ordered all the same, so however the addresses were chosen, to look
-/// one up among many takes few comparisons.
+/// An object, ordered by a hash of its address before the address itself. Addresses of one plan
+/// often begin alike, so comparing two of them is slow. Objects with equal hashes are ordered too,
+/// so a look-up takes few comparisons whatever the addresses are.
 #[derive(Clone, Copy, PartialEq, Eq, PartialOrd, Ord)]
 pub struct HashedId<'a> {
     hash: u64,

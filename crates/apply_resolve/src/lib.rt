@@ -1,17 +1,17 @@
 //! Finds what a script names in a plan: changes, steps, and steps that can never begin.
 #![tactic(auto)]
 
-mod beginning;
 mod change_numbers;
 mod hashed_id;
-mod mark;
-mod marks;
-mod named_step;
 mod object_id;
-mod seen_objects;
+mod object_set;
+mod reachability;
+mod visit_state;
+mod visit_states;
+mod wait_target;
 
-pub use beginning::{all_stuck, first_stuck};
 pub use change_numbers::ChangeNumbers;
-pub use named_step::step_waited;
 pub use object_id::ObjectId;
-pub use seen_objects::SeenObjects;
+pub use object_set::ObjectSet;
+pub use reachability::{all_unreachable, first_unreachable};
+pub use wait_target::waited_step;

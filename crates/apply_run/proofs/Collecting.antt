@@ -6,9 +6,9 @@ use Rattle.apply_events.specs.declared.event.Event.{Event}
 use Rattle.apply_bus.specs.declared.item.Item.{Item}
 use Rattle.apply_bus.specs.Items.{event_of, events, max_taken}
 use Rattle.apply_events.specs.Fits.{IsOfPlan}
-use Rattle.apply_writer.specs.Stream.Counting.{max_told}
+use Rattle.apply_writer.specs.Stream.Counting.{max_events}
 use Rattle.apply_writer.specs.Stream.Form.{StreamForm}
-use Rattle.apply_writer.specs.Stream.Telling.{HasTold, Telling}
+use Rattle.apply_writer.specs.Stream.WriterState.{HasAccepted, WriterState}
 
 events_more : (taken new : List Item) (item : Item) → new ≡ taken ++ item ∷ [] → events new ≡ events taken ++ events (item ∷ [])
 events_more taken new item is = ap events is ∙ filter_map-append event_of taken (item ∷ [])
@@ -19,25 +19,25 @@ front P xs ys all = subst (All P) (take-append_seam xs ys) (All-take P (length x
 back : (P : Event → Type 0) (xs ys : List Event) → All P (xs ++ ys) → All P ys
 back P xs ys all = subst (All P) (drop-append_seam xs ys) (All-drop P (length xs) (xs ++ ys) all)
 
--- no item was taken: nothing had to be told
-pub told_no_items : (form : StreamForm) (before : Option (List ℕ)) (failures : ℕ) (taken : List Item) (now : Telling)
-    → taken ≡ [] → HasTold form before failures [] now
-    → All (IsOfPlan form.plan) (events taken) → HasTold form before failures (events taken) now
-told_no_items form before failures taken now none told all =
-    subst (λ items. HasTold form before failures (events items) now) (sym none) told
+-- no item was taken: nothing had to be accepted
+pub accepted_no_items : (form : StreamForm) (before : Option (List ℕ)) (failures : ℕ) (taken : List Item) (now : WriterState)
+    → taken ≡ [] → HasAccepted form before failures [] now
+    → All (IsOfPlan form.plan) (events taken) → HasAccepted form before failures (events taken) now
+accepted_no_items form before failures taken now none accepted all =
+    subst (λ items. HasAccepted form before failures (events items) now) (sym none) accepted
 
--- the items were told, and so is one item more
-pub told_more_items : (form form' : StreamForm) (before : Option (List ℕ)) (failures : ℕ) (taken new : List Item) (item : Item) (old now : Telling)
+-- the items were accepted, and so is one item more
+pub accepted_more_items : (form form' : StreamForm) (before : Option (List ℕ)) (failures : ℕ) (taken new : List Item) (item : Item) (old now : WriterState)
     → form' ≡ form → new ≡ taken ++ item ∷ []
-    → (All (IsOfPlan form.plan) (events taken) → HasTold form before failures (events taken) old)
-    → (All (IsOfPlan form'.plan) (events (item ∷ [])) → HasTold form' before failures (events taken) old → HasTold form' before failures (events taken ++ events (item ∷ [])) now)
-    → All (IsOfPlan form.plan) (events new) → HasTold form before failures (events new) now
-told_more_items form form' before failures taken new item old now same is so_far step all =
+    → (All (IsOfPlan form.plan) (events taken) → HasAccepted form before failures (events taken) old)
+    → (All (IsOfPlan form'.plan) (events (item ∷ [])) → HasAccepted form' before failures (events taken) old → HasAccepted form' before failures (events taken ++ events (item ∷ [])) now)
+    → All (IsOfPlan form.plan) (events new) → HasAccepted form before failures (events new) now
+accepted_more_items form form' before failures taken new item old now same is so_far step all =
     let one = events (item ∷ []) in
     let joined = events_more taken new item is in
     let both : All (IsOfPlan form.plan) (events taken ++ one) = subst (All (IsOfPlan form.plan)) joined all in
-    let on = subst (λ f. All (IsOfPlan f.plan) one → HasTold f before failures (events taken) old → HasTold f before failures (events taken ++ one) now) same step in
-    subst (λ es. HasTold form before failures es now) (sym joined)
+    let on = subst (λ f. All (IsOfPlan f.plan) one → HasAccepted f before failures (events taken) old → HasAccepted f before failures (events taken ++ one) now) same step in
+    subst (λ es. HasAccepted form before failures es now) (sym joined)
     (on (back (IsOfPlan form.plan) (events taken) one both) (so_far (front (IsOfPlan form.plan) (events taken) one both)))
 
 -- ---- counts
@@ -48,8 +48,8 @@ longer taken new item is = ap length is ∙ length-append taken (item ∷ [])
 pub count_more : (count count' : ℕ) (taken new : List Item) (item : Item) → new ≡ taken ++ item ∷ [] → count' ≤ count + 1 → count ≤ length taken → count' ≤ length new
 count_more count count' taken new item is more few = let long = longer taken new item is in omega arith
 
-pub room_to_tell : (count : ℕ) (taken new : List Item) (item : Item) → new ≡ taken ++ item ∷ [] → length new ≤ max_taken → count ≤ length taken → count < max_told
-room_to_tell count taken new item is few told = let long = longer taken new item is in omega arith
+pub room_to_accept : (count : ℕ) (taken new : List Item) (item : Item) → new ≡ taken ++ item ∷ [] → length new ≤ max_taken → count ≤ length taken → count < max_events
+room_to_accept count taken new item is few accepted = let long = longer taken new item is in omega arith
 
 -- a take more is less to do, be it lost or not
 pub fewer_to_take : (lost : ℕ) (taken new : List Item) (item : Item) → new ≡ taken ++ item ∷ [] → length new ≤ max_taken → (max_taken - length new) + (1000 - lost) < (max_taken - length taken) + (1000 - lost)

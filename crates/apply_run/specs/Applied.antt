@@ -6,16 +6,17 @@ use Rattle.apply_events.specs.Partition.{IsPartition}
 use Rattle.apply_events.specs.Step.{Work}
 use Rattle.apply_events.specs.WorkerEvents.{worker_events}
 
--- what each worker reports of its list of changes
+-- the events of a worker for its list of changes
 abbrev pub reports_of : Work → List (List ℕ) → (worker : ℕ) → List Event
 reports_of work lists worker = worker_events work worker (slice_index_or lists worker [])
 
--- the changes were dealt out to the workers, and the events are an interleaving of what they report
+-- the changes were dealt to the workers, and the events are an interleaving of the workers' events
 pub record IsApplied (work : Work) (workers : ℕ) (lists : List (List ℕ)) (events : List Event) : Type 0 where
   pub dealt_out : IsPartition workers (length work.plan.changes) lists
-  pub told : IsInterleaving workers (reports_of work lists) events
+  pub interleaved : IsInterleaving workers (reports_of work lists) events
 
--- the changes were dealt out to the workers, and the events are an interleaving of prefixes of what they report
+-- the changes were dealt to the workers, and the events are an interleaving of prefixes of the
+-- workers' events
 pub record IsAppliedInPart (work : Work) (workers : ℕ) (lists : List (List ℕ)) (events : List Event) : Type 0 where
   pub dealt_out : IsPartition workers (length work.plan.changes) lists
-  pub told : IsInterleavingOfPrefixes workers (reports_of work lists) events
+  pub interleaved : IsInterleavingOfPrefixes workers (reports_of work lists) events

@@ -1,8 +1,8 @@
--- How a plan may be applied.
+-- Which options a run accepts.
 use Rattle.std.specs.Prelude.{◌≤◌}
 use Rattle.apply_run.specs.declared.options.Options.{Options}
 
--- a bus can have so many senders, and hold so many events
+-- the bus supports so many senders, and holds so many events
 pub record IsInRange (options : Options) : Type 0 where
   pub some_worker : 1 ≤ options.workers
   pub few_workers : options.workers ≤ 8

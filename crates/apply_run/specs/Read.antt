@@ -1,4 +1,4 @@
--- What is read of the bytes of a plan and of a script for Terraform's form.
+-- What bytes state for Terraform's form, and what was read from them.
 use Rattle.std.specs.Prelude.{◌≡◌, ◌≤◌, ◌⊎◌, ℕ, List, [], length, Bool, true, false, if◌then◌else◌, Option, Some, None, Result, Ok, Err}
 use Rattle.serde_json.specs.Data.{no_members}
 use Rattle.apply_plan.specs.declared.plan.plan_error.PlanError.TheVariants as plan_error
@@ -8,75 +8,76 @@ use Rattle.apply_plan.specs.Bytes.{max_bytes}
 use Rattle.apply_plan.specs.Plan.SavedPlan.{SavedPlan, plan_of}
 use Rattle.apply_plan.specs.Script.OutcomeMap.{OutcomeMap}
 use Rattle.apply_plan.specs.Script.Waits.{has_waits}
-use Rattle.apply_plan_terraform.specs.declared.told_of_plan.PlanNote.{PlanNote}
-use Rattle.apply_plan_terraform.specs.declared.told_of_plan.PlanNote.TheVariants.{Partial, Unfinished}
+use Rattle.apply_plan_terraform.specs.declared.plan_notes.PlanNote.{PlanNote}
+use Rattle.apply_plan_terraform.specs.declared.plan_notes.PlanNote.TheVariants.{Partial, Unfinished}
 use Rattle.apply_plan_terraform.specs.Extras.{ExtrasOfScript, extras_of_bytes}
-use Rattle.apply_plan_terraform.specs.Notes.{told_notes}
-use Rattle.apply_plan_terraform.specs.Outputs.{OutputsOfPlan, told_outputs}
-use Rattle.apply_plan_terraform.specs.Told.{DetailsOfPlan, details_of}
-use Rattle.apply_run.specs.declared.read_besides.ReadBesides.{ReadBesides}
+use Rattle.apply_plan_terraform.specs.Notes.{written_notes}
+use Rattle.apply_plan_terraform.specs.Outputs.{OutputsOfPlan, written_outputs}
+use Rattle.apply_plan_terraform.specs.ReadDetails.{DetailsOfPlan, details_of}
+use Rattle.apply_run.specs.declared.read_with_extras.ReadWithExtras.{ReadWithExtras}
 use Rattle.apply_run.specs.declared.refusal.Refusal.{Refusal}
 use Rattle.apply_run.specs.declared.refusal.Refusal.TheVariants.{Plan, Script, Waits, Size, Fault}
 use Rattle.apply_run.specs.Bytes.{MayBeRead, given_script}
-use Rattle.apply_writer.specs.Stream.Terraform.{Besides}
+use Rattle.apply_writer.specs.Stream.Terraform.{StreamExtras}
 
--- what the script that the bytes are says besides, and nothing where there are none
+-- the extras that the bytes of a script state; without bytes there are none
 abbrev pub given_extras : OutputsOfPlan → Option (List ℕ) → Result ExtrasOfScript ScriptError
 given_extras plan None = Ok (record { outputs = no_members; notes = [] })
 given_extras plan (Some bytes) = extras_of_bytes plan bytes
 
--- what bytes say for Terraform's form: the plan, the script, and what both say besides
-pub record Told : Type 0 where
+-- what bytes state for Terraform's form: the plan, the script, and the extras of both
+pub record StatedInputs : Type 0 where
   pub plan : SavedPlan
   pub script : OutcomeMap
   pub details : DetailsOfPlan
   pub extras : ExtrasOfScript
 
--- the bytes say it
-pub record IsTold (plan_bytes : List ℕ) (script_bytes : Option (List ℕ)) (told : Told) : Type 0 where
-  pub plan_is : plan_of plan_bytes ≡ Ok told.plan
-  pub script_is : given_script told.plan script_bytes ≡ Ok told.script
-  pub details_are : details_of plan_bytes ≡ Some told.details
-  pub extras_are : given_extras told.details.outputs script_bytes ≡ Ok told.extras
+-- the bytes state these inputs
+pub record IsStated (plan_bytes : List ℕ) (script_bytes : Option (List ℕ)) (stated : StatedInputs) : Type 0 where
+  pub plan_is : plan_of plan_bytes ≡ Ok stated.plan
+  pub script_is : given_script stated.plan script_bytes ≡ Ok stated.script
+  pub details_are : details_of plan_bytes ≡ Some stated.details
+  pub extras_are : given_extras stated.details.outputs script_bytes ≡ Ok stated.extras
 
--- the making of the plan ended with an error
+-- Terraform stopped planning with an error
 abbrev pub is_unfinished : Option PlanNote → Bool
 is_unfinished None = false
 is_unfinished (Some Partial) = false
 is_unfinished (Some Unfinished) = true
 
--- a plan whose making ended with an error is applied as one without changes, and of its script nothing is told
-abbrev pub applied_plan : Told → SavedPlan
-applied_plan told = if is_unfinished told.details.note then record { version = told.plan.version; changes = [] } else told.plan
+-- if Terraform stopped planning with an error, the plan is applied without changes, and its script
+-- is ignored
+abbrev pub applied_plan : StatedInputs → SavedPlan
+applied_plan stated = if is_unfinished stated.details.note then record { version = stated.plan.version; changes = [] } else stated.plan
 
-abbrev pub applied_script : Told → OutcomeMap
-applied_script told = if is_unfinished told.details.note then [] else told.script
+abbrev pub applied_script : StatedInputs → OutcomeMap
+applied_script stated = if is_unfinished stated.details.note then [] else stated.script
 
--- what is told besides
-abbrev pub besides_of : Told → Besides
-besides_of told = record {
-  details = told.details.changes;
-  notes = told_notes told.details.note told.extras.notes;
-  outputs = told_outputs told.details.outputs told.extras.outputs;
+-- the extras that the stream prints
+abbrev pub extras_of : StatedInputs → StreamExtras
+extras_of stated = record {
+  details = stated.details.changes;
+  notes = written_notes stated.details.note stated.extras.notes;
+  outputs = written_outputs stated.details.outputs stated.extras.outputs;
 }
 
--- that was read, as it is applied
-pub record IsReadAsTold (told : Told) (read : ReadBesides) : Type 0 where
-  pub plan : read.plan ≡ applied_plan told
-  pub script : read.script ≡ applied_script told
-  pub changes : read.changes.items ≡ told.details.changes
-  pub notes : read.notes.items ≡ told_notes told.details.note told.extras.notes
-  pub outputs : read.outputs.items ≡ told_outputs told.details.outputs told.extras.outputs
-  -- of the script as it was read, whatever is applied
-  pub waits : read.has_waits ≡ has_waits told.script
+-- these values were read, as they are applied
+pub record IsReadAsStated (stated : StatedInputs) (read : ReadWithExtras) : Type 0 where
+  pub plan : read.plan ≡ applied_plan stated
+  pub script : read.script ≡ applied_script stated
+  pub changes : read.changes.items ≡ stated.details.changes
+  pub notes : read.notes.items ≡ written_notes stated.details.note stated.extras.notes
+  pub outputs : read.outputs.items ≡ written_outputs stated.details.outputs stated.extras.outputs
+  -- of the script that was stated, whatever is applied
+  pub waits : read.has_waits ≡ has_waits stated.script
 
--- the bytes say this, and it was read
-pub record WasRead (plan_bytes : List ℕ) (script_bytes : Option (List ℕ)) (read : ReadBesides) : Type 0 where
-  pub told : Told
-  pub is_told : IsTold plan_bytes script_bytes told
-  pub as_told : IsReadAsTold told read
+-- the bytes state some inputs, and these were read
+pub record WasRead (plan_bytes : List ℕ) (script_bytes : Option (List ℕ)) (read : ReadWithExtras) : Type 0 where
+  pub stated : StatedInputs
+  pub is_stated : IsStated plan_bytes script_bytes stated
+  pub as_stated : IsReadAsStated stated read
 
--- what a script says besides is refused as it is defined
+-- the extras of the script are refused with this error
 pub record AreRefused (plan_bytes : List ℕ) (script_bytes : Option (List ℕ)) (plan : SavedPlan) (refusal : ScriptError) : Type 0 where
   pub script : OutcomeMap
   pub script_is : given_script plan script_bytes ≡ Ok script
@@ -84,8 +85,8 @@ pub record AreRefused (plan_bytes : List ℕ) (script_bytes : Option (List ℕ))
   pub details_are : details_of plan_bytes ≡ Some details
   pub refused : given_extras details.outputs script_bytes ≡ Err refusal
 
--- the plan is refused as it is defined, else the script as it is defined, else what it says besides. Memory may be wanted before, but
--- for no plan and no script that is too large
+-- the plan is refused, else the script, else its extras, each with its own error. Memory may be
+-- refused earlier, but never for a plan or script that is too large
 abbrev pub WasNotRead : (plan_bytes : List ℕ) (script_bytes : Option (List ℕ)) → Refusal → Type 0
 WasNotRead plan_bytes script_bytes (Plan refusal) =
     ((refusal ≡ plan_error.Memory) × (length plan_bytes ≤ max_bytes)) ⊎ (plan_of plan_bytes ≡ Err refusal)

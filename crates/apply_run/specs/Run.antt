@@ -1,4 +1,4 @@
--- How a run has ended: what it was about, what its workers reported, and what its sink took.
+-- How a run with workers ends: the events of its workers, and the bytes in its sink.
 pub mod Endpoints
 pub mod Finished
 pub mod NotBegun
@@ -18,73 +18,74 @@ use Rattle.apply_writer.specs.declared.why.Why.TheVariants.{Bus, Workers, Memory
 use Rattle.apply_writer.specs.Stream.Ended.{IsCutOff, IsWhole}
 use Rattle.apply_writer.specs.Stream.Form.{StreamForm, lines_in, plain_form, stream_in}
 
--- a sink, as contracts see it: the bytes that it has, where it tells them, and how many writes to it have failed
-pub record Sight : Type 0 where
+-- a sink as contracts see it: its bytes, if it reveals them, and the number of failed writes
+pub record SinkState : Type 0 where
   pub bytes : Option (List ℕ)
   pub failed : ℕ
 
--- a sink, by what it tells
-abbrev pub sight_of : {S : Type 0} → (bytes : S → Option (List ℕ)) → (failed : S → ℕ) → S → Sight
-sight_of bytes failed sink = record { bytes = bytes sink; failed = failed sink }
+-- the state of a sink, from what it reveals
+abbrev pub sink_state : {S : Type 0} → (bytes : S → Option (List ℕ)) → (failed : S → ℕ) → S → SinkState
+sink_state bytes failed sink = record { bytes = bytes sink; failed = failed sink }
 
--- the stream of events that were taken in this order, from the start on: hook messages, then notes, and the summary
+-- the stream of events that were taken in this order: hook messages, then diagnostics, and the
+-- summary
 abbrev pub stream_for : Work → Options → List Event → List ℕ
 stream_for work options events = stream_of work.plan work.script options.start options.operation events
 
--- the lines of events that are written in this order, and no summary
+-- the lines of events that are written in this order, without a summary
 abbrev pub lines_for : Work → Options → List Event → List ℕ
 lines_for work options events = lines_of work.plan work.script options.start events
 
 -- ---- in any form
 
--- for some dealing-out of the changes the events of each worker were taken whole, in its order, and the sink took the
--- stream of them in this form
+-- the changes were dealt to the workers in some way; all events of each worker were taken, in its
+-- order, and their whole stream was written in this form
 pub record HasStreamedInForm (form : StreamForm) (work : Work) (workers : ℕ) (report : Report)
-    (before after : Sight) : Type 0 where
+    (before after : SinkState) : Type 0 where
   pub lists : List (List ℕ)
   pub events : List Event
   pub applied : IsApplied work workers lists events
   pub whole : IsWhole form.plan events (stream_in form events) report
       before.bytes after.bytes before.failed after.failed
 
--- the same, but a write failed, and the sink took a prefix of the stream
+-- all events were taken as above, but a write failed, and a prefix of the stream was written
 pub record WasNotWrittenInForm (form : StreamForm) (work : Work) (workers : ℕ) (report : Report)
-    (before after : Sight) : Type 0 where
+    (before after : SinkState) : Type 0 where
   pub lists : List (List ℕ)
   pub events : List Event
   pub applied : IsApplied work workers lists events
   pub part : IsCutOff form.plan events (stream_in form events) report
       before.bytes after.bytes (before.failed + 1) after.failed
 
--- the same, but memory was refused for a line or to keep a note, and the sink took a prefix of the lines, and nothing of
--- what comes last; no write failed
+-- all events were taken as above, but memory was refused for a line or to store a diagnostic. A
+-- prefix of the lines was written, and nothing of the tail; no write failed
 pub record RanOutOfMemoryInForm (form : StreamForm) (work : Work) (workers : ℕ) (report : Report)
-    (before after : Sight) : Type 0 where
+    (before after : SinkState) : Type 0 where
   pub lists : List (List ℕ)
   pub events : List Event
   pub applied : IsApplied work workers lists events
   pub part : IsCutOff form.plan events (lines_in form (as_written events)) report
       before.bytes after.bytes before.failed after.failed
 
--- a prefix of the events of each worker was taken, and the sink took a prefix of the lines of their hook messages, no
--- note and nothing of what comes last; as many writes failed
+-- a prefix of the events of each worker was taken. A prefix of the lines of their hook messages was
+-- written, and neither diagnostics nor tail; `failed` writes failed
 pub record WasCutOffInForm (failed : ℕ) (form : StreamForm) (work : Work) (workers : ℕ) (report : Report)
-    (before after : Sight) : Type 0 where
+    (before after : SinkState) : Type 0 where
   pub lists : List (List ℕ)
   pub events : List Event
   pub applied : IsAppliedInPart work workers lists events
   pub part : IsCutOff form.plan events (lines_in form (hook_messages_of events)) report
       before.bytes after.bytes (before.failed + failed) after.failed
 
--- a run that was cut off, after a write had failed or not
+-- a run that was cut off, with or without a failed write
 pub record WasCutOffLateInForm (form : StreamForm) (work : Work) (workers : ℕ) (report : Report)
-    (before after : Sight) : Type 0 where
+    (before after : SinkState) : Type 0 where
   pub failed : ℕ
   pub few : failed ≤ 1
   pub cut_off : WasCutOffInForm failed form work workers report before after
 
--- no event was taken, and the sink is as it was
-pub record DidNothing (report : Report) (before after : Sight) : Type 0 where
+-- no event was taken, and the sink is unchanged
+pub record DidNothing (report : Report) (before after : SinkState) : Type 0 where
   pub report_is : report ≡ record {
     counts = record { added = 0; changed = 0; removed = 0; failed = 0; halted = 0 };
     taken = 0;
@@ -92,9 +93,9 @@ pub record DidNothing (report : Report) (before after : Sight) : Type 0 where
   }
   pub same : after ≡ before
 
--- what is so after a fault of each cause; memory was refused before the threads, for a line or to keep a
--- note
-abbrev pub HasFailedInForm : Why → StreamForm → Work → (workers : ℕ) → Report → (before after : Sight) → Type 0
+-- what holds after an error of each cause. Memory was refused before the threads started, for a
+-- line, or to store a diagnostic
+abbrev pub HasFailedInForm : Why → StreamForm → Work → (workers : ℕ) → Report → (before after : SinkState) → Type 0
 HasFailedInForm Write form work workers report before after = WasNotWrittenInForm form work workers report before after
 HasFailedInForm Workers form work workers report before after = DidNothing report before after
 HasFailedInForm Memory form work workers report before after =
@@ -103,26 +104,26 @@ HasFailedInForm Bus form work workers report before after = WasCutOffLateInForm 
 
 -- ---- in the default form
 
--- what is told of the work as the options say
+-- the default form of the stream of this work, with the start and the operation of the options
 abbrev pub plain_for : Work → Options → StreamForm
 plain_for work options = plain_form work.plan work.script options.start options.operation
 
-abbrev pub HasStreamed : Work → Options → Report → (before after : Sight) → Type 0
+abbrev pub HasStreamed : Work → Options → Report → (before after : SinkState) → Type 0
 HasStreamed work options report before after =
     HasStreamedInForm (plain_for work options) work options.workers report before after
 
-abbrev pub WasNotWritten : Work → Options → Report → (before after : Sight) → Type 0
+abbrev pub WasNotWritten : Work → Options → Report → (before after : SinkState) → Type 0
 WasNotWritten work options report before after =
     WasNotWrittenInForm (plain_for work options) work options.workers report before after
 
-abbrev pub RanOutOfMemory : Work → Options → Report → (before after : Sight) → Type 0
+abbrev pub RanOutOfMemory : Work → Options → Report → (before after : SinkState) → Type 0
 RanOutOfMemory work options report before after =
     RanOutOfMemoryInForm (plain_for work options) work options.workers report before after
 
-abbrev pub WasCutOff : (failed : ℕ) → Work → Options → Report → (before after : Sight) → Type 0
+abbrev pub WasCutOff : (failed : ℕ) → Work → Options → Report → (before after : SinkState) → Type 0
 WasCutOff failed work options report before after =
     WasCutOffInForm failed (plain_for work options) work options.workers report before after
 
-abbrev pub HasFailed : Why → Work → Options → Report → (before after : Sight) → Type 0
+abbrev pub HasFailed : Why → Work → Options → Report → (before after : SinkState) → Type 0
 HasFailed why work options report before after =
     HasFailedInForm why (plain_for work options) work options.workers report before after

@@ -1,4 +1,4 @@
--- A worker: what it applies, what it draws, and what it leaves behind.
+-- A worker: what it applies, what it draws, and what it returns.
 pub mod Drawn
-pub mod Job
+pub mod WorkerJob
 pub mod Stopped

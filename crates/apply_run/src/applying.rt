@@ -1,22 +1,22 @@
-//! The run of a plan.
+//! Applies a plan with workers in threads.
 
 ghost use Rattle.std.specs.Prelude.{◌≡◌, ◌<◌, ◌≤◌, ◌-◌, ◌^◌, length, IfErr, IfOk};
 ghost use Rattle.apply_hooks.specs.Registry.{rules_of};
 ghost use Rattle.apply_plan.specs.Plan.SavedPlan.{max_changes};
 ghost use Rattle.apply_run.specs.Options.{IsInRange};
-ghost use Rattle.apply_run.specs.Run.{HasFailed, HasFailedInForm, HasStreamed, HasStreamedInForm, sight_of};
+ghost use Rattle.apply_run.specs.Run.{HasFailed, HasFailedInForm, HasStreamed, HasStreamedInForm, sink_state};
 ghost use Rattle.apply_run.specs.Run.Endpoints.{AreReady};
 ghost use Rattle.apply_run.specs.Run.Finished.{IsFinishedRun};
 ghost use Rattle.apply_run.specs.Run.NotBegun.{GivesBack};
 ghost use Rattle.apply_writer.specs.Stream.Counting.{IsNew};
-ghost use Rattle.apply_writer.specs.Stream.Telling.{telling_of};
+ghost use Rattle.apply_writer.specs.Stream.WriterState.{writer_state};
 
 use crate::options::Options;
 use crate::run::prepared::Prepared;
 use crate::run::{FinishedRun, NotBegun, run_workers};
 use crate::worker::gate::Gate;
-use crate::worker::job::Job;
-use crate::worker::signal::Signal;
+use crate::worker::job::WorkerJob;
+use crate::worker::start_gate::StartGate;
 use apply_hooks::Registry;
 use apply_plan::{Plan, Script};
 use apply_writer::{Fault, FormLines, PlainLines, Report, Sink, StreamWriter, Why};
@@ -25,25 +25,26 @@ use std::marker::Brand;
 use std::sync::Wait;
 use std::thread::Threads;
 
-/// Applies a plan by workers in threads, with what the script says of its steps, and writes the stream of what they
-/// report: the version, hook messages as they are taken, while the workers run; then, once all have ended, diagnostics,
-/// as taken, and the summary (Machine-Readable UI). A step without an entry in the script is done after 0 seconds. The
-/// sink comes back beside every answer.
+/// Applies a plan with workers in threads, and writes the stream of their events (Machine-Readable
+/// UI). The script states how each step goes; a step without an entry succeeds after 0 seconds.
 ///
-/// `Ok` where all of the stream was written. Otherwise `Err`, with why, and with what was done:
+/// The version comes first. Hook messages are written while the workers run, in the order in which
+/// they are taken. Diagnostics and the summary follow once all workers have ended.
 ///
-/// - `Why::Bus` where an event or a close was lost between a worker and this thread: a take failed, or a send came
-///   back. No clause rules that out. Each event taken is one of the plan, so that no run ends so because of an event
-///   that does not fit.
-/// - `Why::Workers` where a thread was refused: nothing was taken or written. That no worker has begun rests on the word
-///   that they read first, of which no clause speaks.
-/// - `Why::Memory` where memory was refused. Before the threads: nothing was taken or written. For a line, or to keep
-///   what a diagnostic tells: all events were taken all the same, and that line and all later ones, with the summary,
-///   were not written.
-/// - `Why::Write` where the sink failed: it was written to no more. All events were taken all the same.
+/// Every answer returns the sink. It is `Ok` if the whole stream was written. Otherwise it is `Err`
+/// with the cause and the report:
 ///
-/// After `Why::Bus` no diagnostic stands in the sink; after `Why::Memory` none of a step whose lines before it are
-/// missing.
+/// - `Why::Bus`: an event or a close was lost between a worker and this thread, since a take failed
+///   or a send came back. No clause rules that out. Each event that was taken is one of the plan.
+/// - `Why::Workers`: a thread was refused. Nothing was taken or written. No worker has begun, but
+///   no clause states that.
+/// - `Why::Memory`: memory was refused. Before the threads started, nothing was taken or written.
+///   For a line, or to store a diagnostic: all events were taken, but that line and all later ones
+///   are missing.
+/// - `Why::Write`: the sink failed, and nothing more was written to it. All events were taken.
+///
+/// After `Why::Bus` the sink has no diagnostics. After `Why::Memory` it has none of a step whose
+/// earlier lines are missing.
 pub fn apply_stream<'a, S: Sink + Drop, G: Gate, R: Threads + Wait + Sync>(
     rt: &R,
     alloc: Global,
@@ -59,11 +60,11 @@ pub fn apply_stream<'a, S: Sink + Drop, G: Gate, R: Threads + Wait + Sync>(
 
     ensures ok { IfOk result.1 (λ report. HasStreamed
         (record { plan = plan.now; script = script.now; hooks = rules_of registry.now }) options report
-        (sight_of S.bytes S.failed sink) (sight_of S.bytes S.failed result.0)) }
+        (sink_state S.bytes S.failed sink) (sink_state S.bytes S.failed result.0)) }
 
     ensures err { IfErr result.1 (λ fault. HasFailed fault.why
         (record { plan = plan.now; script = script.now; hooks = rules_of registry.now }) options fault.report
-        (sight_of S.bytes S.failed sink) (sight_of S.bytes S.failed result.0)) }
+        (sink_state S.bytes S.failed sink) (sink_state S.bytes S.failed result.0)) }
 {
     let Ok(lines) = PlainLines::new(alloc, plan, script, options.start, options.operation) else {
         return (sink, Err(Fault::at_once(Why::Memory)));
@@ -73,8 +74,7 @@ pub fn apply_stream<'a, S: Sink + Drop, G: Gate, R: Threads + Wait + Sync>(
     )
 }
 
-/// Applies a plan by workers in threads, as `apply_stream` does, and writes what these lines tell of it. `lines` builds
-/// what is told of that plan.
+/// Does what `apply_stream` does, with lines in any form. `lines` must be made for this plan.
 pub(crate) fn apply_in_form<S: Sink + Drop, F: FormLines, G: Gate, R: Threads + Wait + Sync>(
     rt: &R,
     alloc: Global,
@@ -92,11 +92,11 @@ pub(crate) fn apply_in_form<S: Sink + Drop, F: FormLines, G: Gate, R: Threads + 
 
     ensures ok { IfOk result.1 (λ report. HasStreamedInForm (F.form lines)
         (record { plan = plan.now; script = script.now; hooks = rules_of registry.now }) options.workers report
-        (sight_of S.bytes S.failed sink) (sight_of S.bytes S.failed result.0)) }
+        (sink_state S.bytes S.failed sink) (sink_state S.bytes S.failed result.0)) }
 
     ensures err { IfErr result.1 (λ fault. HasFailedInForm fault.why (F.form lines)
         (record { plan = plan.now; script = script.now; hooks = rules_of registry.now }) options.workers fault.report
-        (sight_of S.bytes S.failed sink) (sight_of S.bytes S.failed result.0)) }
+        (sink_state S.bytes S.failed sink) (sink_state S.bytes S.failed result.0)) }
 {
     let Ok(prepared) = Prepared::new(alloc, options, plan.len()) else {
         return (sink, Err(Fault::at_once(Why::Memory)));
@@ -117,13 +117,13 @@ pub(crate) fn apply_in_form<S: Sink + Drop, F: FormLines, G: Gate, R: Threads + 
         Err(NotBegun::NoThread(stream)) => {
             (stream.into_sink(), Err(Fault::at_once(Why::Workers)))
         }
-        Err(NotBegun::NoMemory(stream, _endpoints)) => {
+        Err(NotBegun::OutOfMemory(stream, _endpoints)) => {
             (stream.into_sink(), Err(Fault::at_once(Why::Memory)))
         }
     }
 }
 
-/// Runs workers over what was made ready, and lets go of it behind them.
+/// Runs the workers with what was prepared, and drops it after they have ended.
 fn run_prepared<S: Sink + Drop, F: FormLines, G: Gate, R: Threads + Wait + Sync>(
     rt: &R,
     alloc: Global,
@@ -137,7 +137,7 @@ fn run_prepared<S: Sink + Drop, F: FormLines, G: Gate, R: Threads + Wait + Sync>
     requires limit { prepared.claims.limit ≡ length plan.now.changes }
     requires few { length plan.now.changes ≤ max_changes }
     requires endpoints { AreReady prepared.claims prepared.endpoints.rx.bus prepared.endpoints }
-    requires stream { IsNew (telling_of S.bytes S.failed stream) }
+    requires stream { IsNew (writer_state S.bytes S.failed stream) }
     requires plan { (F.form stream.lines).plan ≡ plan.now }
 
     ensures finished { IfOk result (λ finished. IsFinishedRun S.bytes S.failed F.form
@@ -146,14 +146,14 @@ fn run_prepared<S: Sink + Drop, F: FormLines, G: Gate, R: Threads + Wait + Sync>
     ensures not_begun { IfErr result (λ not_begun. GivesBack stream prepared.endpoints not_begun) }
 {
     let Prepared { claims, endpoints } = prepared;
-    let signal = Signal::new();
-    let job = Job {
+    let start_gate = StartGate::new();
+    let job = WorkerJob {
         plan,
         script,
         registry,
         gate,
         claims: &claims,
-        signal: &signal,
+        start_gate: &start_gate,
     };
     run_workers::<Brand, S, F, G, R>(rt, alloc, &job, endpoints, stream)
 }

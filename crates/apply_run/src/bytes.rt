@@ -1,10 +1,10 @@
-//! The run of a plan that is read from bytes.
+//! Reads a plan and a script from bytes, and applies them with workers.
 
 ghost use Rattle.std.specs.Prelude.{◌≡◌, ◌<◌, ◌-◌, ◌^◌, ℕ, List, Option, IfErr, IfOk};
 ghost use Rattle.std.specs.Option.{option_copied};
 ghost use Rattle.apply_hooks.specs.Registry.{rules_of};
 ghost use Rattle.apply_run.specs.Bytes.{IsRead, WasApplied, WasRefused};
-ghost use Rattle.apply_run.specs.Run.{sight_of};
+ghost use Rattle.apply_run.specs.Run.{sink_state};
 
 use crate::applying::apply_stream;
 use crate::options::Options;
@@ -17,14 +17,15 @@ use std::alloc::Global;
 use std::sync::Wait;
 use std::thread::Threads;
 
-/// Reads a plan (JSON Output Format, "Plan Representation") and a script of outcomes for it, and applies it as
-/// [`apply_stream`](crate::apply_stream) does. Without a script each step is done after 0 seconds. The sink comes back beside
-/// every answer.
+/// Reads a plan (JSON Output Format, "Plan Representation") and an optional script, and applies
+/// both as [`apply_stream`](crate::apply_stream) does. Every answer returns the sink.
 ///
-/// `Err` with `Refusal::Plan` where the bytes are no plan, else with `Refusal::Script` where there is a script and it is none
-/// for the plan, else with `Refusal::Waits` where it says what steps wait for, which workers do not keep, else with
-/// `Refusal::Size` where the options are out of range: then nothing was written, and the sink is as it was. `Err` with
-/// `Refusal::Fault` where the run did not end well.
+/// `Err` with `Refusal::Plan` if the bytes are not a plan. Else `Err` with `Refusal::Script` if
+/// there is a script and it does not fit the plan. Else `Err` with `Refusal::Waits` if it states
+/// dependencies, which workers do not keep. Else `Err` with `Refusal::Size` if the options are out
+/// of range. Then nothing was written.
+///
+/// `Err` with `Refusal::Fault` if the run failed.
 pub fn apply_bytes<S: Sink + Drop, G: Gate, R: Threads + Wait + Sync>(
     rt: &R,
     alloc: Global,
@@ -39,11 +40,11 @@ pub fn apply_bytes<S: Sink + Drop, G: Gate, R: Threads + Wait + Sync>(
 
     ensures ok { IfOk result.1 (λ report. WasApplied
         (record { plan = plan.now; script = option_copied script.entry; hooks = rules_of registry.now }) options report
-        (sight_of S.bytes S.failed sink) (sight_of S.bytes S.failed result.0)) }
+        (sink_state S.bytes S.failed sink) (sink_state S.bytes S.failed result.0)) }
 
     ensures err { IfErr result.1 (λ refusal. WasRefused
         (record { plan = plan.now; script = option_copied script.entry; hooks = rules_of registry.now }) options refusal
-        (sight_of S.bytes S.failed sink) (sight_of S.bytes S.failed result.0)) }
+        (sink_state S.bytes S.failed sink) (sink_state S.bytes S.failed result.0)) }
 {
     match read_bytes(alloc, plan, script) {
         Ok(read) => apply_read(rt, alloc, &read, registry, options, sink, gate),
@@ -51,7 +52,7 @@ pub fn apply_bytes<S: Sink + Drop, G: Gate, R: Threads + Wait + Sync>(
     }
 }
 
-/// Applies what was read of bytes.
+/// Applies the plan and the script that were read.
 fn apply_read<S: Sink + Drop, G: Gate, R: Threads + Wait + Sync>(
     rt: &R,
     alloc: Global,
@@ -66,12 +67,12 @@ fn apply_read<S: Sink + Drop, G: Gate, R: Threads + Wait + Sync>(
     ensures ok { (plan : List ℕ) (script : Option (List ℕ))
         → IsRead (record { plan = plan; script = script; hooks = rules_of registry.now }) read.now.plan read.now.script
         → IfOk result.1 (λ report. WasApplied (record { plan = plan; script = script; hooks = rules_of registry.now }) options report
-        (sight_of S.bytes S.failed sink) (sight_of S.bytes S.failed result.0)) }
+        (sink_state S.bytes S.failed sink) (sink_state S.bytes S.failed result.0)) }
 
     ensures err { (plan : List ℕ) (script : Option (List ℕ))
         → IsRead (record { plan = plan; script = script; hooks = rules_of registry.now }) read.now.plan read.now.script
         → IfErr result.1 (λ refusal. WasRefused (record { plan = plan; script = script; hooks = rules_of registry.now }) options refusal
-        (sight_of S.bytes S.failed sink) (sight_of S.bytes S.failed result.0)) }
+        (sink_state S.bytes S.failed sink) (sink_state S.bytes S.failed result.0)) }
 {
     if read.script.has_waits() {
         return (sink, Err(Refusal::Waits));

@@ -1,13 +1,13 @@
-//! What a run in some form has done.
+//! The report of a run in a chosen form.
 
 use apply_writer::Report;
 
-/// What a run in some form has done.
+/// What a run has done, and whether its stream reports an error.
 #[derive(Clone, Copy, Debug, PartialEq, Eq)]
 pub struct FormReport {
-    /// What was done.
+    /// The report of the run.
     pub run: Report,
-    /// Whether the stream tells of an error: a step failed or was halted, or, in Terraform's form, a diagnostic of no step is an
-    /// error, be it the script's or of a plan whose making ended with one.
-    pub tells_error: bool,
+    /// Whether the stream reports an error: a step failed or was halted. In Terraform's form, also
+    /// if a diagnostic of no step is an error, from the script or from a plan that ended with one.
+    pub contains_error: bool,
 }

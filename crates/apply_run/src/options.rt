@@ -1,4 +1,4 @@
-//! How a plan is applied.
+//! The options of a run with workers.
 
 ghost use Rattle.std.specs.Prelude.{◌↔◌, IsTrue};
 ghost use Rattle.apply_run.specs.Options.{IsInRange};
@@ -6,16 +6,16 @@ ghost use Rattle.apply_run.specs.Options.{IsInRange};
 use apply_bus::{MAX_CAPACITY, MAX_WORKERS};
 use apply_text::{Operation, Start};
 
-/// How a plan is applied.
+/// How workers apply a plan.
 #[derive(Clone, Copy, Debug, PartialEq, Eq)]
 pub struct Options {
-    /// How many workers apply it, 1 to 8.
+    /// The number of workers, 1 to 8.
     pub workers: u8,
     /// How many events may wait to be written, 1 to 1,024.
     pub capacity: u16,
-    /// When the first steps begin.
+    /// When the first steps start.
     pub start: Start,
-    /// What the apply is for, as its summary names it.
+    /// What the apply is for: the summary names it.
     pub operation: Operation,
 }
 

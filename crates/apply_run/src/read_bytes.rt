@@ -1,4 +1,4 @@
-//! What is read of the bytes of a plan and of a script.
+//! Reads a plan and a script from bytes.
 
 ghost use Rattle.std.specs.Prelude.{◌≡◌, Err, IfErr, IfOk, Ok};
 ghost use Rattle.std.specs.Option.{option_copied};
@@ -11,15 +11,18 @@ use crate::refusal::Refusal;
 use apply_plan::{Plan, Script, ScriptError, read_plan, read_script};
 use std::alloc::Global;
 
-/// A plan and a script for it, as they were read of bytes.
+/// A plan and a script for it, read from bytes.
 #[derive(Debug, Drop)]
 pub(crate) struct ReadBytes {
     pub plan: Plan,
     pub script: Script,
 }
 
-/// Reads a plan and a script of outcomes for it. `Err` with `Refusal::Plan` where the bytes are no plan, else with
-/// `Refusal::Script` where there is a script and it is none for the plan. Want of memory is a refusal of what was being read.
+/// Reads a plan and an optional script for it.
+///
+/// `Err` with `Refusal::Plan` if the bytes are not a plan. Else `Err` with `Refusal::Script` if
+/// there is a script and it does not fit the plan. If memory is refused, the refusal names the
+/// input that was being read.
 pub(crate) fn read_bytes(
     alloc: Global,
     plan: &[u8],
@@ -39,7 +42,7 @@ pub(crate) fn read_bytes(
     }
 }
 
-/// The script that the bytes are for the plan; the empty one where there are none.
+/// Reads the script for the plan; without bytes the script is empty.
 fn read_given(alloc: Global, bytes: Option<&[u8]>, plan: &Plan) -> Result<Script, ScriptError>
     ensures defined { Gives script_error.Memory (λ script. script) result (given_script plan.now (option_copied bytes.entry)) }
     ensures memory { result ≡ Err script_error.Memory → MayBeRead (option_copied bytes.entry) }

@@ -1,26 +1,26 @@
-//! Why bytes were not applied.
+//! Why a plan and a script were not applied.
 
 use apply_plan::{PlanError, ScriptError};
 use apply_writer::Fault;
 use thiserror::Error;
 
-/// Why the bytes of a plan were not applied, or not to the end. The variants are tested in this order; the first four
-/// write nothing.
+/// Why a plan was not applied, or not to the end. The variants are tested in this order. The first
+/// four mean that nothing was written.
 #[derive(Clone, Copy, Debug, Drop, Error, PartialEq, Eq)]
 pub enum Refusal {
-    /// The bytes are no plan.
+    /// The bytes are not a plan.
     #[error("{0}")]
     Plan(PlanError),
-    /// The bytes are no script for the plan.
+    /// The script does not fit the plan.
     #[error("{0}")]
     Script(ScriptError),
-    /// Of workers alone: the script says what steps wait for.
+    /// Only with workers: the script states dependencies.
     #[error("the script says what steps wait for, which takes --parallelism")]
     Waits,
-    /// The number of workers is not 1 to 8, or the capacity is not 1 to 1,024.
+    /// Not 1 to 8 workers, a capacity that is not 1 to 1,024, or not 1 to 64 lanes.
     #[error("the sizes are out of range")]
     Size,
-    /// The run did not end well.
+    /// The run failed.
     #[error("{0}")]
     Fault(Fault),
 }

@@ -1,4 +1,5 @@
-//! The run over threads: what is made ready, and the start, the join and the reconciling of its workers.
+//! A run in threads: it starts the workers, joins them, and compares what they sent with what was
+//! taken.
 
 ghost use Rattle.std.specs.Prelude.{◌≡◌, ◌≤◌, [], length, vec_capacity, IfErr, IfOk};
 ghost use Rattle.apply_hooks.specs.Registry.{rules_of};
@@ -6,7 +7,7 @@ ghost use Rattle.apply_run.specs.Run.Endpoints.{AreReady};
 ghost use Rattle.apply_run.specs.Run.Finished.{IsFinishedRun, IsJoinedRun};
 ghost use Rattle.apply_run.specs.Run.NotBegun.{GivesBack};
 ghost use Rattle.apply_writer.specs.Stream.Counting.{IsNew};
-ghost use Rattle.apply_writer.specs.Stream.Telling.{telling_of};
+ghost use Rattle.apply_writer.specs.Stream.WriterState.{writer_state};
 ghost use Rattle.apply_run.specs.Run.Threads.{IsRun};
 
 pub mod prepared;
@@ -21,7 +22,7 @@ use crate::run::run_name::RunName;
 use crate::run::threads::{WorkerThread, join_all, start_all};
 use crate::worker::StoppedWorker;
 use crate::worker::gate::Gate;
-use crate::worker::job::Job;
+use crate::worker::job::WorkerJob;
 use apply_bus::Taken;
 use apply_writer::{FormLines, Sink, StreamWriter};
 use std::alloc::Global;
@@ -29,41 +30,42 @@ use std::sync::Wait;
 use std::thread;
 use std::thread::{Scope, Threads};
 
-/// A run that was given up before anything was taken: nothing was told or written, and the stream is as before.
+/// A run that was given up before anything was taken. The stream is returned unchanged.
 #[derive(Drop)]
 pub(crate) enum NotBegun<S: Drop, F: Drop> {
     /// A thread was refused.
     NoThread(StreamWriter<S, F>),
-    /// Memory was refused for the list of the threads. What the workers and the collector would have had comes back.
-    NoMemory(StreamWriter<S, F>, Endpoints),
+    /// Memory was refused for the list of threads. The unused drawers, senders and receiver are
+    /// returned too.
+    OutOfMemory(StreamWriter<S, F>, Endpoints),
 }
 
 /// A run whose threads were joined.
 #[derive(Drop)]
 pub(crate) struct JoinedRun<S: Drop, F: Drop> {
-    /// The stream, as far as it was told.
+    /// The stream, without its diagnostics and its tail.
     pub stream: StreamWriter<S, F>,
     /// What was taken from the bus.
     pub taken: Taken,
-    /// What each worker leaves behind, in their order.
+    /// What each worker returned, in the order of the workers.
     pub stopped: Vec<StoppedWorker>,
-    /// Whether a take was lost.
+    /// Whether a take failed.
     pub lost: bool,
 }
 
-/// A joined run whose workers were reconciled with what was taken.
+/// A joined run after the workers' events were compared with what was taken.
 #[derive(Drop)]
 pub(crate) struct FinishedRun<S: Drop, F: Drop> {
-    /// The stream, without its notes and what comes last.
+    /// The stream, without its diagnostics and its tail.
     pub stream: StreamWriter<S, F>,
-    /// Whether all that the workers had to tell was told.
+    /// Whether all events of all workers were accepted.
     pub whole: bool,
 }
 
-/// Lets workers apply the plan in threads while this thread collects what they send, and tells what all of them have done.
+/// Runs the workers in threads, collects their events in this thread, and compares both.
 ///
-/// `Err` where a thread was refused, and where memory was refused for the list of the threads. Then the stream is as
-/// before. That no worker has begun then rests on `signal`, of which no clause speaks.
+/// `Err` if a thread was refused, or memory for the list of threads. Then the stream is unchanged.
+/// No worker has begun then, but only `start_gate` ensures that, and no clause states it.
 pub(crate) fn run_workers<
     K: RunName + Send + Sync + 'static,
     S: Sink + Drop,
@@ -73,20 +75,20 @@ pub(crate) fn run_workers<
 >(
     rt: &R,
     alloc: Global,
-    job: &Job<'_, G>,
+    job: &WorkerJob<'_, G>,
     endpoints: Endpoints,
     stream: StreamWriter<S, F>,
 ) -> Result<FinishedRun<S, F>, NotBegun<S, F>>
     requires run { IsRun K.work K.claims job.now.plan.now job.now.script.now (rules_of job.now.registry.now) job.now.claims.now }
     requires endpoints { AreReady K.claims K.bus endpoints }
-    requires stream { IsNew (telling_of S.bytes S.failed stream) }
+    requires stream { IsNew (writer_state S.bytes S.failed stream) }
     requires plan { (F.form stream.lines).plan ≡ job.now.plan.now }
     ensures finished { IfOk result (λ finished.
         IsFinishedRun S.bytes S.failed F.form K.work K.claims.workers stream finished) }
     ensures not_begun { IfErr result (λ not_begun. GivesBack stream endpoints not_begun) }
 {
     let Ok(started) = Vec::with_capacity(alloc, endpoints.drawers.len()) else {
-        return Err(NotBegun::NoMemory(stream, endpoints));
+        return Err(NotBegun::OutOfMemory(stream, endpoints));
     };
     match run_threads::<K, S, F, G, R>(rt, job, endpoints, started, stream) {
         Ok(finished) => Ok(finished),
@@ -94,8 +96,8 @@ pub(crate) fn run_workers<
     }
 }
 
-/// Runs the workers, with a list for their threads, and reconciles them with what was taken. `Err` only where a thread was
-/// refused: then the stream is as before.
+/// Runs the workers with a list for their threads, and compares what they sent with what was taken.
+/// `Err` only if a thread was refused; then the stream is unchanged.
 fn run_threads<
     K: RunName + Send + Sync + 'static,
     S: Sink + Drop,
@@ -104,14 +106,14 @@ fn run_threads<
     R: Threads + Wait + Sync,
 >(
     rt: &R,
-    job: &Job<'_, G>,
+    job: &WorkerJob<'_, G>,
     endpoints: Endpoints,
     started: Vec<WorkerThread<K>>,
     stream: StreamWriter<S, F>,
 ) -> Result<FinishedRun<S, F>, StreamWriter<S, F>>
     requires run { IsRun K.work K.claims job.now.plan.now job.now.script.now (rules_of job.now.registry.now) job.now.claims.now }
     requires endpoints { AreReady K.claims K.bus endpoints }
-    requires stream { IsNew (telling_of S.bytes S.failed stream) }
+    requires stream { IsNew (writer_state S.bytes S.failed stream) }
     requires plan { (F.form stream.lines).plan ≡ job.now.plan.now }
     requires none { started.items ≡ [] }
     requires room { length endpoints.drawers.items ≤ vec_capacity started }
@@ -125,7 +127,7 @@ fn run_threads<
         move |scope| -> Result<JoinedRun<S, F>, StreamWriter<S, F>>
             requires run { IsRun K.work K.claims job.now.plan.now job.now.script.now (rules_of job.now.registry.now) job.now.claims.now }
             requires endpoints { AreReady K.claims K.bus endpoints }
-            requires stream { IsNew (telling_of S.bytes S.failed stream) }
+            requires stream { IsNew (writer_state S.bytes S.failed stream) }
             requires none { started.items ≡ [] }
             requires room { length endpoints.drawers.items ≤ vec_capacity started }
             ensures joined { IfOk result (λ joined.
@@ -152,7 +154,7 @@ fn run_threads<
     }
 }
 
-/// Runs the workers within a scope, up to their join.
+/// Runs the workers within a scope, and joins them.
 fn run_in_scope<
     's,
     E: 's,
@@ -164,14 +166,14 @@ fn run_in_scope<
 >(
     scope: &'s Scope<'s, E>,
     rt: &'s R,
-    job: &'s Job<'s, G>,
+    job: &'s WorkerJob<'s, G>,
     endpoints: Endpoints,
     mut started: Vec<WorkerThread<K>>,
     stream: StreamWriter<S, F>,
 ) -> Result<JoinedRun<S, F>, StreamWriter<S, F>>
     requires run { IsRun K.work K.claims job.now.plan.now job.now.script.now (rules_of job.now.registry.now) job.now.claims.now }
     requires endpoints { AreReady K.claims K.bus endpoints }
-    requires stream { IsNew (telling_of S.bytes S.failed stream) }
+    requires stream { IsNew (writer_state S.bytes S.failed stream) }
     requires none { started.items ≡ [] }
     requires room { length endpoints.drawers.items ≤ vec_capacity started }
     ensures joined { IfOk result (λ joined.
@@ -185,7 +187,7 @@ fn run_in_scope<
         mut stopped,
     } = endpoints;
     let all = start_all(scope, rt, job, drawers, senders, &mut started);
-    job.signal.announce(all);
+    job.start_gate.announce(all);
     if !all {
         join_all(rt, started, &mut stopped);
         return Err(stream);

@@ -1,8 +1,8 @@
-//! What no clause says: that calls succeed with ample memory, whole streams as bytes, that workers run at once and lines are
-//! written meanwhile, and how sinks answer in turn.
+//! Tests what no clause states: calls succeed with ample memory, whole streams as bytes, workers
+//! run at once, lines are written meanwhile, and how sinks answer.
 //!
-//! A test is proved before it runs, and its proof grows with each function and each call. So a plan, its script and the stream
-//! of both stand in one text, and few functions run them and compare what comes of it.
+//! A test is proved before it runs, and its proof grows with each function and each call. So a
+//! plan, its script and its stream stand in one text, and few functions run and compare them.
 
 ghost use Rattle.std.specs.Prelude.{◌≡◌, ◌<◌, ◌-◌, ◌^◌};
 
@@ -31,10 +31,10 @@ use std::sync::Wait;
 use std::sync::atomic::{AtomicU64, Ordering};
 use std::thread::{Threads, yield_now};
 
-/// Stands where there is no script.
+/// Stands for an absent script.
 const NO_SCRIPT: &str = "no script";
 
-/// A run: a plan with one change, behind it its script, and then the stream of both.
+/// A run: a plan with one change, its script, and the stream of both.
 const ONE_CREATE: &str =
     r#"{"format_version":"1.2","terraform_version":"1.9.0","resource_changes":[{"address":"random_pet.animal","mode":"managed","type":"random_pet","name":"animal","change":{"actions":["create"]}}]}
 no script
@@ -44,7 +44,7 @@ no script
 {"@level":"info","@message":"Apply complete! Resources: 1 added, 0 changed, 0 destroyed.","@module":"terraform.ui","@timestamp":"1970-01-01T00:00:00Z","changes":{"add":1,"change":0,"operation":"apply","remove":0},"type":"change_summary"}
 "#;
 
-/// A replacement that creates first, of which the second step fails.
+/// A replacement that creates first; its second step fails.
 const FAILED_DESTROY: &str =
     r#"{"format_version":"1.2","terraform_version":"1.9.0","resource_changes":[{"address":"null_resource.a","mode":"managed","type":"null_resource","name":"a","change":{"actions":["create","delete"]}}]}
 {"changes":[{"address":"null_resource.a","steps":[{"seconds":0},{"seconds":4,"failed":{"summary":"boom"}}]}]}
@@ -57,8 +57,8 @@ const FAILED_DESTROY: &str =
 {"@level":"info","@message":"Apply complete! Resources: 1 added, 0 changed, 0 destroyed.","@module":"terraform.ui","@timestamp":"1970-01-01T00:00:04Z","changes":{"add":1,"change":0,"operation":"apply","remove":0},"type":"change_summary"}
 "#;
 
-/// Two creates: the first of them fails, and the other goes on. What one worker writes of them: the diagnostic stands behind
-/// all other lines, at the latest moment.
+/// Two creates: the first fails, and the other succeeds. In the stream of one worker, the
+/// diagnostic follows all other lines, at the latest timestamp.
 const FIRST_FAILS: &str =
     r#"{"format_version":"1.2","terraform_version":"1.9.0","resource_changes":[{"address":"null_resource.a","mode":"managed","type":"null_resource","name":"a","change":{"actions":["create"]}},{"address":"null_resource.b","mode":"managed","type":"null_resource","name":"b","change":{"actions":["create"]}}]}
 {"changes":[{"address":"null_resource.a","steps":[{"seconds":5,"failed":{"summary":"boom"}}]},{"address":"null_resource.b","steps":[{"seconds":3}]}]}
@@ -85,7 +85,7 @@ fn options(workers: u8, capacity: u16) -> Options {
     }
 }
 
-/// What stands before the first mark, and what behind it.
+/// The text before the first mark, and the text after it.
 fn parted<'a>(rt: &impl Abort, text: &'a str, mark: &str) -> (&'a str, &'a str) {
     text.split_once(mark).expect(rt, mark)
 }
@@ -97,35 +97,35 @@ fn parts_of<'a>(rt: &impl Abort, run: &'a str) -> (&'a str, &'a str, &'a str) {
     (plan, script, stream)
 }
 
-/// The word at that place of a row, and no text where there is none.
+/// The word at that place of a row; empty if there is none.
 fn cell(row: &str, place: usize) -> &str {
     row.split_whitespace().nth(place).unwrap_or("")
 }
 
-/// The value, for as long as the test runs: a proof grows with each place at which something has to be dropped.
-fn kept<'a, T: Drop + 'a>(rt: &impl Abort, alloc: Global, value: T) -> &'a T {
-    let kept = Box::new(alloc, value).expect(rt, "memory");
-    &*Box::leak(kept)
+/// Leaks the value: a proof grows with each place at which something must be dropped.
+fn leaked<'a, T: Drop + 'a>(rt: &impl Abort, alloc: Global, value: T) -> &'a T {
+    let leaked = Box::new(alloc, value).expect(rt, "memory");
+    &*Box::leak(leaked)
 }
 
-/// A plan that has to be accepted.
+/// A plan that must be accepted.
 fn plan_of(rt: &impl Abort, alloc: Global, text: &str) -> &'static Plan {
     let plan = read_plan(alloc, text.as_bytes());
-    kept(rt, alloc, plan.ok().expect(rt, text))
+    leaked(rt, alloc, plan.ok().expect(rt, text))
 }
 
-/// A script that has to be accepted, or the empty one.
+/// A script that must be accepted, or the empty one.
 fn script_of(rt: &impl Abort, alloc: Global, text: &str, plan: &Plan) -> &'static Script {
     if text == NO_SCRIPT {
-        return kept(rt, alloc, Script::empty());
+        return leaked(rt, alloc, Script::empty());
     }
     let script = read_script(alloc, text.as_bytes(), plan);
-    kept(rt, alloc, script.ok().expect(rt, text))
+    leaked(rt, alloc, script.ok().expect(rt, text))
 }
 
 /// No hooks.
 fn no_hooks(rt: &impl Abort, alloc: Global) -> &'static Registry {
-    kept(rt, alloc, Registry::new(alloc))
+    leaked(rt, alloc, Registry::new(alloc))
 }
 
 /// A sink with room for whatever comes.
@@ -135,7 +135,7 @@ fn memory(alloc: Global) -> MemorySink
     MemorySink::new(alloc, usize::MAX, None)
 }
 
-/// A sink that takes so many bytes with each write, and so many in all, or any number.
+/// A sink that accepts so many bytes with each write, and so many in all, or any number.
 fn limited(rt: &impl Abort, alloc: Global, per_write: usize, room: Option<usize>) -> MemorySink
     ensures { result.failures ≡ 0 }
 {
@@ -143,7 +143,7 @@ fn limited(rt: &impl Abort, alloc: Global, per_write: usize, room: Option<usize>
     MemorySink::new(alloc, per_write, room)
 }
 
-/// The bytes of a script, where there is one.
+/// The bytes of a script, if there is one.
 fn script_bytes(script: &str) -> Option<&[u8]> {
     if script == NO_SCRIPT {
         None
@@ -152,7 +152,8 @@ fn script_bytes(script: &str) -> Option<&[u8]> {
     }
 }
 
-/// Applies what both say into memory. The contract of a run is long, so it is called in few places.
+/// Applies plan and script, and stores the stream in memory. The contract of a run is long, so few
+/// places call it.
 fn apply_into_memory<G: Gate, R: Threads + Wait + Sync + Abort>(
     rt: &R,
     alloc: Global,
@@ -164,10 +165,10 @@ fn apply_into_memory<G: Gate, R: Threads + Wait + Sync + Abort>(
 ) -> (&'static MemorySink, Result<Report, Refusal>) {
     let (plan, script, sink) = (plan.as_bytes(), script_bytes(script), memory(alloc));
     let (sink, end) = apply_bytes(rt, alloc, plan, script, registry, options, sink, gate);
-    (kept(rt, alloc, sink), end)
+    (leaked(rt, alloc, sink), end)
 }
 
-/// The end of a run of what was read, as one of bytes tells it.
+/// The end of a run of what was read, as a run from bytes gives it.
 fn end_of(end: Result<Report, Fault>) -> Result<Report, Refusal> {
     match end {
         Ok(report) => Ok(report),
@@ -195,7 +196,7 @@ fn apply_texts<S: Sink + Drop, G: Gate, R: Threads + Wait + Sync + Abort>(
     (sink, end_of(end))
 }
 
-/// The same where it has to succeed: the sink, and what was counted.
+/// Reads and applies both texts, which must succeed. Returns the sink and the counts.
 fn apply_plan<'a, S: Sink + Drop + 'a, G: Gate, R: Threads + Wait + Sync + Abort>(
     rt: &R,
     alloc: Global,
@@ -209,11 +210,11 @@ fn apply_plan<'a, S: Sink + Drop + 'a, G: Gate, R: Threads + Wait + Sync + Abort
 {
     let (sink, end) = apply_texts(rt, alloc, plan, script, options, sink, gate);
     let report = end.ok().expect(rt, "an end that is well");
-    (kept(rt, alloc, sink), report.counts)
+    (leaked(rt, alloc, sink), report.counts)
 }
 
-/// What is told of a run.
-fn told(counts: Counts, taken: u64, written: usize) -> Report {
+/// The report of a run.
+fn report_of(counts: Counts, taken: u64, written: usize) -> Report {
     Report {
         counts,
         taken,
@@ -227,18 +228,19 @@ fn failed(report: Report) -> Result<Report, Refusal> {
     Err(Refusal::Fault(Fault { why, report }))
 }
 
-/// Fails where a run ended otherwise.
+/// Fails if a run ended otherwise.
 fn ends(
     rt: &impl Abort,
     name: &str,
-    found: Result<Report, Refusal>,
+    actual: Result<Report, Refusal>,
     wanted: Result<Report, Refusal>,
 ) {
-    holds(rt, name, found == wanted);
+    holds(rt, name, actual == wanted);
 }
 
-/// Fails where the sink has not the first bytes of the stream, as many as it had room for, or where the run did not end with
-/// these counts: well with the whole stream, and otherwise with one write that failed.
+/// Fails unless the sink has the first bytes of the stream, as many as it had room for, and the run
+/// ended with these counts. It must succeed with the whole stream, and fail with one failed write
+/// otherwise.
 fn has_written(
     rt: &impl Abort,
     sink: &MemorySink,
@@ -250,7 +252,7 @@ fn has_written(
 ) {
     let front = stream.as_bytes().get(..room);
     holds(rt, "the front of the stream", Some(sink.bytes()) == front);
-    let report = told(counts, taken, room);
+    let report = report_of(counts, taken, room);
     let (failures, wanted) = if room < stream.len() {
         (1, failed(report))
     } else {
@@ -260,26 +262,26 @@ fn has_written(
     ends(rt, stream, end, wanted);
 }
 
-/// Fails where the number is another.
-fn number_is(rt: &impl Abort, name: &str, found: u64, wanted: u64)
-    ensures { found ≡ wanted }
+/// Fails if the number differs.
+fn number_is(rt: &impl Abort, name: &str, actual: u64, wanted: u64)
+    ensures { actual ≡ wanted }
 {
-    assert!(rt; found == wanted, "{name}: {found}, not {wanted}");
+    assert!(rt; actual == wanted, "{name}: {actual}, not {wanted}");
 }
 
-/// Fails where it is not so.
+/// Fails unless it holds.
 fn holds(rt: &impl Abort, name: &str, is_so: bool) {
     assert!(rt; is_so, "{name}");
 }
 
-/// Fails where the text is another.
-fn text_is(rt: &impl Abort, name: &str, found: &str, wanted: &str) {
-    assert!(rt; found == wanted, "{name}: {found}");
+/// Fails if the text differs.
+fn text_is(rt: &impl Abort, name: &str, actual: &str, wanted: &str) {
+    assert!(rt; actual == wanted, "{name}: {actual}");
 }
 
-/// Fails where other steps were counted than so many that were added and removed.
-fn counts_are(rt: &impl Abort, found: Counts, added: u64, removed: u64) {
-    holds(rt, "counts", found == counts(added, 0, removed, 0, 0));
+/// Fails if the counts of added and removed steps differ.
+fn counts_are(rt: &impl Abort, actual: Counts, added: u64, removed: u64) {
+    holds(rt, "counts", actual == counts(added, 0, removed, 0, 0));
 }
 
 /// Counts of steps.

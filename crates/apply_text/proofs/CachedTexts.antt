@@ -1,4 +1,4 @@
--- Texts that are kept, and the pieces of a line.
+-- Cached texts, and the fixed texts of a line.
 use Rattle.std.proofs.Common.{◌≡◌, ℕ, ◌+◌, ◌-◌, ◌/◌, ◌%◌, ◌<◌, List, [], ◌∷◌, ◌++◌, codes, length, take, Ok, OnOk, refl, sym, ap, ap₂, ◌∙◌, append_assoc, append-nil, length-append, arith, Result, subst}
 use Rattle.std.specs.Prelude.{Bool, true, false, Result, Err, if◌then◌else◌, is_ok, slice_index, IfOk}
 use Rattle.std.specs.Option.{option_map_or}
@@ -16,13 +16,13 @@ use Rattle.serde_json.proofs.Texts.{print-outline}
 use Rattle.apply_model.specs.declared.plan.step_kind.StepKind.{StepKind}
 use Rattle.apply_model.specs.Plan.ResourceChange.{ResourceChange}
 use Rattle.apply_text.specs.Calendar.{date_of_day}
-use Rattle.apply_text.specs.CachedParts.{KeptPieces, StepPieces, back_text, front_text, kept_step, line_pieces, middle_text, open_date, open_text, time_of_day}
-use Rattle.apply_text.specs.Moment.{date_text, moment_text, time_text, two_digits}
+use Rattle.apply_text.specs.CachedParts.{CachedPieces, LinePieces, back_text, front_text, shown_step, line_pieces, middle_text, unterminated_date, unterminated, time_of_day}
+use Rattle.apply_text.specs.UtcTimestamp.{date_text, timestamp_text, time_text, two_digits}
 use Rattle.apply_text.specs.Objects.{resource_object}
 use Rattle.apply_text.specs.Sending.{member_tokens}
 use Rattle.apply_text.specs.Words.{action_word, still_word}
 
--- a piece, and then others
+-- appending one piece, then others
 pub then_piece : {E : Type 0} (r : Result (Unit {0}) E) (old mid new first rest : List ℕ) → mid ≡ old ++ first → OnOk r (new ≡ mid ++ rest) → OnOk r (new ≡ old ++ (first ++ rest))
 then_piece r old mid new first rest grown h = on_ok_weaker r (λ e. e ∙ ap (λ s. s ++ rest) grown ∙ append_assoc old first rest) h
 
@@ -44,28 +44,28 @@ at_quote s text n is len =
     let at : n - 1 ≡ length text = omega (arith, size s text n is len) in
     ap (λ k. slice_index s k) at ∙ ap (λ t. slice_index t (length text)) is ∙ get_or-append_seam text 34 [] 0
 
--- ---- what a writer wrote behind a text
+-- ---- what a writer appended to a text
 
 pub printed_text : (items before first : List ℕ) (start tokens : List Token) (text : List ℕ) → before ≡ first → start ≡ [] → tokens ≡ start ++ Token.string text ∷ [] → items ≡ before ++ print tokens
-    → items ≡ (first ++ open_text text) ++ 34 ∷ []
+    → items ≡ (first ++ unterminated text) ++ 34 ∷ []
 unfolding print_from
-printed_text items before first start tokens text behind begun grown is =
-    is ∙ ap (λ b. b ++ print tokens) behind ∙ ap (λ ts. first ++ print ts) (grown ∙ ap (λ s. s ++ Token.string text ∷ []) begun) ∙ ap (λ t. first ++ t) (append-nil (quoted text))
-    ∙ sym (append_assoc first (open_text text) (34 ∷ []))
+printed_text items before first start tokens text after begun grown is =
+    is ∙ ap (λ b. b ++ print tokens) after ∙ ap (λ ts. first ++ print ts) (grown ∙ ap (λ s. s ++ Token.string text ∷ []) begun) ∙ ap (λ t. first ++ t) (append-nil (quoted text))
+    ∙ sym (append_assoc first (unterminated text) (34 ∷ []))
 
 pub printed_member : (items before first : List ℕ) (start tokens : List Token) (name : List ℕ) (d : Data) → before ≡ first → start ≡ [] → tokens ≡ start ++ member_tokens name d → items ≡ before ++ print tokens
     → items ≡ first ++ (quoted name ++ 58 ∷ compact_text d)
 unfolding print_from
-printed_member items before first start tokens name d behind begun grown is =
-    is ∙ ap (λ b. b ++ print tokens) behind ∙ ap (λ ts. first ++ print ts) (grown ∙ ap (λ s. s ++ member_tokens name d) begun)
+printed_member items before first start tokens name d after begun grown is =
+    is ∙ ap (λ b. b ++ print tokens) after ∙ ap (λ ts. first ++ print ts) (grown ∙ ap (λ s. s ++ member_tokens name d) begun)
     ∙ ap (λ t. first ++ t) (append_assoc (quoted name) (58 ∷ []) _ ∙ ap (λ t. quoted name ++ 58 ∷ t) (print-outline d))
 
 -- ---- the two ends of a line
 
-pub front_is : (front opened slice text slice₂ word address new : List ℕ) (step : StepKind) → front ≡ codes "{\"@level\":\"info\",\"@message\":" → slice₂ ≡ opened → opened ≡ open_text slice → slice ≡ text → text ≡ address ++ (codes ": Still " ++ (word ++ codes "... [")) → word ≡ still_word step → new ≡ front ++ slice₂ → new ≡ front_text address step
+pub front_is : (front opened slice text slice₂ word address new : List ℕ) (step : StepKind) → front ≡ codes "{\"@level\":\"info\",\"@message\":" → slice₂ ≡ opened → opened ≡ unterminated slice → slice ≡ text → text ≡ address ++ (codes ": Still " ++ (word ++ codes "... [")) → word ≡ still_word step → new ≡ front ++ slice₂ → new ≡ front_text address step
 unfolding front_text
 front_is front opened slice text slice₂ word address new step fronts slices opens texts are words grown =
-    let same : slice₂ ≡ open_text (address ++ (codes ": Still " ++ (still_word step ++ codes "... ["))) = slices ∙ opens ∙ ap open_text (texts ∙ are ∙ ap (λ w. address ++ (codes ": Still " ++ (w ++ codes "... ["))) words) in
+    let same : slice₂ ≡ unterminated (address ++ (codes ": Still " ++ (still_word step ++ codes "... ["))) = slices ∙ opens ∙ ap unterminated (texts ∙ are ∙ ap (λ w. address ++ (codes ": Still " ++ (w ++ codes "... ["))) words) in
     grown ∙ ap (λ f. f ++ slice₂) fronts ∙ ap (λ s. codes "{\"@level\":\"info\",\"@message\":" ++ s) same
 
 pub resource_is : (bytes first : List ℕ) (change : ResourceChange) → bytes ≡ first ++ (quoted (codes "resource") ++ 58 ∷ compact_text (resource_object change)) → bytes ≡ first ++ (codes "\"resource\":" ++ compact_text (resource_object change))
@@ -80,23 +80,23 @@ pub back_is : (resource new : List ℕ) (change : ResourceChange) → resource �
 unfolding back_text
 back_is resource new change is grown = grown ∙ ap (λ r. codes "," ++ (r ++ codes "},\"type\":\"apply_progress\"}\n")) is
 
--- what is kept of a change is what is shown of it
-back_shown : (change : ResourceChange) (step : StepKind) → back_text change ≡ back_text (kept_step change step).change
+-- the shown fields of a change give the same texts as the change
+back_shown : (change : ResourceChange) (step : StepKind) → back_text change ≡ back_text (shown_step change step).change
 unfolding back_text resource_object
 back_shown change step = refl
 
--- texts that were put together
-pub pieces_same : (pieces : StepPieces) (front middle back : List ℕ) → pieces.front ≡ front → pieces.middle ≡ middle → pieces.back ≡ back → pieces ≡ record { front = front; middle = middle; back = back }
+-- texts that were joined
+pub pieces_same : (pieces : LinePieces) (front middle back : List ℕ) → pieces.front ≡ front → pieces.middle ≡ middle → pieces.back ≡ back → pieces ≡ record { front = front; middle = middle; back = back }
 pieces_same pieces front middle back fronts middles backs =
-    let of : List ℕ → List ℕ → List ℕ → StepPieces = λ f m b. record { front = f; middle = m; back = b } in
+    let of : List ℕ → List ℕ → List ℕ → LinePieces = λ f m b. record { front = f; middle = m; back = b } in
     ap₂ (λ f m. of f m pieces.back) fronts middles ∙ ap (λ b. of front middle b) backs
 
-pub pieces_of : (kept : KeptPieces) (change : ResourceChange) (step : StepKind) → kept.step ≡ kept_step change step → kept.pieces.front ≡ front_text change.address step → kept.pieces.middle ≡ middle_text step → kept.pieces.back ≡ back_text change
-    → kept.pieces ≡ line_pieces kept.step
-pieces_of kept change step is fronts middles backs =
-    pieces_same kept.pieces (front_text change.address step) (middle_text step) (back_text (kept_step change step).change) fronts middles (backs ∙ back_shown change step) ∙ sym (ap line_pieces is)
+pub pieces_of : (cached : CachedPieces) (change : ResourceChange) (step : StepKind) → cached.step ≡ shown_step change step → cached.pieces.front ≡ front_text change.address step → cached.pieces.middle ≡ middle_text step → cached.pieces.back ≡ back_text change
+    → cached.pieces ≡ line_pieces cached.step
+pieces_of cached change step is fronts middles backs =
+    pieces_same cached.pieces (front_text change.address step) (middle_text step) (back_text (shown_step change step).change) fronts middles (backs ∙ back_shown change step) ∙ sym (ap line_pieces is)
 
--- ---- moments
+-- ---- timestamps
 
 joined : (xs ys : List ℕ) → escape (xs ++ ys) ≡ escape xs ++ escape ys
 joined xs ys = flat_map-append escape_byte xs ys
@@ -126,8 +126,8 @@ in_time second few =
     (ap (λ t. 58 ∷ t)
     (joined d₃ (codes "Z") ∙ ap (λ x. x ++ codes "Z") (in_two (second % 60) (omega arith)))))))
 
-pub moment_is : (seconds : ℕ) → open_date (seconds / 86400) ++ (time_of_day (seconds % 86400) ++ codes "Z\"") ≡ quoted (moment_text seconds)
-unfolding open_date moment_text
+pub moment_is : (seconds : ℕ) → unterminated_date (seconds / 86400) ++ (time_of_day (seconds % 86400) ++ codes "Z\"") ≡ quoted (timestamp_text seconds)
+unfolding unterminated_date timestamp_text
 moment_is seconds =
     let second = seconds % 86400 in
     let date = option_map_or date_text (date_of_day (seconds / 86400)) [] in
@@ -135,7 +135,7 @@ moment_is seconds =
     sym (ap quoted (append_assoc (date ++ codes "T") (time_text second) (codes "Z") ∙ append_assoc date (codes "T") (time_text second ++ codes "Z"))
     ∙ ap (λ t. 34 ∷ (t ++ 34 ∷ [])) (joined date time ∙ ap (λ r. escape date ++ r) (in_time second (omega arith))) ∙ ap (λ t. 34 ∷ t) (append_assoc (escape date) time (34 ∷ [])))
 
--- what `push_str` says of the bytes
+-- `push_str` appends its bytes
 pub appended : {E : Type 0} (r : Result (Unit {0}) E) (old new piece : List ℕ) → new ≡ (if is_ok r then old ++ piece else old) → OnOk r (new ≡ old ++ piece)
 appended (Ok u) old new piece e = e
 appended (Err u) old new piece e = tt
@@ -147,8 +147,8 @@ pub grown_utf8 : (grows : Bool) (bytes text : List ℕ) → IsUtf8 bytes → IsU
 grown_utf8 true bytes text before more = IsUtf8-append bytes text before more
 grown_utf8 false bytes text before more = before
 
--- ---- what was made
+-- ---- results
 
--- what holds of each that is made holds of this one
+-- a property of every successful result holds for this result
 pub made : {T E : Type 0} (P : T → Type 0) (r : Result T E) (x : T) → r ≡ Ok x → IfOk r P → P x
 made P r x is holds = subst (λ s. IfOk s P) is holds

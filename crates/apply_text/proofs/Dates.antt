@@ -88,12 +88,12 @@ date_at year month day n civil counted =
     let within_year = day_count-day_of_year (pos y) month day civil.2.0 in
     let in_month : day - 1 < length (dates_of_month y (1 + (month - 1))) = rw (month_len y (1 + (month - 1))) day_in in
     let in_year = in_whole (dates_of_month y) 1 12 (month - 1) (day - 1) month_in in_month in
-    let place : n ≡ length (flat_map dates_of_year (range_with_len 1970 year)) + (length (flat_map (dates_of_month y) (range_with_len 1 (month - 1))) + (day - 1)) = omega (arith, months, years, within_year, counted, civil.2.0) in
+    let slot : n ≡ length (flat_map dates_of_year (range_with_len 1970 year)) + (length (flat_map (dates_of_month y) (range_with_len 1 (month - 1))) + (day - 1)) = omega (arith, months, years, within_year, counted, civil.2.0) in
     let d : CivilDate = record { year = 0; month = 0; day = 0 } in
     let in_all = in_whole dates_of_year 1970 8030 year _ below in_year in
     let number : get_or (range_with_len 1 (days_in_month y (1 + (month - 1)))) (day - 1) 0 ≡ day = get_or-range_with_len 1 _ (day - 1) 0 day_in ∙ day_is in
-    slice_get-get_or (flat_map dates_of_year (range_with_len 1970 8030)) n d (subst (λ k. k < length (flat_map dates_of_year (range_with_len 1970 8030))) (sym place) in_all)
-    ∙ ap Some (ap (λ k. get_or (flat_map dates_of_year (range_with_len 1970 8030)) k d) place
+    slice_get-get_or (flat_map dates_of_year (range_with_len 1970 8030)) n d (subst (λ k. k < length (flat_map dates_of_year (range_with_len 1970 8030))) (sym slot) in_all)
+    ∙ ap Some (ap (λ k. get_or (flat_map dates_of_year (range_with_len 1970 8030)) k d) slot
     ∙ at_piece dates_of_year 1970 8030 year _ d below in_year
     ∙ at_piece (dates_of_month y) 1 12 (month - 1) (day - 1) d month_in in_month
     ∙ get_or-map-range_with_len (λ day. record { year = y; month = 1 + (month - 1); day = day }) 1 _ (day - 1) day d day_in day_is

@@ -1,4 +1,4 @@
--- What `jiff` prints for a moment is the moment's text.
+-- `jiff` prints the text of a timestamp.
 use Rattle.std.proofs.Common.{◌≡◌, ℕ, ◌+◌, ◌-◌, ◌*◌, ◌/◌, ◌%◌, ◌<◌, ◌≤◌, ◌++◌, [], codes, ℤ, pos, negsuc, ◌+ℤ◌, ◌*ℤ◌, Some, refl, sym, ap, ◌∙◌, subst, arith, ⊎_elim}
 use Rattle.std.proofs.lemmas.Bool.{cases_lt}
 use Rattle.std.specs.Option.{option_map_or}
@@ -14,7 +14,7 @@ use Rattle.jiff_core.proofs.DateLemmas.{civil}
 use Rattle.jiff_core.proofs.DateTimeLemmas.{civil_nanos-parts, time_nanos_bound}
 use Rattle.jiff_core.proofs.SignedLemmas.{signed_arith}
 use Rattle.apply_text.specs.Calendar.{date_of_day}
-use Rattle.apply_text.specs.Moment.{date_text, moment_text}
+use Rattle.apply_text.specs.UtcTimestamp.{date_text, timestamp_text}
 use Rattle.apply_text.proofs.Dates.{date_at}
 
 -- a day and the nanoseconds of it, of a number of nanoseconds
@@ -42,8 +42,8 @@ date_is d n is =
     let year = year_from d.year d.month d.day n (civil d) counted in
     (year.0, year.1, date_at year.0 d.month d.day n (subst (λ z. IsCivilDate z d.month d.day) year.1 (civil d)) (counted ∙ ap (λ z. day_count z d.month d.day) year.1))
 
-pub text_is : (dt : DateTime) (seconds : ℕ) → civil_nanos dt ≡ pos (seconds * 1000000000) → iso_datetime_text dt ++ codes "Z" ≡ moment_text seconds
-unfolding moment_text
+pub text_is : (dt : DateTime) (seconds : ℕ) → civil_nanos dt ≡ pos (seconds * 1000000000) → iso_datetime_text dt ++ codes "Z" ≡ timestamp_text seconds
+unfolding timestamp_text
 text_is dt seconds is =
     let day = parts (epoch_day dt.date) (time_nanos dt.time) (seconds * 1000000000) (sym is ∙ civil_nanos-parts dt) (time_nanos_bound dt.time) in
     let date = date_is dt.date day.0 day.1 in

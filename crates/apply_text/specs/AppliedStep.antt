@@ -1,4 +1,4 @@
--- A step of a change with what the script says of it, for private clauses.
+-- A step of a change with its outcome in the script, as private clauses see it.
 use Rattle.std.specs.Prelude.{unwrap_or}
 use Rattle.std.specs.Option.{option_copied}
 use Rattle.apply_model.specs.declared.script.diag.Diag.{Diag}
@@ -10,11 +10,11 @@ use Rattle.apply_text.specs.declared.applied_step.AppliedStep.{AppliedStep}
 use Rattle.apply_text.specs.declared.applied_step.DiagTexts.{DiagTexts}
 use Rattle.apply_text.specs.Message.{Message, event_message}
 
--- what the script says of it
+-- the outcome that the script gives; where it gives none, the step succeeds
 abbrev pub outcome_view : AppliedStep → Outcome
 outcome_view step = unwrap_or (option_copied step.outcome) default_outcome
 
--- how its provider ends
+-- how the provider ends the step
 abbrev pub ending_view : AppliedStep → Ending
 ending_view step = (outcome_view step).result
 
@@ -26,6 +26,6 @@ diag_view texts = record {
   snippet = option_copied texts.snippet;
 }
 
--- the message of an event of it
+-- the message of an event of the step
 abbrev pub message_of : AppliedStep → What → Message
 message_of step what = event_message step.change.now step.kind (outcome_view step) what

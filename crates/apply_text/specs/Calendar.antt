@@ -1,16 +1,16 @@
--- The dates from 1 January 1970 on, in the calendar of RFC 3339 (section 5.7: the days of a month; appendix C: leap
--- years).
+-- The dates from 1 January 1970 on, in the calendar of RFC 3339 (section 5.7: the days of a month;
+-- appendix C: leap years).
 use Rattle.std.specs.Prelude.{ℕ, ◌%◌, ◌==◌, Bool, not, ◌&&◌, ◌||◌, if◌then◌else◌, List, map, flat_map, Option, slice_get}
 use Rattle.std.specs.List.{range_with_len}
 
 pub record CivilDate : Type 0 where
   pub year : ℕ
-  -- from 1
+  -- 1 to 12
   pub month : ℕ
-  -- from 1
+  -- 1 to 31
   pub day : ℕ
 
--- every fourth year, but of the centuries only every fourth
+-- every fourth year is a leap year; of the years that end a century only every fourth
 abbrev pub is_leap_year : ℕ → Bool
 is_leap_year year = (year % 4 == 0) && (not (year % 100 == 0) || (year % 400 == 0))
 

@@ -1,4 +1,4 @@
--- How long something took, in words.
+-- Durations in words.
 use Rattle.std.specs.Prelude.{ℕ, ◌/◌, ◌%◌, nat_lt, if◌then◌else◌, List, ◌++◌, codes, decimal}
 
 abbrev pub seconds_text : ℕ → List ℕ
@@ -7,7 +7,8 @@ seconds_text seconds = decimal (seconds % 60) ++ codes "s"
 abbrev pub minutes_text : ℕ → List ℕ
 minutes_text seconds = decimal (seconds / 60 % 60) ++ codes "m" ++ seconds_text seconds
 
--- hours, minutes and seconds, as `1h0m5s`: units before the first that is not 0 are left out, but for the seconds
+-- hours, minutes and seconds, as `1h0m5s`; leading units that are 0 are left out, except the
+-- seconds
 abbrev pub elapsed_of : ℕ → List ℕ
 elapsed_of seconds =
     if nat_lt seconds 60 then seconds_text seconds

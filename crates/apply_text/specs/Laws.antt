@@ -1,4 +1,4 @@
--- Words of the laws of lines.
+-- Definitions for the laws of lines.
 use Rattle.std.specs.Prelude.{ℕ, List, count_by, codes, ◌==◌, Bool, false, not, ◌&&◌, slice_get}
 use Rattle.std.specs.Option.{option_map_or}
 use Rattle.std.specs.Str.{bytes_eq}
@@ -9,9 +9,9 @@ use Rattle.apply_model.specs.Plan.StepKind.{is_kind}
 use Rattle.apply_events.specs.declared.event.Event.{Event}
 use Rattle.apply_text.specs.Message.{event_message}
 
--- the event's message is an `apply_complete`, and not that of a read
-abbrev pub tells_of_completion : SavedPlan → OutcomeMap → Event → Bool
-tells_of_completion plan script event =
+-- the event's message is an `apply_complete`, and its step is no read
+abbrev pub reports_completion : SavedPlan → OutcomeMap → Event → Bool
+reports_completion plan script event =
     option_map_or (λ change.
     option_map_or (λ step.
     bytes_eq (event_message change step (outcome_of script event.change event.step) event.what).type_name
@@ -20,6 +20,6 @@ tells_of_completion plan script event =
     (slice_get change.steps event.step) false)
     (slice_get plan.changes event.change) false
 
--- how many line feeds are in a text
+-- the number of line feeds in a text
 abbrev pub line_feeds : List ℕ → ℕ
 line_feeds text = count_by (λ byte. byte == 10) text

@@ -7,7 +7,7 @@ pub mod Latest
 pub mod Laws
 pub mod Lines
 pub mod Message
-pub mod Moment
+pub mod UtcTimestamp
 pub mod Objects
 pub mod Order
 pub mod Sending

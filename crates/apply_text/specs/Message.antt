@@ -18,10 +18,10 @@ use Rattle.apply_text.specs.declared.operation.Operation.TheVariants.{Apply, Des
 use Rattle.apply_text.specs.Elapsed.{elapsed_of}
 use Rattle.apply_text.specs.Objects.{changes_object, diagnostic_object, hook_object, provisioner_object}
 use Rattle.apply_text.specs.Words.{action_word, noun_word, phase_words, start_word, still_word}
--- the id that the provider tells of the object, and the one that is told when a step completes
-pub use Rattle.apply_model.specs.Script.Outcome.{end_id, told_id}
+-- the id that the provider gives, and the id that a completion shows
+pub use Rattle.apply_model.specs.Script.Outcome.{end_id, provider_id}
 
--- what a message says, its level and type, and the one member of its own
+-- a message: its level, its text, its type, and the one member that only messages of this type have
 pub record Message : Type 0 where
   pub level : List ℕ
   pub text : List ℕ
@@ -31,20 +31,20 @@ pub record Message : Type 0 where
 
 -- ---- ids
 
--- the id that is told when a step starts: the prior one, but for a create
+-- the id that a start shows: the prior id; none for a create
 abbrev pub start_id : StepKind → ResourceChange → Option (List ℕ)
 start_id Create change = None
 start_id Update change = change.prior_id
 start_id Delete change = change.prior_id
 start_id Read change = change.prior_id
 
-abbrev pub id_note : Option (List ℕ) → List ℕ
-id_note None = []
-id_note (Some id) = codes " [id=" ++ id ++ codes "]"
+abbrev pub id_suffix : Option (List ℕ) → List ℕ
+id_suffix None = []
+id_suffix (Some id) = codes " [id=" ++ id ++ codes "]"
 
 -- ---- what happens to a step
 
--- a message about a step of a change, with the seconds that have passed and the object's id, where they are told
+-- a message about a step of a change, with the elapsed seconds and the object's id where given
 abbrev pub hook_message : ResourceChange → StepKind → (text : List ℕ) → (elapsed : Option ℕ) → (id : Option (List ℕ))
     → (type_name : List ℕ) → Message
 hook_message change step text elapsed id type_name = record {
@@ -57,7 +57,7 @@ hook_message change step text elapsed id type_name = record {
 
 abbrev pub start_message : ResourceChange → StepKind → (id : Option (List ℕ)) → Message
 start_message change step id =
-    hook_message change step (start_word step ++ codes "..." ++ id_note id) None id (codes "apply_start")
+    hook_message change step (start_word step ++ codes "..." ++ id_suffix id) None id (codes "apply_start")
 
 abbrev pub progress_message : ResourceChange → StepKind → (seconds : ℕ) → Message
 progress_message change step seconds =
@@ -68,7 +68,7 @@ progress_message change step seconds =
 abbrev pub complete_message : ResourceChange → StepKind → (seconds : ℕ) → (id : Option (List ℕ)) → Message
 complete_message change step seconds id =
     hook_message change step
-    (noun_word step ++ codes " complete after " ++ elapsed_of seconds ++ id_note id)
+    (noun_word step ++ codes " complete after " ++ elapsed_of seconds ++ id_suffix id)
     (Some seconds) id (codes "apply_complete")
 
 abbrev pub errored_message : ResourceChange → StepKind → (seconds : ℕ) → Message
@@ -79,7 +79,7 @@ errored_message change step seconds =
 
 -- ---- what provisioners do
 
--- a message about a provisioner of a change, with what it puts out, where it does
+-- a message about a provisioner of a change, with a line of its output where given
 abbrev pub provision_message : ResourceChange → (name text : List ℕ) → (output : Option (List ℕ))
     → (type_name : List ℕ) → Message
 provision_message change name text output type_name = record {
@@ -114,11 +114,11 @@ provision_errored_message change name =
     (codes "(" ++ name ++ codes ") Provisioning errored")
     None (codes "provision_errored")
 
--- the name of provisioner i; none where there is no such provisioner
+-- the name of provisioner i; empty where there is no such provisioner
 abbrev pub name_of : Outcome → (i : ℕ) → List ℕ
 name_of outcome i = option_map_or (λ provisioner. provisioner.name) (slice_get outcome.provisioners i) []
 
--- its output of that number
+-- output `line` of provisioner i; empty where there is no such output
 abbrev pub output_of : Outcome → (i line : ℕ) → List ℕ
 output_of outcome i line =
     option_map_or (λ provisioner. option_map_or (λ timed. timed.text) (slice_get provisioner.output line) [])
@@ -143,19 +143,19 @@ abbrev pub warning_message : ResourceChange → Diag → Message
 warning_message change diag =
     diagnostic_message change.address (codes "warn") (codes "warning") (codes "Warning") diag
 
--- what is said where nothing was told
+-- the diagnostic where the script gives none: all texts are empty
 abbrev pub no_diag : Diag
 no_diag = record { summary = []; detail = []; range = None; snippet = None }
 
--- why the step failed: what the provider said, or the provisioner that failed
-abbrev pub told_failure : Outcome → Diag
-told_failure outcome = unwrap_or (failure_of outcome) no_diag
+-- why the step failed: the provider's diagnostic, or the failed provisioner's
+abbrev pub failure_diag : Outcome → Diag
+failure_diag outcome = unwrap_or (failure_of outcome) no_diag
 
--- what the provider warned of, or why it failed where that only warns
+-- the provider's warning, or the reason of a failure that only warns
 abbrev pub warning_of : Ending → Diag
 warning_of ending = unwrap_or (warning_in ending) no_diag
 
--- that a hook halted the change, with that detail
+-- the diagnostic of a hook that halts a change
 abbrev pub halted_with : (detail : List ℕ) → Diag
 halted_with detail = record { summary = codes "execution halted"; detail = detail; range = None; snippet = None }
 
@@ -167,13 +167,13 @@ halt_of step phase hook =
 
 -- ---- events, and the end
 
--- what is said of an event of a step of the change, of which that is the outcome
+-- the message of an event of a step, where the step has this outcome
 abbrev pub event_message : ResourceChange → StepKind → Outcome → What → Message
 event_message change step outcome Start = start_message change step (start_id step change)
 event_message change step outcome (Progress seconds) = progress_message change step seconds
 event_message change step outcome (Complete seconds) = complete_message change step seconds (end_id step outcome.result)
 event_message change step outcome (Errored seconds) = errored_message change step seconds
-event_message change step outcome ErrorNote = error_message change (told_failure outcome)
+event_message change step outcome ErrorNote = error_message change (failure_diag outcome)
 event_message change step outcome WarnNote = warning_message change (warning_of outcome.result)
 event_message change step outcome (Halted phase hook) = error_message change (halt_of step phase hook)
 event_message change step outcome (ProvisionStart i) = provision_start_message change (name_of outcome i)
@@ -190,7 +190,7 @@ totals_text Apply counts =
 totals_text Destroy counts =
     codes "Destroy complete! Resources: " ++ decimal counts.removed ++ codes " destroyed."
 
--- the last message: how much was completed
+-- the last message: the counts of completed changes
 abbrev pub summary_message : Operation → Counts → Message
 summary_message operation counts = record {
   level = codes "info";

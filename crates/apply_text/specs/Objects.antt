@@ -1,4 +1,5 @@
--- The JSON objects in messages, with their members in the byte order of their names (Machine-Readable UI).
+-- The JSON objects in messages. Members stand in the byte order of their names (Machine-Readable
+-- UI).
 use Rattle.std.specs.Prelude.{ℕ, List, codes, Option, Some, None}
 use Rattle.serde_json.specs.Data.{Data, null, number, string, object, unsigned, Members, no_members, member}
 use Rattle.serde_json.specs.Find.{of_integer}
@@ -31,18 +32,18 @@ resource_object change =
     (member (codes "resource_name") (string change.name)
     (member (codes "resource_type") (string change.kind_name) no_members)))))))
 
--- a member for the seconds that have passed, where they are told, before the other members
+-- the member for the elapsed seconds where given, then other members
 abbrev pub elapsed_member : Option ℕ → Members → Members
 elapsed_member None others = others
 elapsed_member (Some seconds) others = member (codes "elapsed_seconds") (number (unsigned seconds)) others
 
--- `id_key` and `id_value`, both or neither, before the other members
+-- `id_key` and `id_value` where there is an id, then other members
 abbrev pub id_members : Option (List ℕ) → Members → Members
 id_members None others = others
 id_members (Some id) others =
     member (codes "id_key") (string (codes "id")) (member (codes "id_value") (string id) others)
 
--- what happens to a step of a change, with the seconds that have passed and the object's id, where they are told
+-- the object `hook` of a step, with the elapsed seconds and the object's id where given
 unfoldable pub hook_object : ResourceChange → StepKind → (elapsed : Option ℕ) → (id : Option (List ℕ)) → Data
 hook_object change step elapsed id =
     object
@@ -51,12 +52,12 @@ hook_object change step elapsed id =
     (id_members id
     (member (codes "resource") (resource_object change) no_members))))
 
--- a member for what a provisioner puts out, where it does, before the other members
+-- the member for a line of a provisioner's output where given, then other members
 abbrev pub output_member : Option (List ℕ) → Members → Members
 output_member None others = others
 output_member (Some output) others = member (codes "output") (string output) others
 
--- what a provisioner of a change does, with what it puts out, where it does
+-- the object `hook` of a provisioner, with a line of its output where given
 unfoldable pub provisioner_object : ResourceChange → (name : List ℕ) → (output : Option (List ℕ)) → Data
 provisioner_object change name output =
     object

@@ -1,4 +1,4 @@
--- What is appended to a JSON text, for private clauses.
+-- Tokens that are appended to a JSON text, for private clauses.
 use Rattle.std.specs.Prelude.{◌≡◌, ℕ, List, [], ◌∷◌, ◌++◌, codes, OnOk, Option, Some, None, Result}
 use Rattle.json.specs.Token.{Token, begin_object, key}
 use Rattle.json.specs.Tree.{json_tokens}
@@ -12,7 +12,8 @@ use Rattle.apply_text.specs.Message.{Message}
 abbrev pub member_tokens : (name : List ℕ) → Data → List Token
 member_tokens name d = key name ∷ json_tokens (outline d)
 
--- the tokens are appended, and where memory is refused some of them may be; what stood in the buffer stays
+-- on success all tokens are appended; when memory is refused some may be; earlier bytes of the
+-- buffer always stay
 pub record Sends {E : Type 0} (r : Result (Unit {0}) E) (old new : Written) (tokens : List Token) : Type 0 where
   pub ok : OnOk r (new.tokens ≡ old.tokens ++ tokens)
   pub before : new.before ≡ old.before
@@ -30,21 +31,21 @@ abbrev pub output_tokens : Option (List ℕ) → List Token
 output_tokens None = []
 output_tokens (Some output) = member_tokens (codes "output") (string output)
 
--- the tokens of a message up to the members that are its own
-abbrev pub head_tokens : (level text moment : List ℕ) → List Token
-head_tokens level text moment =
+-- the tokens of the members that every message has
+abbrev pub head_tokens : (level text timestamp : List ℕ) → List Token
+head_tokens level text timestamp =
     begin_object ∷ []
     ++ member_tokens (codes "@level") (string level)
     ++ member_tokens (codes "@message") (string text)
     ++ member_tokens (codes "@module") (string (codes "terraform.ui"))
-    ++ member_tokens (codes "@timestamp") (string moment)
+    ++ member_tokens (codes "@timestamp") (string timestamp)
 
 -- the tokens of an object
 abbrev pub data_tokens : Data → List Token
 data_tokens d = json_tokens (outline d)
 
 -- the tokens of a whole message
-abbrev pub message_tokens : (moment : List ℕ) → Message → List Token
-message_tokens moment message =
-    data_tokens (message_object message.level message.text moment
+abbrev pub message_tokens : (timestamp : List ℕ) → Message → List Token
+message_tokens timestamp message =
+    data_tokens (message_object message.level message.text timestamp
     (typed message.name message.body message.type_name))

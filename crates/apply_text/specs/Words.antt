@@ -1,4 +1,5 @@
--- The words that a message has for a step and for the phase of a hook (Machine-Readable UI, "Operation Messages").
+-- The words of messages for the kinds of steps and the phases of hooks (Machine-Readable UI,
+-- "Operation Messages").
 use Rattle.std.specs.Prelude.{ℕ, List, codes}
 use Rattle.apply_model.specs.declared.plan.step_kind.StepKind.{StepKind}
 use Rattle.apply_model.specs.declared.plan.step_kind.StepKind.TheVariants.{Create, Update, Delete, Read}
@@ -12,28 +13,28 @@ action_word Update = codes "update"
 action_word Delete = codes "delete"
 action_word Read = codes "read"
 
--- what a step is said to be doing when it starts
+-- what a step does when it starts
 abbrev pub start_word : StepKind → List ℕ
 start_word Create = codes "Creating"
 start_word Update = codes "Modifying"
 start_word Delete = codes "Destroying"
 start_word Read = codes "Refreshing"
 
--- what it is said to be doing still
+-- what a step is still doing
 abbrev pub still_word : StepKind → List ℕ
 still_word Create = codes "creating"
 still_word Update = codes "modifying"
 still_word Delete = codes "destroying"
 still_word Read = codes "refreshing"
 
--- what is said to be complete, or to have failed, when a step ends
+-- what completes or fails when a step ends
 abbrev pub noun_word : StepKind → List ℕ
 noun_word Create = codes "Creation"
 noun_word Update = codes "Modifications"
 noun_word Delete = codes "Destruction"
 noun_word Read = codes "Refresh"
 
--- when a hook was asked
+-- when the hook was asked, relative to the step
 abbrev pub phase_words : Phase → List ℕ
 phase_words Pre = codes "before"
 phase_words PostDone = codes "after"

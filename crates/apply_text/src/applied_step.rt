@@ -1,4 +1,4 @@
-//! A step of a change, with what the script says of it.
+//! A step of a change, together with its outcome in the script.
 
 ghost use Rattle.std.specs.Prelude.{◌≡◌, slice_get, unwrap_or};
 ghost use Rattle.std.specs.Option.{option_copied};
@@ -8,7 +8,8 @@ ghost use Rattle.apply_text.specs.Message.{halted_with, no_diag};
 
 use apply_model::{Change, Diag, Outcome, Provisioner, StepKind, Text};
 
-/// A step of a change, with what the script says of it. Where it says nothing, the step is done and nothing is told.
+/// A step of a change, together with its outcome in the script. Without an outcome the step
+/// succeeds, and the script gives neither an id nor a diagnostic.
 #[derive(Clone, Copy, Drop)]
 pub struct AppliedStep<'a> {
     pub change: &'a Change,
@@ -21,14 +22,14 @@ pub struct AppliedStep<'a> {
 pub struct DiagTexts<'a> {
     pub summary: &'a str,
     pub detail: &'a str,
-    /// Where in the configuration it is, as JSON.
+    /// The place in the configuration, as JSON.
     pub range: Option<&'a str>,
-    /// What stands there, as JSON.
+    /// The source text at that place, as JSON.
     pub snippet: Option<&'a str>,
 }
 
 impl<'a> DiagTexts<'a> {
-    /// What is said where a hook halts the run, with that detail.
+    /// Builds the diagnostic of a hook that halts the run. `detail` names the hook and its answer.
     pub fn of_halt(detail: &'a str) -> DiagTexts<'a>
         ensures { diag_view result ≡ halted_with detail.now }
     {
@@ -40,7 +41,7 @@ impl<'a> DiagTexts<'a> {
         }
     }
 
-    /// The texts of a diagnostic.
+    /// Borrows the texts of `diag`.
     pub fn new(diag: &'a Diag) -> DiagTexts<'a>
         ensures { diag_view result ≡ diag.now }
     {
@@ -52,7 +53,7 @@ impl<'a> DiagTexts<'a> {
         }
     }
 
-    /// The texts of a diagnostic, or empty ones where there is none.
+    /// Borrows the texts of `diag`. All texts are empty for `None`.
     fn of_option(diag: Option<&'a Diag>) -> DiagTexts<'a>
         ensures { diag_view result ≡ unwrap_or (option_copied diag.entry) no_diag }
     {
@@ -68,7 +69,7 @@ impl<'a> DiagTexts<'a> {
     }
 }
 
-/// The text that there may be, borrowed.
+/// Borrows an optional text.
 fn borrowed(text: &Option<Text>) -> Option<&str>
     ensures { option_copied result ≡ text.now }
 {
@@ -79,7 +80,8 @@ fn borrowed(text: &Option<Text>) -> Option<&str>
 }
 
 impl<'a> AppliedStep<'a> {
-    /// The id that is told when the step starts: the prior one. `None` for a create, or where there is none.
+    /// The id that the start message shows: the prior id. `None` for a create, or when there is no
+    /// prior id.
     pub fn start_id(&self) -> Option<&'a str>
         ensures { option_copied result ≡ messages.start_id self.now.kind self.now.change.now }
     {
@@ -89,16 +91,18 @@ impl<'a> AppliedStep<'a> {
         }
     }
 
-    /// The id that is told when the step completes: the provider's. `None` for a delete, or where there is none.
+    /// The id that the completion message shows: the id that the script gives. `None` for a delete,
+    /// or when the script gives no id.
     pub fn end_id(&self) -> Option<&'a str>
         ensures { option_copied result ≡ messages.end_id self.now.kind (ending_view self.now) }
     {
         self.outcome?.end_id(self.kind)
     }
 
-    /// Why the step failed: what the provider says, or the provisioner that failed.
+    /// The reason of a failure: the provider's diagnostic, or the failed provisioner's. Its texts
+    /// are empty when the step does not fail.
     pub fn failure(&self) -> DiagTexts<'a>
-        ensures { diag_view result ≡ messages.told_failure (outcome_view self.now) }
+        ensures { diag_view result ≡ messages.failure_diag (outcome_view self.now) }
     {
         match self.outcome {
             Some(outcome) => DiagTexts::of_option(outcome.failure()),
@@ -106,7 +110,8 @@ impl<'a> AppliedStep<'a> {
         }
     }
 
-    /// What the provider warned of, or why it failed where that only warns.
+    /// The provider's warning, or the reason of a failure that only warns. Its texts are empty when
+    /// there is none.
     pub fn warning(&self) -> DiagTexts<'a>
         ensures { diag_view result ≡ messages.warning_of (ending_view self.now) }
     {
@@ -116,7 +121,7 @@ impl<'a> AppliedStep<'a> {
         }
     }
 
-    /// The name of a provisioner, by its number. Empty where there is none.
+    /// The name of provisioner `number`, counted from 0. Empty when there is no such provisioner.
     pub fn provisioner_name(&self, number: u8) -> &'a str
         ensures { result.now ≡ messages.name_of (outcome_view self.now) number }
     {
@@ -126,7 +131,8 @@ impl<'a> AppliedStep<'a> {
         }
     }
 
-    /// An output of a provisioner, by their numbers. Empty where there is none.
+    /// Output `line` of provisioner `number`, both counted from 0. Empty when there is no such
+    /// output.
     pub fn output(&self, number: u8, line: u8) -> &'a str
         ensures { result.now ≡ messages.output_of (outcome_view self.now) number line }
     {
@@ -138,7 +144,7 @@ impl<'a> AppliedStep<'a> {
         }
     }
 
-    /// The provisioner of that number, if there is one.
+    /// Provisioner `number`, if it exists.
     fn provisioner(&self, number: u8) -> Option<&'a Provisioner>
         ensures { option_copied result ≡ slice_get (outcome_view self.now).provisioners number }
     {

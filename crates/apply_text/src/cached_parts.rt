@@ -1,15 +1,14 @@
-//! Texts that stay the same from line to line, so that a line is a few copies.
+//! Texts that stay the same from line to line. With them a line costs a few copies.
 
-pub mod frame;
-pub mod frames;
-pub mod front;
-pub mod hook_frame;
-pub mod kept_date;
+pub mod cached_date;
+pub mod cached_step;
+pub mod hook_fields;
+pub mod hook_template;
 pub mod key;
-pub mod open_text;
-pub mod places;
-pub mod shown_step;
-pub mod step_frame;
+pub mod line_template;
+pub mod line_templates;
+pub mod progress_template;
 pub mod step_point;
 pub mod step_texts;
-pub mod told_step;
+pub mod template_cache;
+pub mod unterminated;

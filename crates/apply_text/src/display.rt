@@ -1,6 +1,6 @@
-//! Parts of texts, as they are printed.
+//! Formatting of durations, ids, numbers and timestamps.
 
 pub mod elapsed;
-pub mod id_note;
-pub mod moment;
+pub mod id_suffix;
 pub mod number;
+pub mod timestamp;

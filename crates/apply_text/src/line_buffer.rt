@@ -1,21 +1,22 @@
-//! A buffer of lines.
+//! A buffer for the lines of a stream in the default form. Every `Err` means that memory was
+//! refused.
 
 ghost use Rattle.std.specs.Prelude.{◌≡◌, ◌≤◌, ◌+◌, ◌∷◌, ◌++◌, [], false, length, take, string_bytes, IfOk, IsOk, OnOk, OnErr};
 ghost use Rattle.std.specs.Option.{option_copied};
 ghost use Rattle.std.specs.Str.{IsUtf8};
 ghost use Rattle.json.specs.Print.{print};
-ghost use Rattle.apply_events.specs.Fits.{HasStep, last_moment};
+ghost use Rattle.apply_events.specs.Fits.{HasStep, latest_second};
 ghost use Rattle.apply_text.specs.AppliedStep.{message_of};
-ghost use Rattle.apply_text.specs.HookLines.{IsPlainId, told_message, told_view};
+ghost use Rattle.apply_text.specs.HookLines.{IsPlainId, fields_message, hook_fields_view};
 ghost use Rattle.apply_text.specs.Lines.{event_text, message_line, summary_text, version_text};
 ghost use Rattle.apply_text.specs.Message.{progress_message};
 
 use crate::applied_step::AppliedStep;
-use crate::cached_parts::frame::LineFrame;
-use crate::cached_parts::frames::StepFrames;
-use crate::cached_parts::hook_frame::HookFrame;
-use crate::cached_parts::told_step::ToldStep;
-use crate::display::moment::Moment;
+use crate::cached_parts::hook_fields::HookFields;
+use crate::cached_parts::hook_template::HookTemplate;
+use crate::cached_parts::line_templates::LineTemplates;
+use crate::cached_parts::progress_template::ProgressTemplate;
+use crate::display::timestamp::UtcTimestamp;
 use crate::messages::{put_event, put_summary, put_version};
 use crate::operation::Operation;
 use crate::start::Start;
@@ -26,29 +27,29 @@ use std::alloc::{AllocError, Global};
 use std::marker::Model;
 use std::mem::replace;
 
-/// How long a line is that needs no further growth.
+/// Lines up to this length need no further growth.
 const LINE_LEN: usize = 1_024;
 
-/// When a step first reports progress, in seconds.
+/// The seconds after which a step first reports progress. Later progress lines come from templates.
 const FIRST_PROGRESS: u32 = 10;
 
-/// How long the texts are that it may be put together of.
+/// Texts up to this length need no further growth.
 const TEXT_LEN: usize = 256;
 
-/// Lines of a stream, one behind the other. Room that was made once is kept, so that a further line costs no growth, but
-/// where a line keeps what it has in common with others of its step.
+/// Lines of a stream, one after another. `clear` leaves the memory in place, so that later lines
+/// need no growth. Only a step that is new to the cache may take more.
 ///
 /// Contracts see the bytes of the lines.
 #[derive(Drop)]
 pub struct LineBuffer {
     alloc: Global,
     bytes: Vec<u8>,
-    // The texts that a message is put together of, one after the other, or a line of kept texts.
+    // Texts of a message, one at a time, or a whole line from a template.
     scratch: String,
-    // What lines of progress have in common with those before them.
-    progress: StepFrames<LineFrame>,
-    // What the lines of a step's start and end have in common.
-    hooks: StepFrames<HookFrame>,
+    // Templates of progress lines.
+    progress: LineTemplates<ProgressTemplate>,
+    // Templates of start and end lines.
+    hooks: LineTemplates<HookTemplate>,
 }
 
 impl Model for LineBuffer {
@@ -63,7 +64,7 @@ impl Model for LineBuffer {
 }
 
 impl LineBuffer {
-    /// No line, and no room: the first line makes it.
+    /// No lines. Takes no memory until the first line.
     pub fn new(alloc: Global) -> LineBuffer
         ensures { result ≡ [] }
     {
@@ -71,13 +72,13 @@ impl LineBuffer {
             alloc,
             bytes: Vec::new(alloc),
             scratch: String::new(alloc),
-            progress: StepFrames::new(alloc),
-            hooks: StepFrames::new(alloc),
+            progress: LineTemplates::new(alloc),
+            hooks: LineTemplates::new(alloc),
         }
     }
 
-    /// No line, and room for one of up to 1,024 bytes, whose texts have up to 256, without a further growth; only what lines
-    /// of a step have in common takes more, until there is room for that too. `Err` where memory is refused.
+    /// No lines, and memory for one line of up to 1,024 bytes with texts of up to 256 bytes. Only
+    /// the templates take more, until each slot has been used.
     pub fn with_room(alloc: Global) -> Result<LineBuffer, AllocError>
         ensures { IfOk result (λ buffer. buffer ≡ []) }
     {
@@ -85,8 +86,8 @@ impl LineBuffer {
             alloc,
             bytes: Vec::with_capacity(alloc, LINE_LEN)?,
             scratch: String::with_capacity(alloc, TEXT_LEN)?,
-            progress: StepFrames::new(alloc),
-            hooks: StepFrames::new(alloc),
+            progress: LineTemplates::new(alloc),
+            hooks: LineTemplates::new(alloc),
         })
     }
 
@@ -97,47 +98,51 @@ impl LineBuffer {
         self.bytes.as_slice()
     }
 
-    /// The lines as a text.
+    /// The lines as a string.
     pub fn into_string(self) -> String
         ensures { string_bytes result ≡ self }
     {
         String::from_utf8(self.bytes).unwrap()
     }
 
-    /// Drops the lines, and keeps the room.
+    /// Drops the lines, and leaves their memory in place.
     pub fn clear(&mut self)
         ensures { self.new ≡ [] }
     {
         self.bytes.clear();
     }
 
-    /// Appends the first line of a stream: the version of Terraform that made the plan, at the start (Machine-Readable UI,
-    /// "Version Message"). `Err` where memory is refused; the lines are then as they were.
+    /// Appends the first line of a stream (Machine-Readable UI, "Version Message"). It gives the
+    /// plan's Terraform version, and its timestamp is `start`.
+    ///
+    /// After an `Err` the lines are unchanged.
     pub fn push_version(&mut self, plan: &Plan, start: Start) -> Result<(), AllocError>
         ensures ok { OnOk result (self.new ≡ self.old ++ version_text plan.now start) }
         ensures err { OnErr result (self.new ≡ self.old) }
     {
-        let moment = Moment::new(start, 0);
+        let timestamp = UtcTimestamp::new(start, 0);
         let before = self.bytes.len();
         let mut out = self.begin_line();
-        let written = put_version(&mut out, &mut self.scratch, &moment, plan.version());
+        let written = put_version(&mut out, &mut self.scratch, &timestamp, plan.version());
         self.end_line(out, before, written)
     }
 
-    /// Appends the line of an event, `latest` seconds after the start: the greatest moment of an event up to this one.
-    /// `Err` where memory is refused; the lines are then as they were.
+    /// Appends the line of an event. Its timestamp is `clock` seconds after `start`, where `clock`
+    /// is the greatest time of an event so far.
+    ///
+    /// After an `Err` the lines are unchanged.
     pub fn push_event(
         &mut self,
         plan: &Plan,
         script: &Script,
         start: Start,
-        latest: u64,
+        clock: u64,
         event: &Event,
     ) -> Result<(), AllocError>
         requires has_step { HasStep plan.now event.now.change event.now.step }
-        requires in_time { latest ≤ last_moment }
+        requires in_time { clock ≤ latest_second }
         ensures ok { OnOk result
-            (self.new ≡ self.old ++ event_text plan.now script.now start latest event.now) }
+            (self.new ≡ self.old ++ event_text plan.now script.now start clock event.now) }
         ensures err { OnErr result (self.new ≡ self.old) }
     {
         let change = plan.change(event.change);
@@ -146,107 +151,108 @@ impl LineBuffer {
             kind: change.steps()[event.step as usize],
             outcome: script.outcome(event.change, event.step),
         };
-        self.push_step(start, latest, event.change, step, event.what)
+        self.push_step(start, clock, event.change, step, event.what)
     }
 
-    /// Appends the last line of a stream: how much was completed (Machine-Readable UI, "Change Summary"). `Err` where
-    /// memory is refused; the lines are then as they were.
+    /// Appends the last line of a stream: the counts of completed changes (Machine-Readable UI,
+    /// "Change Summary"). Its timestamp is `clock` seconds after `start`.
+    ///
+    /// After an `Err` the lines are unchanged.
     pub fn push_summary(
         &mut self,
         start: Start,
-        latest: u64,
+        clock: u64,
         operation: Operation,
         counts: &Counts,
     ) -> Result<(), AllocError>
-        requires in_time { latest ≤ last_moment }
+        requires in_time { clock ≤ latest_second }
         ensures ok { OnOk result
-            (self.new ≡ self.old ++ summary_text start latest operation counts.now) }
+            (self.new ≡ self.old ++ summary_text start clock operation counts.now) }
         ensures err { OnErr result (self.new ≡ self.old) }
     {
-        let moment = Moment::new(start, latest);
+        let timestamp = UtcTimestamp::new(start, clock);
         let before = self.bytes.len();
         let mut out = self.begin_line();
-        let written = put_summary(&mut out, &mut self.scratch, &moment, operation, counts);
+        let written = put_summary(&mut out, &mut self.scratch, &timestamp, operation, counts);
         self.end_line(out, before, written)
     }
 
-    /// Appends the line of an event of a step of the change with that number. Of the lines of its start and its end, and of
-    /// those of progress but for the first, what they have in common is kept.
+    /// Appends the line of an event of a step of change `number`. Starts, ends and all but the
+    /// first progress line come from templates.
     fn push_step(
         &mut self,
         start: Start,
-        latest: u64,
+        clock: u64,
         number: u32,
         step: AppliedStep<'_>,
         what: What,
     ) -> Result<(), AllocError>
-        requires { latest ≤ last_moment }
+        requires { clock ≤ latest_second }
         ensures ok { OnOk result
-            (self.new ≡ self.old ++ message_line (start + latest) (message_of step.entry what)) }
+            (self.new ≡ self.old ++ message_line (start + clock) (message_of step.entry what)) }
         ensures err { OnErr result (self.new ≡ self.old) }
     {
         if let What::Progress(seconds) = what {
             if seconds > FIRST_PROGRESS {
-                return self.push_progress(start, latest, number, step.change, step.kind, seconds);
+                return self.push_progress(start, clock, number, step.change, step.kind, seconds);
             }
         }
-        if let Some(told) = ToldStep::of_event(step, what) {
-            return self.push_told(start, latest, number, step.change, step.kind, told);
+        if let Some(fields) = HookFields::of_event(step, what) {
+            return self.push_hook(start, clock, number, step.change, step.kind, fields);
         }
-        let moment = Moment::new(start, latest);
+        let timestamp = UtcTimestamp::new(start, clock);
         let before = self.bytes.len();
         let mut out = self.begin_line();
-        let written = put_event(&mut out, &mut self.scratch, &moment, step, what);
+        let written = put_event(&mut out, &mut self.scratch, &timestamp, step, what);
         self.end_line(out, before, written)
     }
 
-    /// Appends the line of a step's progress, put together of what is kept.
+    /// Appends a progress line from its template.
     fn push_progress(
         &mut self,
         start: Start,
-        latest: u64,
+        clock: u64,
         number: u32,
         change: &Change,
         step: StepKind,
         seconds: u32,
     ) -> Result<(), AllocError>
-        requires { latest ≤ last_moment }
+        requires { clock ≤ latest_second }
         ensures ok { OnOk result (self.new
-            ≡ self.old ++ message_line (start + latest) (progress_message change.now step seconds)) }
+            ≡ self.old ++ message_line (start + clock) (progress_message change.now step seconds)) }
         ensures err { OnErr result (self.new ≡ self.old) }
     {
-        let moment = start.seconds() + latest;
-        self.progress
-            .put_line(&mut self.scratch, change, step, number, moment, seconds)?;
+        let timestamp = start.seconds() + clock;
+        self.progress.put_line(&mut self.scratch, change, step, number, timestamp, seconds)?;
         self.bytes
             .extend_from_slice(self.scratch.as_str().as_bytes())
     }
 
-    /// Appends the line of a step's start or end, put together of what is kept.
-    fn push_told(
+    /// Appends a start or end line from its template.
+    fn push_hook(
         &mut self,
         start: Start,
-        latest: u64,
+        clock: u64,
         number: u32,
         change: &Change,
         step: StepKind,
-        told: ToldStep<'_>,
+        fields: HookFields<'_>,
     ) -> Result<(), AllocError>
-        requires in_time { latest ≤ last_moment }
-        requires id { IsPlainId (option_copied told.id) }
-        requires order { told.id_first ≡ false }
+        requires in_time { clock ≤ latest_second }
+        requires id { IsPlainId (option_copied fields.id) }
+        requires order { fields.id_first ≡ false }
         ensures ok { OnOk result (self.new ≡ self.old
-            ++ message_line (start + latest) (told_message change.now step (told_view told.entry))) }
+            ++ message_line (start + clock) (fields_message change.now step (hook_fields_view fields.entry))) }
         ensures err { OnErr result (self.new ≡ self.old) }
     {
-        let moment = start.seconds() + latest;
+        let timestamp = start.seconds() + clock;
         self.hooks
-            .put_hook(&mut self.scratch, change, step, number, moment, told)?;
+            .put_hook(&mut self.scratch, change, step, number, timestamp, fields)?;
         self.bytes
             .extend_from_slice(self.scratch.as_str().as_bytes())
     }
 
-    /// A writer behind the lines, which it takes along.
+    /// Starts a line after the others. The writer holds all lines until `end_line` takes them back.
     fn begin_line(&mut self) -> Writer
         ensures before { result.before ≡ self.old }
         ensures tokens { result.tokens ≡ [] }
@@ -255,7 +261,7 @@ impl LineBuffer {
         Writer::new(replace(&mut self.bytes, Vec::new(self.alloc)))
     }
 
-    /// Takes the lines back, with the new one where all of it was written.
+    /// Takes the lines back. Drops the new line when a part of it was not written.
     fn end_line(
         &mut self,
         out: Writer,
@@ -277,7 +283,7 @@ impl LineBuffer {
         }
     }
 
-    /// Ends the line, or takes it away from where it begins.
+    /// Appends a line feed. When memory is refused, drops all from `begin` on.
     fn push_line_feed(&mut self, begin: usize) -> Result<(), AllocError>
         requires { IsUtf8 (take begin self.old) }
         ensures ok { OnOk result (self.new ≡ self.old ++ 10 ∷ []) }

@@ -1,4 +1,6 @@
-//! The messages, written token by token into the buffer of a line. Each takes `scratch` for the texts that it puts together.
+//! Writes messages token by token into the buffer of a line. `scratch` is working memory for the
+//! texts of a message. Every `Err` means that memory was refused, and a part of the message may be
+//! written then.
 
 ghost use Rattle.std.specs.Prelude.{◌≡◌, ◌++◌, codes, string_bytes, OnOk};
 ghost use Rattle.apply_text.specs.declared.applied_step.AppliedStep.{AppliedStep};
@@ -9,8 +11,8 @@ ghost use Rattle.apply_text.specs.Sending.{Sends, data_tokens, member_tokens, me
 
 use crate::applied_step::{AppliedStep, DiagTexts};
 use crate::display::elapsed::Elapsed;
-use crate::display::id_note::IdNote;
-use crate::display::moment::Moment;
+use crate::display::id_suffix::IdSuffix;
+use crate::display::timestamp::UtcTimestamp;
 use crate::objects::changes_object::put_changes;
 use crate::objects::diagnostic_object::put_diagnostic;
 use crate::objects::hook_object::put_hook;
@@ -23,44 +25,48 @@ use apply_events::{Counts, What};
 use json::Writer;
 use std::alloc::AllocError;
 
-/// Writes the first message.
+/// Writes the version message.
 pub fn put_version(
     out: &mut Writer,
     scratch: &mut String,
-    moment: &Moment,
+    timestamp: &UtcTimestamp,
     version: &str,
 ) -> Result<(), AllocError>
     ensures { Sends result out.old out.new (data_tokens
-        (message_object (codes "info") (codes "Terraform " ++ version.now) moment.now (version_members version.now))) }
+        (message_object (codes "info") (codes "Terraform " ++ version.now) timestamp.now (version_members version.now))) }
 {
     scratch.clear();
     write!(scratch, "Terraform {version}")?;
-    begin_message(out, scratch, "info", moment)?;
+    begin_message(out, scratch, "info", timestamp)?;
     put_text(out, "terraform", version)?;
     put_text(out, "type", "version")?;
     put_text(out, "ui", "1.0")?;
     out.end_object()
 }
 
-/// Writes the last message.
+/// Writes the summary.
 pub fn put_summary(
     out: &mut Writer,
     scratch: &mut String,
-    moment: &Moment,
+    timestamp: &UtcTimestamp,
     operation: Operation,
     counts: &Counts,
 ) -> Result<(), AllocError>
     ensures { Sends result out.old out.new
-        (message_tokens moment.now (messages.summary_message operation counts.now)) }
+        (message_tokens timestamp.now (messages.summary_message operation counts.now)) }
 {
-    say_totals(scratch, operation, counts)?;
-    begin_message(out, scratch, "info", moment)?;
+    write_totals(scratch, operation, counts)?;
+    begin_message(out, scratch, "info", timestamp)?;
     put_changes(out, operation, counts)?;
     end_message(out, "change_summary")
 }
 
-/// What the summary says.
-fn say_totals(scratch: &mut String, operation: Operation, counts: &Counts) -> Result<(), AllocError>
+/// Replaces `scratch` by the text of the summary.
+fn write_totals(
+    scratch: &mut String,
+    operation: Operation,
+    counts: &Counts,
+) -> Result<(), AllocError>
     ensures { OnOk result (string_bytes scratch.new ≡ messages.totals_text operation counts.now) }
 {
     let added = counts.added;
@@ -80,20 +86,24 @@ fn say_totals(scratch: &mut String, operation: Operation, counts: &Counts) -> Re
 pub fn put_event(
     out: &mut Writer,
     scratch: &mut String,
-    moment: &Moment,
+    timestamp: &UtcTimestamp,
     step: AppliedStep<'_>,
     what: What,
 ) -> Result<(), AllocError>
-    ensures { Sends result out.old out.new (message_tokens moment.now (message_of step.entry what)) }
+    ensures { Sends result out.old out.new (message_tokens timestamp.now (message_of step.entry what)) }
 {
-    say_event(scratch, step, what)?;
-    begin_message(out, scratch, level(what), moment)?;
+    write_event_text(scratch, step, what)?;
+    begin_message(out, scratch, level(what), timestamp)?;
     put_body(out, scratch, step, what)?;
     end_message(out, type_name(what))
 }
 
-/// Puts what is said of an event into `scratch`, in the place of what stood there. `Err` where memory is refused.
-pub fn say_event(scratch: &mut String, step: AppliedStep<'_>, what: What) -> Result<(), AllocError>
+/// Replaces `scratch` by the text of an event's message.
+pub fn write_event_text(
+    scratch: &mut String,
+    step: AppliedStep<'_>,
+    what: What,
+) -> Result<(), AllocError>
     ensures { OnOk result (string_bytes scratch.new ≡ (message_of step.entry what).text) }
 {
     let address = step.change.address();
@@ -101,7 +111,7 @@ pub fn say_event(scratch: &mut String, step: AppliedStep<'_>, what: What) -> Res
     match what {
         What::Start => {
             let word = StepWords::new(step.kind).start;
-            let note = IdNote {
+            let note = IdSuffix {
                 id: step.start_id(),
             };
             write!(scratch, "{address}: {word}...{note}")
@@ -114,7 +124,7 @@ pub fn say_event(scratch: &mut String, step: AppliedStep<'_>, what: What) -> Res
         What::Complete(seconds) => {
             let noun = StepWords::new(step.kind).noun;
             let elapsed = Elapsed { seconds };
-            let note = IdNote { id: step.end_id() };
+            let note = IdSuffix { id: step.end_id() };
             write!(scratch, "{address}: {noun} complete after {elapsed}{note}")
         }
         What::Errored(seconds) => {
@@ -151,7 +161,7 @@ pub fn say_event(scratch: &mut String, step: AppliedStep<'_>, what: What) -> Res
     }
 }
 
-/// The level of the message of an event.
+/// The level of an event's message.
 pub fn level(what: What) -> &'static str
     ensures { (step : AppliedStep) → result.now ≡ (message_of step what).level }
 {
@@ -164,7 +174,7 @@ pub fn level(what: What) -> &'static str
     }
 }
 
-/// The type of the message of an event.
+/// The type of an event's message.
 pub fn type_name(what: What) -> &'static str
     ensures { (step : AppliedStep) → result.now ≡ (message_of step what).type_name }
 {
@@ -181,7 +191,7 @@ pub fn type_name(what: What) -> &'static str
     }
 }
 
-/// Writes the member of its own that the message of an event has.
+/// Writes the member that only messages of this type have: `hook` or `diagnostic`.
 fn put_body(
     out: &mut Writer,
     scratch: &mut String,

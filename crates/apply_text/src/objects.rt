@@ -1,4 +1,5 @@
-//! The JSON objects of messages, written token by token into the buffer of a line.
+//! The JSON objects of messages, written token by token into the buffer of a line. Every `Err`
+//! means that memory was refused.
 
 pub mod changes_object;
 pub mod diagnostic_object;

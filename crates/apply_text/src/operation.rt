@@ -1,19 +1,19 @@
-//! What an apply is for.
+//! The purpose of an apply: apply or destroy.
 
 ghost use Rattle.std.specs.Prelude.{◌≡◌};
 ghost use Rattle.apply_text.specs.Objects.{operation_word};
 
-/// What an apply is for, as its summary names it (Machine-Readable UI, "Change Summary").
+/// The purpose of an apply, as the summary names it (Machine-Readable UI, "Change Summary").
 #[derive(Clone, Copy, Debug, PartialEq, Eq)]
 pub enum Operation {
-    /// To make what is planned.
+    /// Makes the planned changes.
     Apply,
-    /// To destroy all that there is.
+    /// Destroys all objects.
     Destroy,
 }
 
 impl Operation {
-    /// The member `operation` of a summary.
+    /// The value of the summary's member `operation`.
     pub fn word(self) -> &'static str
         ensures { result.now ≡ operation_word self }
     {

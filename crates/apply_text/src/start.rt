@@ -1,18 +1,31 @@
-//! The moment at which an apply starts.
+//! The time at which an apply starts.
 
 ghost use Rattle.std.specs.Prelude.{◌≡◌, ◌<◌};
 ghost use Rattle.apply_text.specs.Start.{end_of_starts, start_at, start_of};
 
-use crate::moment_error::MomentError;
 use jiff::Timestamp;
 use std::marker::Model;
+use thiserror::Error;
 
-/// The first second after the last start: 9000-01-01T00:00:00Z, in nanoseconds since the start of 1970.
+/// The first second that is too late for a start: 9000-01-01T00:00:00Z, in nanoseconds since the
+/// start of 1970.
 const END_OF_STARTS: i128 = 221_845_392_000_000_000_000;
 
-/// The moment at which an apply starts: a whole second from 1970-01-01T00:00:00Z to 8999-12-31T23:59:59Z.
+/// Why a text gives no start of an apply.
+#[derive(Clone, Copy, Debug, Drop, Error, PartialEq, Eq)]
+pub enum MomentError {
+    /// The text is no instant (RFC 3339, section 5.6).
+    #[error("the moment is not a moment")]
+    NotAMoment,
+    /// The instant lies before 1970, or after 8999.
+    #[error("the moment is out of range")]
+    OutOfRange,
+}
+
+/// The time at which an apply starts: a whole second from 1970-01-01T00:00:00Z to
+/// 8999-12-31T23:59:59Z.
 ///
-/// Contracts see the number of seconds since 1970-01-01T00:00:00Z.
+/// Contracts see the seconds since 1970-01-01T00:00:00Z.
 #[derive(Clone, Copy, Debug, PartialEq, Eq)]
 pub struct Start {
     seconds: u64,
@@ -32,10 +45,11 @@ impl Model for Start {
 }
 
 impl Start {
-    /// The start that the text says, as an instant (RFC 3339, section 5.6, and what else `jiff` reads as one). A fraction
-    /// of a second is cut off.
+    /// Reads an instant (RFC 3339, section 5.6, and what else `jiff` accepts). Fractions of a
+    /// second are cut off.
     ///
-    /// `NotAMoment` where the text is no instant, `OutOfRange` where the instant lies before 1970 or after 8999.
+    /// `Err` with `NotAMoment` when the text is no instant, and with `OutOfRange` when the instant
+    /// lies before 1970 or after 8999.
     pub fn read(text: &str) -> Result<Start, MomentError>
         ensures { result ≡ start_of text.now }
     {
@@ -45,7 +59,8 @@ impl Start {
         }
     }
 
-    /// The start at an instant, in nanoseconds since the start of 1970. `Err` where it is out of range.
+    /// Checks an instant, given in nanoseconds since the start of 1970. `Err` with `OutOfRange`
+    /// when it lies before 1970 or after 8999.
     fn at(nanoseconds: i128) -> Result<Start, MomentError>
         ensures { result ≡ start_at nanoseconds }
     {

@@ -1,4 +1,4 @@
-//! The words that messages have for a step and for the phase of a hook.
+//! The words of messages for the kinds of steps and the phases of hooks.
 
 ghost use Rattle.std.specs.Prelude.{◌≡◌};
 ghost use Rattle.apply_text.specs.Words as words;
@@ -6,21 +6,21 @@ ghost use Rattle.apply_text.specs.Words as words;
 use apply_hooks::Phase;
 use apply_model::StepKind;
 
-/// The words that messages have for a step.
+/// The words of messages for a kind of step.
 #[derive(Clone, Copy, Drop)]
 pub struct StepWords {
     /// The member `action` of a hook.
     pub action: &'static str,
-    /// What the step is doing when it starts.
+    /// What a step does when it starts, as "Creating".
     pub start: &'static str,
-    /// What it is still doing.
+    /// What a step is still doing, as "creating".
     pub still: &'static str,
-    /// What is complete, or has failed, when it ends.
+    /// What completes or fails when a step ends, as "Creation".
     pub noun: &'static str,
 }
 
 impl StepWords {
-    /// Those for a step.
+    /// The words for a kind of step.
     pub fn new(step: StepKind) -> StepWords
         ensures action { result.action.now ≡ words.action_word step }
         ensures start { result.start.now ≡ words.start_word step }
@@ -42,7 +42,7 @@ impl StepWords {
     }
 }
 
-/// When a hook was asked.
+/// When the hook was asked, relative to the step.
 pub fn phase_words(phase: Phase) -> &'static str
     ensures { result.now ≡ words.phase_words phase }
 {

@@ -11,7 +11,7 @@ use Rattle.apply_model.specs.declared.details.output.Output.{Output}
 use Rattle.apply_text_terraform.specs.Escapes.{begins_with, escaped}
 use Rattle.apply_text_terraform.specs.Laws.{brackets, without_secret}
 use Rattle.apply_text_terraform.specs.Lines.{line_of, line_of_text, outputs_text}
-use Rattle.apply_text_terraform.specs.Moment.{fine_text}
+use Rattle.apply_text_terraform.specs.UtcTimestamp.{precise_timestamp_text}
 use Rattle.apply_text_terraform.specs.Outputs.{output_text, outputs_from, outputs_message}
 
 -- ---- brackets
@@ -19,7 +19,7 @@ use Rattle.apply_text_terraform.specs.Outputs.{output_text, outputs_from, output
 brackets-append : (xs ys : List ℕ) → brackets (xs ++ ys) ≡ brackets xs + brackets ys
 brackets-append xs ys = sum_by-append (λ byte. cond ((byte == 60) || (byte == 62) || (byte == 38)) 1 0) xs ys
 
--- where none is, none is behind two bytes
+-- a text without separators has none after its first two bytes
 brackets-drop : (text : List ℕ) → brackets text ≡ 0 → brackets (drop 2 text) ≡ 0
 brackets-drop [] none = refl
 brackets-drop (a ∷ []) none = refl
@@ -99,12 +99,12 @@ as_many : (outputs : List Output) → length outputs ≡ length (map without_sec
 as_many [] = refl
 as_many (output ∷ outputs) = omega (arith, as_many outputs)
 
-message_without : (moment : List ℕ) (outputs : List Output) → outputs_message moment outputs ≡ outputs_message moment (map without_secret outputs)
-message_without moment outputs =
-    ap₂ (λ n text. codes "{\"@level\":\"info\",\"@message\":\"Outputs: " ++ (decimal n ++ (codes "\",\"@module\":\"terraform.ui\",\"@timestamp\":\"" ++ (moment ++ (codes "\",\"outputs\":{" ++ (text ++ codes "},\"type\":\"outputs\"}"))))))
+message_without : (timestamp : List ℕ) (outputs : List Output) → outputs_message timestamp outputs ≡ outputs_message timestamp (map without_secret outputs)
+message_without timestamp outputs =
+    ap₂ (λ n text. codes "{\"@level\":\"info\",\"@message\":\"Outputs: " ++ (decimal n ++ (codes "\",\"@module\":\"terraform.ui\",\"@timestamp\":\"" ++ (timestamp ++ (codes "\",\"outputs\":{" ++ (text ++ codes "},\"type\":\"outputs\"}"))))))
     (as_many outputs) (all_without [] outputs)
 
-pub secrets : (start latest : ℕ) (one other : List Output) → map without_secret one ≡ map without_secret other → outputs_text start latest one ≡ outputs_text start latest other
-secrets start latest one other same =
-    let moment = fine_text (start + latest) in
-    ap line_of_text (message_without moment one ∙ ap (outputs_message moment) same ∙ sym (message_without moment other))
+pub secrets : (start clock : ℕ) (one other : List Output) → map without_secret one ≡ map without_secret other → outputs_text start clock one ≡ outputs_text start clock other
+secrets start clock one other same =
+    let timestamp = precise_timestamp_text (start + clock) in
+    ap line_of_text (message_without timestamp one ∙ ap (outputs_message timestamp) same ∙ sym (message_without timestamp other))

@@ -1,5 +1,5 @@
--- Where a text is cut before its escapes: the escapes of both parts are those of the whole, where the second does not go on
--- with a character of the first.
+-- Cutting a text before escaping. The escapes of both parts give the escapes of the whole, unless
+-- the cut lies within a character.
 use Rattle.std.proofs.Common.{◌≡◌, ℕ, ◌<◌, ◌≤◌, ◌==◌, ◌⊎◌, inl, inr, List, [], ◌∷◌, ◌++◌, codes, cond, drop, Bool, true, false, nat_lt, refl, sym, ap, ap₂, ◌∙◌, append_assoc, arith, ltb-true}
 use Rattle.std.specs.Prelude.{◌&&◌, ◌||◌, not, slice_index}
 use Rattle.std.specs.List.{list_all}
@@ -7,7 +7,7 @@ use Rattle.std.proofs.lemmas.Bool.{and_parts, ne_eqb}
 use Rattle.std.proofs.lemmas.List.Folds.{list_all-append}
 use Rattle.apply_text_terraform.specs.Escapes.{begins_with, escaped, escaped_onto, is_special}
 
--- no byte that goes on with a character is at the front of the text
+-- the text does not begin with a byte that continues a character
 abbrev pub Begins : List ℕ → Type 0
 Begins [] = Unit {0}
 Begins (byte ∷ bytes) = (byte < 128) ⊎ (192 ≤ byte)
@@ -33,7 +33,7 @@ begins_still (byte ∷ bytes) begins = of_tests (byte == 60) (byte == 62) (byte 
     of_tests false false false false true = inl (omega arith)
     of_tests false false false false false = begins
 
--- the two bytes that end a separator are seen in the first part alone
+-- whether a separator follows depends on the first part only
 seen : (second : ℕ) (u v : List ℕ) → Begins v → 128 ≤ second → second < 192 → begins_with 128 second (u ++ v) ≡ begins_with 128 second u
 seen second [] v begins least most = ap (λ t. t && (slice_index v 1 == second)) (not_first v 128 begins (omega arith) (omega arith))
 seen second (x ∷ []) v begins least most = ap (λ t. (x == 128) && t) (not_first v second begins least most ∙ sym (ne_eqb 0 second (λ e. omega (arith, e, least))))
@@ -48,7 +48,7 @@ dropped second [] v least e = absurd cc
 dropped second (x ∷ []) v least e = absurd (never (x == 128) (0 == second) (ne_eqb 0 second (λ z. omega (arith, z, least))) e)
 dropped second (x ∷ y ∷ u) v least e = refl
 
--- a byte before both parts
+-- puts a byte before both parts
 byte_before : (byte : ℕ) (u v : List ℕ) → Begins v → escaped_onto byte (u ++ v) ≡ escaped_onto byte u ++ v
 byte_before byte u v begins =
     ap₂ (λ d e. cond (byte == 60) (codes "\\u003c" ++ (u ++ v)) (cond (byte == 62) (codes "\\u003e" ++ (u ++ v)) (cond (byte == 38) (codes "\\u0026" ++ (u ++ v)) (cond ((byte == 226) && d) (codes "\\u2028" ++ drop 2 (u ++ v)) (cond ((byte == 226) && e) (codes "\\u2029" ++ drop 2 (u ++ v)) (byte ∷ (u ++ v)))))))
@@ -70,7 +70,7 @@ pub cut : (a b : List ℕ) → Begins b → escaped (a ++ b) ≡ escaped a ++ es
 cut [] b begins = refl
 cut (byte ∷ a) b begins = ap (escaped_onto byte) (cut a b begins) ∙ byte_before byte (escaped a) (escaped b) (begins_still b begins)
 
--- ---- texts that stand as they are, and between which a text may be cut
+-- ---- texts without escapes, between which a text may be cut
 
 abbrev pub is_plain : ℕ → Bool
 is_plain byte = nat_lt byte 128 && not (is_special byte)
@@ -119,7 +119,7 @@ both_begin (byte ∷ xs) ys first second = first
 in_a_row : (f e m d t rest : List ℕ) → ((f ++ (e ++ m)) ++ (d ++ t)) ++ rest ≡ f ++ ((e ++ (m ++ (d ++ t))) ++ rest)
 in_a_row f e m d t rest = simp append_assoc
 
--- of seven texts, one behind the other, two may have escapes
+-- of seven texts in a row, two may need escapes
 pub two_of_seven : (f e m d t b s z : List ℕ) → IsPlain e → IsPlain m → IsPlain d → IsPlain t → IsPlain s → IsPlain z → Begins (b ++ (s ++ z))
     → escaped (((f ++ (e ++ m)) ++ (d ++ t)) ++ (b ++ (s ++ z))) ≡ ((escaped f ++ (e ++ m)) ++ (d ++ t)) ++ (escaped b ++ (s ++ z))
 two_of_seven f e m d t b s z pe pm pd pt ps pz begins =

@@ -64,7 +64,7 @@ pub both_searches : (bracket separator : ℕ) (text : List ℕ) → list_any (is
     → list_any is_special (take separator (take bracket text)) ≡ false
 both_searches bracket separator text brackets separators = neither (take separator (take bracket text)) (none_in_front (is_byte3 60 62 38) separator (take bracket text) brackets) separators
 
--- the first bytes of a text, and those before what an earlier search found
+-- the first bytes of a text, and those before the match of an earlier search
 pub searched_front : (size bracket separator : ℕ) (text : List ℕ) → bracket ≤ length (take size text) → separator ≤ length (take bracket (take size text)) → size ≤ length text
     → list_any is_special (take separator (take bracket (take size text))) ≡ false → list_any is_special (take separator text) ≡ false
 searched_front size bracket separator text brackets separators within none =
@@ -75,17 +75,17 @@ searched_front size bracket separator text brackets separators within none =
 -- ---- what was appended
 
 -- a whole text that stands as it is
-pub plain_told : (old new text : List ℕ) (plain : ℕ) → plain ≡ length text → list_any is_special (take plain text) ≡ false → new ≡ old ++ take plain text → new ++ escaped (drop plain text) ≡ old ++ escaped text
-plain_told old new text plain is none grown =
+pub plain_written : (old new text : List ℕ) (plain : ℕ) → plain ≡ length text → list_any is_special (take plain text) ≡ false → new ≡ old ++ take plain text → new ++ escaped (drop plain text) ≡ old ++ escaped text
+plain_written old new text plain is none grown =
     ap (λ t. t ++ escaped (drop plain text)) grown ∙ append_assoc old (take plain text) (escaped (drop plain text)) ∙ ap (λ t. old ++ t) (sym (plain_front plain text none))
 
 to_end : (n : ℕ) (text : List ℕ) → take (length text - n) (drop n text) ≡ drop n text
 to_end n text = ap (λ k. take k (drop n text)) (sym (length-drop n text)) ∙ take-length (drop n text)
 
 -- bytes that stand as they are, and a character
-pub front_told : (old mid new piece text : List ℕ) (plain size : ℕ) → list_any is_special (take plain text) ≡ false → mid ≡ old ++ take plain text → new ≡ mid ++ piece
+pub front_written : (old mid new piece text : List ℕ) (plain size : ℕ) → list_any is_special (take plain text) ≡ false → mid ≡ old ++ take plain text → new ≡ mid ++ piece
     → piece ++ escaped (drop size (take (length text - plain) (drop plain text))) ≡ escaped (take (length text - plain) (drop plain text)) → new ++ escaped (drop (plain + size) text) ≡ old ++ escaped text
-front_told old mid new piece text plain size none begun grown told =
+front_written old mid new piece text plain size none begun grown fields =
     let rest = escaped (drop (plain + size) text) in
     ap (λ t. t ++ rest) (grown ∙ ap (λ t. t ++ piece) begun) ∙ append_assoc (old ++ take plain text) piece rest ∙ append_assoc old (take plain text) (piece ++ rest)
-    ∙ ap (λ t. old ++ t) (ap (λ t. take plain text ++ t) (ap (λ t. piece ++ escaped t) (sym (drop-drop size plain text)) ∙ ap (λ t. piece ++ escaped (drop size t)) (sym (to_end plain text)) ∙ told ∙ ap escaped (to_end plain text)) ∙ sym (plain_front plain text none))
+    ∙ ap (λ t. old ++ t) (ap (λ t. take plain text ++ t) (ap (λ t. piece ++ escaped t) (sym (drop-drop size plain text)) ∙ ap (λ t. piece ++ escaped (drop size t)) (sym (to_end plain text)) ∙ fields ∙ ap escaped (to_end plain text)) ∙ sym (plain_front plain text none))

@@ -1,4 +1,4 @@
--- What both forms say of an event in the same words.
+-- The texts that both forms write for an event in the same words.
 use Rattle.std.proofs.Common.{◌≡◌, ℕ, List, codes, Option, refl, ap, ◌∙◌}
 use Rattle.apply_model.specs.declared.script.diag.Diag.{Diag}
 use Rattle.apply_events.specs.declared.what.What.{What}

@@ -1,4 +1,4 @@
--- The pieces of a message that tells of a step's start or end are its text.
+-- The fixed texts of a start or end message give its text.
 use Rattle.std.proofs.Common.{◌≡◌, ℕ, ◌/◌, ◌%◌, inl, List, [], ◌∷◌, ◌++◌, codes, decimal, Option, option_map, Some, None, Bool, true, refl, sym, ap, ap₂, ◌∙◌, append_assoc, arith}
 use Rattle.std.specs.Prelude.{◌&&◌, if◌then◌else◌}
 use Rattle.std.specs.List.{list_all}
@@ -11,20 +11,20 @@ use Rattle.apply_model.specs.declared.plan.step_kind.StepKind.TheVariants.{Creat
 use Rattle.apply_model.specs.Plan.ResourceChange.{ResourceChange}
 use Rattle.apply_text.specs.declared.cached_parts.step_point.StepPoint.{StepPoint}
 use Rattle.apply_text.specs.declared.cached_parts.step_point.StepPoint.TheVariants.{Start, Complete, Errored}
-use Rattle.apply_text.specs.CachedParts.{KeptPieces, kept_step, open_date, time_of_day}
+use Rattle.apply_text.specs.CachedParts.{CachedPieces, shown_step, unterminated_date, time_of_day}
 use Rattle.apply_text.specs.HookLines as default
-use Rattle.apply_text.specs.HookLines.{Told, hook_front, hook_line, id_text, lead_text, point_type, seconds_text, seconds_words, told_members, told_message}
+use Rattle.apply_text.specs.HookLines.{HookFieldsView, hook_front, hook_line, id_text, lead_text, point_type, seconds_text, seconds_words, seconds_and_id_text, fields_message}
 use Rattle.apply_text.specs.Lines.{message_object, typed}
-use Rattle.apply_text.specs.Message.{complete_message, errored_message, id_note, start_message}
+use Rattle.apply_text.specs.Message.{complete_message, errored_message, id_suffix, start_message}
 use Rattle.apply_text.specs.Words.{action_word}
 use Rattle.apply_text.proofs.CachedTexts.{pieces_same}
-use Rattle.apply_text.proofs.HookLines.{complete_told, errored_told, in_lead, in_note, in_type, in_words, message_is, plain_text, said, same_id, start_told}
+use Rattle.apply_text.proofs.HookLines.{complete_fields, errored_fields, in_lead, in_id_suffix, in_type, in_words, message_is, plain_text, message_quoted, same_id, start_fields}
 use Rattle.apply_text.proofs.Progress.{in_action}
 use Rattle.apply_text_terraform.specs.Escapes.{escaped}
 use Rattle.apply_text_terraform.specs.HookLines.{IsPlainId, hook_middle, hook_pieces, hook_text, is_plain as is_plain_here}
 use Rattle.apply_text_terraform.specs.Lines.{line_of_text, message_line}
-use Rattle.apply_text_terraform.specs.Message.{told_as}
-use Rattle.apply_text_terraform.specs.Moment.{fine_text}
+use Rattle.apply_text_terraform.specs.Message.{with_body}
+use Rattle.apply_text_terraform.specs.UtcTimestamp.{precise_timestamp_text}
 use Rattle.apply_text_terraform.specs.Objects.{hook_object, resource_object}
 use Rattle.apply_text_terraform.proofs.Cuts.{Begins, IsPlain, both_plain, is_plain, two_of_seven}
 use Rattle.apply_text_terraform.proofs.Plain.{date_plain, decimal_plain, elapsed_plain, time_plain}
@@ -73,7 +73,7 @@ words_plain : (seconds : Option ℕ) → IsPlain (seconds_words seconds)
 words_plain None = refl
 words_plain (Some seconds) = elapsed_plain seconds
 
-note_plain : (id : Option (List ℕ)) → IsPlainId id → IsPlain (id_note id)
+note_plain : (id : Option (List ℕ)) → IsPlainId id → IsPlain (id_suffix id)
 note_plain None plain = refl
 note_plain (Some id) plain = both_plain (codes " [id=" ++ id) (codes "]") (both_plain (codes " [id=") id refl (in_form id plain)) refl
 
@@ -87,7 +87,7 @@ id_plain (Some id) plain = both_plain (codes ",\"id_key\":\"id\",\"id_value\":\"
 
 -- ---- the message
 
--- the object `hook`, and what stands behind it
+-- the object `hook`, and the text after it
 hook_escaped : (change : ResourceChange) (step : StepKind) (seconds : Option ℕ) (id : Option (List ℕ)) (rest : List ℕ)
     → compact_text (hook_object change step seconds id) ++ rest
     ≡ codes "{\"resource\":" ++ (compact_text (resource_object change) ++ (codes ",\"action\":" ++ (quoted (action_word step) ++ ((id_text (option_map escape id) ++ seconds_text seconds) ++ (codes "}" ++ rest)))))
@@ -104,66 +104,66 @@ hook_is change step seconds id rest plain =
     hook_escaped change step seconds id rest
     ∙ ap (λ i. codes "{\"resource\":" ++ (compact_text (resource_object change) ++ (codes ",\"action\":" ++ (quoted (action_word step) ++ ((i ++ seconds_text seconds) ++ (codes "}" ++ rest)))))) (same_id id plain)
 
-in_a_row : (a f lead words note m moment z h resource c action q members e kind g : List ℕ)
-    → (((a ++ f) ++ (lead ++ (words ++ (note ++ m)))) ++ moment) ++ ((z ++ (h ++ (resource ++ (c ++ (action ++ q))))) ++ (members ++ (e ++ (kind ++ g))))
-    ≡ a ++ (f ++ (lead ++ (words ++ (note ++ (m ++ (moment ++ (z ++ (h ++ (resource ++ (c ++ (action ++ (q ++ (members ++ (e ++ (kind ++ g)))))))))))))))
-in_a_row a f lead words note m moment z h resource c action q members e kind g = simp append_assoc
+in_a_row : (a f lead words note m timestamp z h resource c action q members e kind g : List ℕ)
+    → (((a ++ f) ++ (lead ++ (words ++ (note ++ m)))) ++ timestamp) ++ ((z ++ (h ++ (resource ++ (c ++ (action ++ q))))) ++ (members ++ (e ++ (kind ++ g))))
+    ≡ a ++ (f ++ (lead ++ (words ++ (note ++ (m ++ (timestamp ++ (z ++ (h ++ (resource ++ (c ++ (action ++ (q ++ (members ++ (e ++ (kind ++ g)))))))))))))))
+in_a_row a f lead words note m timestamp z h resource c action q members e kind g = simp append_assoc
 
-as_message : (a f lead words note q m moment z h b resource c action members e y kind x : List ℕ)
-    → a ++ ((f ++ (lead ++ (words ++ (note ++ q)))) ++ (m ++ ((moment ++ z) ++ (h ++ (b ++ (resource ++ (c ++ ((q ++ (action ++ q)) ++ (members ++ (e ++ (y ++ ((q ++ (kind ++ q)) ++ x))))))))))))
-    ≡ a ++ (f ++ (lead ++ (words ++ (note ++ (q ++ (m ++ (moment ++ (z ++ (h ++ (b ++ (resource ++ (c ++ (q ++ (action ++ (q ++ (members ++ (e ++ (y ++ (q ++ (kind ++ (q ++ x)))))))))))))))))))))
-as_message a f lead words note q m moment z h b resource c action members e y kind x = simp append_assoc
+as_message : (a f lead words note q m timestamp z h b resource c action members e y kind x : List ℕ)
+    → a ++ ((f ++ (lead ++ (words ++ (note ++ q)))) ++ (m ++ ((timestamp ++ z) ++ (h ++ (b ++ (resource ++ (c ++ ((q ++ (action ++ q)) ++ (members ++ (e ++ (y ++ ((q ++ (kind ++ q)) ++ x))))))))))))
+    ≡ a ++ (f ++ (lead ++ (words ++ (note ++ (q ++ (m ++ (timestamp ++ (z ++ (h ++ (b ++ (resource ++ (c ++ (q ++ (action ++ (q ++ (members ++ (e ++ (y ++ (q ++ (kind ++ (q ++ x)))))))))))))))))))))
+as_message a f lead words note q m timestamp z h b resource c action members e y kind x = simp append_assoc
 
-assembled : (front lead words note moment action members resource kind : List ℕ)
-    → (((codes "{\"@level\":\"info\",\"@message\":" ++ (34 ∷ front)) ++ (lead ++ (words ++ (note ++ codes "\",\"@module\":\"terraform.ui\",\"@timestamp\":")))) ++ moment) ++ ((codes ".000000Z\"" ++ (codes ",\"hook\":{" ++ ((codes "\"resource\":" ++ resource) ++ (codes ",\"action\":\"" ++ (action ++ codes "\""))))) ++ (members ++ (codes "},\"type\":\"" ++ (kind ++ codes "\"}"))))
-    ≡ codes "{\"@level\":\"info\",\"@message\":" ++ ((34 ∷ (front ++ (lead ++ (words ++ (note ++ 34 ∷ []))))) ++ (codes ",\"@module\":\"terraform.ui\",\"@timestamp\":" ++ ((moment ++ codes ".000000Z\"") ++ (codes ",\"hook\":" ++ (codes "{\"resource\":" ++ (resource ++ (codes ",\"action\":" ++ ((34 ∷ (action ++ 34 ∷ [])) ++ (members ++ (codes "}" ++ (codes ",\"type\":" ++ ((34 ∷ (kind ++ 34 ∷ [])) ++ codes "}"))))))))))))
-assembled front lead words note moment action members resource kind =
-    in_a_row (codes "{\"@level\":\"info\",\"@message\":") (34 ∷ front) lead words note (codes "\",\"@module\":\"terraform.ui\",\"@timestamp\":") moment (codes ".000000Z\"") (codes ",\"hook\":{") (codes "\"resource\":" ++ resource) (codes ",\"action\":\"") action (codes "\"") members (codes "},\"type\":\"") kind (codes "\"}")
-    ∙ sym (as_message (codes "{\"@level\":\"info\",\"@message\":") (34 ∷ front) lead words note (34 ∷ []) (codes ",\"@module\":\"terraform.ui\",\"@timestamp\":") moment (codes ".000000Z\"") (codes ",\"hook\":") (codes "{\"resource\":") resource (codes ",\"action\":") action members (codes "}") (codes ",\"type\":") kind (codes "}"))
+assembled : (front lead words note timestamp action members resource kind : List ℕ)
+    → (((codes "{\"@level\":\"info\",\"@message\":" ++ (34 ∷ front)) ++ (lead ++ (words ++ (note ++ codes "\",\"@module\":\"terraform.ui\",\"@timestamp\":")))) ++ timestamp) ++ ((codes ".000000Z\"" ++ (codes ",\"hook\":{" ++ ((codes "\"resource\":" ++ resource) ++ (codes ",\"action\":\"" ++ (action ++ codes "\""))))) ++ (members ++ (codes "},\"type\":\"" ++ (kind ++ codes "\"}"))))
+    ≡ codes "{\"@level\":\"info\",\"@message\":" ++ ((34 ∷ (front ++ (lead ++ (words ++ (note ++ 34 ∷ []))))) ++ (codes ",\"@module\":\"terraform.ui\",\"@timestamp\":" ++ ((timestamp ++ codes ".000000Z\"") ++ (codes ",\"hook\":" ++ (codes "{\"resource\":" ++ (resource ++ (codes ",\"action\":" ++ ((34 ∷ (action ++ 34 ∷ [])) ++ (members ++ (codes "}" ++ (codes ",\"type\":" ++ ((34 ∷ (kind ++ 34 ∷ [])) ++ codes "}"))))))))))))
+assembled front lead words note timestamp action members resource kind =
+    in_a_row (codes "{\"@level\":\"info\",\"@message\":") (34 ∷ front) lead words note (codes "\",\"@module\":\"terraform.ui\",\"@timestamp\":") timestamp (codes ".000000Z\"") (codes ",\"hook\":{") (codes "\"resource\":" ++ resource) (codes ",\"action\":\"") action (codes "\"") members (codes "},\"type\":\"") kind (codes "\"}")
+    ∙ sym (as_message (codes "{\"@level\":\"info\",\"@message\":") (34 ∷ front) lead words note (34 ∷ []) (codes ",\"@module\":\"terraform.ui\",\"@timestamp\":") timestamp (codes ".000000Z\"") (codes ",\"hook\":") (codes "{\"resource\":") resource (codes ",\"action\":") action members (codes "}") (codes ",\"type\":") kind (codes "}"))
 
-abbrev message_with : (said moment hook : List ℕ) → List ℕ
-message_with said moment hook = codes "{\"@level\":\"info\",\"@message\":" ++ (said ++ (codes ",\"@module\":\"terraform.ui\",\"@timestamp\":" ++ (moment ++ (codes ",\"hook\":" ++ hook))))
+abbrev message_with : (message_quoted timestamp hook : List ℕ) → List ℕ
+message_with message_quoted timestamp hook = codes "{\"@level\":\"info\",\"@message\":" ++ (message_quoted ++ (codes ",\"@module\":\"terraform.ui\",\"@timestamp\":" ++ (timestamp ++ (codes ",\"hook\":" ++ hook))))
 
 -- the texts before their escapes are those of the message
-pieces_are : (change : ResourceChange) (step : StepKind) (moment : ℕ) (told : Told) → default.IsPlainId told.id
-    → ((hook_front change.address ++ (lead_text told.point step ++ (seconds_words told.seconds ++ (id_note told.id ++ codes "\",\"@module\":\"terraform.ui\",\"@timestamp\":")))) ++ (open_date (moment / 86400) ++ time_of_day (moment % 86400)))
-    ++ (hook_middle change step ++ ((id_text told.id ++ seconds_text told.seconds) ++ (codes "},\"type\":\"" ++ (point_type told.point ++ codes "\"}"))))
-    ≡ hook_text moment change step told
+pieces_are : (change : ResourceChange) (step : StepKind) (timestamp : ℕ) (fields : HookFieldsView) → default.IsPlainId fields.id
+    → ((hook_front change.address ++ (lead_text fields.point step ++ (seconds_words fields.seconds ++ (id_suffix fields.id ++ codes "\",\"@module\":\"terraform.ui\",\"@timestamp\":")))) ++ (unterminated_date (timestamp / 86400) ++ time_of_day (timestamp % 86400)))
+    ++ (hook_middle change step ++ ((id_text fields.id ++ seconds_text fields.seconds) ++ (codes "},\"type\":\"" ++ (point_type fields.point ++ codes "\"}"))))
+    ≡ hook_text timestamp change step fields
 unfolding hook_front hook_middle
-pieces_are change step moment told plain =
+pieces_are change step timestamp fields plain =
     let front = escape change.address in
-    let lead = lead_text told.point step in
-    let words = seconds_words told.seconds in
-    let note = id_note told.id in
-    let kind = point_type told.point in
-    let second = open_date (moment / 86400) ++ time_of_day (moment % 86400) in
+    let lead = lead_text fields.point step in
+    let words = seconds_words fields.seconds in
+    let note = id_suffix fields.id in
+    let kind = point_type fields.point in
+    let second = unterminated_date (timestamp / 86400) ++ time_of_day (timestamp % 86400) in
     let action = action_word step in
-    let members = id_text told.id ++ seconds_text told.seconds in
+    let members = id_text fields.id ++ seconds_text fields.seconds in
     let resource = compact_text (resource_object change) in
-    let body = hook_object change step told.seconds told.id in
-    let text = (told_message change step told).text in
+    let body = hook_object change step fields.seconds fields.id in
+    let text = (fields_message change step fields).text in
     let rest = codes ",\"type\":" ++ (quoted kind ++ codes "}") in
     let quoted_text = 34 ∷ (front ++ (lead ++ (words ++ (note ++ 34 ∷ [])))) in
-    let texts : quoted_text ≡ quoted text = sym (said change.address lead words note (in_lead told.point step) (in_words told.seconds) (in_note told.id plain)) in
-    let kinds : 34 ∷ (kind ++ 34 ∷ []) ≡ quoted kind = ap (λ t. 34 ∷ (t ++ 34 ∷ [])) (sym (in_type told.point)) in
+    let texts : quoted_text ≡ quoted text = sym (message_quoted change.address lead words note (in_lead fields.point step) (in_words fields.seconds) (in_id_suffix fields.id plain)) in
+    let kinds : 34 ∷ (kind ++ 34 ∷ []) ≡ quoted kind = ap (λ t. 34 ∷ (t ++ 34 ∷ [])) (sym (in_type fields.point)) in
     let hook = codes "{\"resource\":" ++ (resource ++ (codes ",\"action\":" ++ ((34 ∷ (action ++ 34 ∷ [])) ++ (members ++ (codes "}" ++ (codes ",\"type\":" ++ ((34 ∷ (kind ++ 34 ∷ [])) ++ codes "}"))))))) in
     let hooks : hook ≡ compact_text body ++ rest =
     ap (λ a. codes "{\"resource\":" ++ (resource ++ (codes ",\"action\":" ++ (a ++ (members ++ (codes "}" ++ (codes ",\"type\":" ++ ((34 ∷ (kind ++ 34 ∷ [])) ++ codes "}")))))))) (sym (in_action step))
     ∙ ap (λ k. codes "{\"resource\":" ++ (resource ++ (codes ",\"action\":" ++ (quoted action ++ (members ++ (codes "}" ++ (codes ",\"type\":" ++ (k ++ codes "}")))))))) kinds
-    ∙ sym (hook_is change step told.seconds told.id rest plain) in
+    ∙ sym (hook_is change step fields.seconds fields.id rest plain) in
     assembled front lead words note second action members resource kind
     ∙ ap (λ s. message_with s (second ++ codes ".000000Z\"") hook) texts
-    ∙ ap (λ t. message_with (quoted text) t hook) (fine_is moment)
-    ∙ ap (λ h. message_with (quoted text) (quoted (fine_text moment)) h) hooks
-    ∙ sym (message_is text (fine_text moment) kind body)
+    ∙ ap (λ t. message_with (quoted text) t hook) (fine_is timestamp)
+    ∙ ap (λ h. message_with (quoted text) (quoted (precise_timestamp_text timestamp)) h) hooks
+    ∙ sym (message_is text (precise_timestamp_text timestamp) kind body)
 
 -- ---- the line
 
-own_order : (told : Told) → told.id_first ≡ true → told_members told ≡ id_text told.id ++ seconds_text told.seconds
-own_order told order = ap (λ (first : Bool). if first then id_text told.id ++ seconds_text told.seconds else (seconds_text told.seconds ++ id_text told.id)) order
+own_order : (fields : HookFieldsView) → fields.id_first ≡ true → seconds_and_id_text fields ≡ id_text fields.id ++ seconds_text fields.seconds
+own_order fields order = ap (λ (first : Bool). if first then id_text fields.id ++ seconds_text fields.seconds else (seconds_text fields.seconds ++ id_text fields.id)) order
 
--- what is kept of a change shows as the change does
-middle_shown : (change : ResourceChange) (step : StepKind) → hook_middle (kept_step change step).change step ≡ hook_middle change step
+-- the shown fields of a change give the same texts as the change
+middle_shown : (change : ResourceChange) (step : StepKind) → hook_middle (shown_step change step).change step ≡ hook_middle change step
 unfolding hook_middle resource_object
 middle_shown change step = refl
 
@@ -174,53 +174,53 @@ middle_begins change step rest = inl (omega arith)
 with_feed : (x b members e kind g : List ℕ) → x ++ (b ++ (members ++ (e ++ (kind ++ (g ++ 10 ∷ []))))) ≡ (x ++ (b ++ (members ++ (e ++ (kind ++ g))))) ++ 10 ∷ []
 with_feed x b members e kind g = simp append_assoc
 
--- the texts that are kept, their escapes done, give the line
-pub line_is : (change : ResourceChange) (step : StepKind) (moment : ℕ) (told : Told) → IsPlainId told.id → told.id_first ≡ true
-    → hook_line (hook_pieces (kept_step change step)) step moment told ≡ line_of_text (hook_text moment change step told)
-line_is change step moment told plain order =
+-- the cached texts, with escapes, give the line
+pub line_is : (change : ResourceChange) (step : StepKind) (timestamp : ℕ) (fields : HookFieldsView) → IsPlainId fields.id → fields.id_first ≡ true
+    → hook_line (hook_pieces (shown_step change step)) step timestamp fields ≡ line_of_text (hook_text timestamp change step fields)
+line_is change step timestamp fields plain order =
     let f = hook_front change.address in
-    let lead = lead_text told.point step in
-    let words = seconds_words told.seconds in
-    let note = id_note told.id in
+    let lead = lead_text fields.point step in
+    let words = seconds_words fields.seconds in
+    let note = id_suffix fields.id in
     let m = codes "\",\"@module\":\"terraform.ui\",\"@timestamp\":" in
-    let d = open_date (moment / 86400) in
-    let t = time_of_day (moment % 86400) in
+    let d = unterminated_date (timestamp / 86400) in
+    let t = time_of_day (timestamp % 86400) in
     let b = hook_middle change step in
-    let members = id_text told.id ++ seconds_text told.seconds in
+    let members = id_text fields.id ++ seconds_text fields.seconds in
     let e = codes "},\"type\":\"" in
-    let kind = point_type told.point in
+    let kind = point_type fields.point in
     let begun = (escaped f ++ (lead ++ (words ++ (note ++ m)))) ++ (d ++ t) in
-    let tail_plain : IsPlain (words ++ (note ++ m)) = both_plain words (note ++ m) (words_plain told.seconds) (both_plain note m (note_plain told.id plain) refl) in
-    let members_plain : IsPlain members = both_plain (id_text told.id) (seconds_text told.seconds) (id_plain told.id plain) (seconds_plain told.seconds) in
-    let end_plain : IsPlain (e ++ (kind ++ codes "\"}")) = both_plain e (kind ++ codes "\"}") refl (both_plain kind (codes "\"}") (type_plain told.point) refl) in
-    ap₂ (λ b ms. begun ++ (escaped b ++ (ms ++ (e ++ (kind ++ (codes "\"}" ++ 10 ∷ [])))))) (middle_shown change step) (own_order told order)
+    let tail_plain : IsPlain (words ++ (note ++ m)) = both_plain words (note ++ m) (words_plain fields.seconds) (both_plain note m (note_plain fields.id plain) refl) in
+    let members_plain : IsPlain members = both_plain (id_text fields.id) (seconds_text fields.seconds) (id_plain fields.id plain) (seconds_plain fields.seconds) in
+    let end_plain : IsPlain (e ++ (kind ++ codes "\"}")) = both_plain e (kind ++ codes "\"}") refl (both_plain kind (codes "\"}") (type_plain fields.point) refl) in
+    ap₂ (λ b ms. begun ++ (escaped b ++ (ms ++ (e ++ (kind ++ (codes "\"}" ++ 10 ∷ [])))))) (middle_shown change step) (own_order fields order)
     ∙ with_feed begun (escaped b) members e kind (codes "\"}")
     ∙ ap (λ x. x ++ 10 ∷ [])
-    (sym (two_of_seven f lead (words ++ (note ++ m)) d t b members (e ++ (kind ++ codes "\"}")) (lead_plain told.point step) tail_plain (date_plain (moment / 86400)) (time_plain (moment % 86400) (omega arith)) members_plain end_plain (middle_begins change step (members ++ (e ++ (kind ++ codes "\"}")))))
-    ∙ ap escaped (pieces_are change step moment told (plain_id told.id plain)))
+    (sym (two_of_seven f lead (words ++ (note ++ m)) d t b members (e ++ (kind ++ codes "\"}")) (lead_plain fields.point step) tail_plain (date_plain (timestamp / 86400)) (time_plain (timestamp % 86400) (omega arith)) members_plain end_plain (middle_begins change step (members ++ (e ++ (kind ++ codes "\"}")))))
+    ∙ ap escaped (pieces_are change step timestamp fields (plain_id fields.id plain)))
 
--- ---- what is told of an event
+-- ---- the fields of an event's message
 
-abbrev line_with : (seconds : ℕ) → ResourceChange → StepKind → Told → (text : List ℕ) → List ℕ
-line_with seconds change step told text =
-    line_of_text (compact_text (message_object (codes "info") text (fine_text seconds) (typed (codes "hook") (hook_object change step told.seconds told.id) (point_type told.point))))
+abbrev line_with : (seconds : ℕ) → ResourceChange → StepKind → HookFieldsView → (text : List ℕ) → List ℕ
+line_with seconds change step fields text =
+    line_of_text (compact_text (message_object (codes "info") text (precise_timestamp_text seconds) (typed (codes "hook") (hook_object change step fields.seconds fields.id) (point_type fields.point))))
 
-pub start_is : (seconds : ℕ) (change : ResourceChange) (step : StepKind) (id : Option (List ℕ)) (told : Told) → told ≡ record { point = Start; seconds = None; id = id; id_first = true }
-    → message_line seconds (told_as (start_message change step id) (hook_object change step None id)) ≡ line_of_text (hook_text seconds change step told)
-start_is seconds change step id told is =
-    ap (line_with seconds change step (record { point = Start; seconds = None; id = id; id_first = true })) (ap (λ m. m.text) (start_told change step id)) ∙ ap (λ t. line_of_text (hook_text seconds change step t)) (sym is)
+pub start_is : (seconds : ℕ) (change : ResourceChange) (step : StepKind) (id : Option (List ℕ)) (fields : HookFieldsView) → fields ≡ record { point = Start; seconds = None; id = id; id_first = true }
+    → message_line seconds (with_body (start_message change step id) (hook_object change step None id)) ≡ line_of_text (hook_text seconds change step fields)
+start_is seconds change step id fields is =
+    ap (line_with seconds change step (record { point = Start; seconds = None; id = id; id_first = true })) (ap (λ m. m.text) (start_fields change step id)) ∙ ap (λ t. line_of_text (hook_text seconds change step t)) (sym is)
 
-pub complete_is : (seconds : ℕ) (change : ResourceChange) (step : StepKind) (took : ℕ) (id : Option (List ℕ)) (told : Told) → told ≡ record { point = Complete; seconds = Some took; id = id; id_first = true }
-    → message_line seconds (told_as (complete_message change step took id) (hook_object change step (Some took) id)) ≡ line_of_text (hook_text seconds change step told)
-complete_is seconds change step took id told is =
-    ap (line_with seconds change step (record { point = Complete; seconds = Some took; id = id; id_first = true })) (ap (λ m. m.text) (complete_told change step took id)) ∙ ap (λ t. line_of_text (hook_text seconds change step t)) (sym is)
+pub complete_is : (seconds : ℕ) (change : ResourceChange) (step : StepKind) (took : ℕ) (id : Option (List ℕ)) (fields : HookFieldsView) → fields ≡ record { point = Complete; seconds = Some took; id = id; id_first = true }
+    → message_line seconds (with_body (complete_message change step took id) (hook_object change step (Some took) id)) ≡ line_of_text (hook_text seconds change step fields)
+complete_is seconds change step took id fields is =
+    ap (line_with seconds change step (record { point = Complete; seconds = Some took; id = id; id_first = true })) (ap (λ m. m.text) (complete_fields change step took id)) ∙ ap (λ t. line_of_text (hook_text seconds change step t)) (sym is)
 
-pub errored_is : (seconds : ℕ) (change : ResourceChange) (step : StepKind) (took : ℕ) (told : Told) → told ≡ record { point = Errored; seconds = Some took; id = None; id_first = true }
-    → message_line seconds (told_as (errored_message change step took) (hook_object change step (Some took) None)) ≡ line_of_text (hook_text seconds change step told)
-errored_is seconds change step took told is =
-    ap (line_with seconds change step (record { point = Errored; seconds = Some took; id = None; id_first = true })) (ap (λ m. m.text) (errored_told change step took)) ∙ ap (λ t. line_of_text (hook_text seconds change step t)) (sym is)
+pub errored_is : (seconds : ℕ) (change : ResourceChange) (step : StepKind) (took : ℕ) (fields : HookFieldsView) → fields ≡ record { point = Errored; seconds = Some took; id = None; id_first = true }
+    → message_line seconds (with_body (errored_message change step took) (hook_object change step (Some took) None)) ≡ line_of_text (hook_text seconds change step fields)
+errored_is seconds change step took fields is =
+    ap (line_with seconds change step (record { point = Errored; seconds = Some took; id = None; id_first = true })) (ap (λ m. m.text) (errored_fields change step took)) ∙ ap (λ t. line_of_text (hook_text seconds change step t)) (sym is)
 
--- ---- what is kept
+-- ---- templates
 
 pieces_in_a_row : (a b c d e : List ℕ) → (((a ++ b) ++ c) ++ d) ++ e ≡ a ++ (b ++ (c ++ (d ++ e)))
 pieces_in_a_row a b c d e = simp append_assoc
@@ -233,8 +233,8 @@ middle_is s₁ s₂ s₃ s₄ new action change step first second third fourth a
     fifth ∙ ap (λ s. s ++ codes "\"") (fourth ∙ ap₂ (λ s a. s ++ a) (third ∙ ap (λ s. s ++ codes ",\"action\":\"") (second ∙ ap (λ s. s ++ resource) first)) actions)
     ∙ pieces_in_a_row (codes ".000000Z\",\"hook\":{") resource (codes ",\"action\":\"") (action_word step) (codes "\"")
 
-pub pieces_of : (kept : KeptPieces) (change : ResourceChange) (step : StepKind) → kept.step ≡ kept_step change step → kept.pieces.front ≡ escaped (hook_front change.address) → kept.pieces.middle ≡ escaped (hook_middle change step)
-    → kept.pieces.back ≡ codes "},\"type\":\"" → kept.pieces ≡ hook_pieces kept.step
-pieces_of kept change step is fronts middles backs =
-    pieces_same kept.pieces (escaped (hook_front change.address)) (escaped (hook_middle (kept_step change step).change step)) (codes "},\"type\":\"") fronts (middles ∙ ap escaped (sym (middle_shown change step))) backs
+pub pieces_of : (cached : CachedPieces) (change : ResourceChange) (step : StepKind) → cached.step ≡ shown_step change step → cached.pieces.front ≡ escaped (hook_front change.address) → cached.pieces.middle ≡ escaped (hook_middle change step)
+    → cached.pieces.back ≡ codes "},\"type\":\"" → cached.pieces ≡ hook_pieces cached.step
+pieces_of cached change step is fronts middles backs =
+    pieces_same cached.pieces (escaped (hook_front change.address)) (escaped (hook_middle (shown_step change step).change step)) (codes "},\"type\":\"") fronts (middles ∙ ap escaped (sym (middle_shown change step))) backs
     ∙ sym (ap hook_pieces is)

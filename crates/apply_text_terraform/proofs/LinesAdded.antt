@@ -11,13 +11,13 @@ use Rattle.apply_text.specs.Lines.{message_object, typed}
 use Rattle.apply_text.specs.Message.{Message}
 use Rattle.apply_text.specs.Sending.{data_tokens}
 use Rattle.apply_text_terraform.specs.Lines.{line_of, line_of_text, message_line, version_members, version_text}
-use Rattle.apply_text_terraform.specs.Moment.{fine_text}
+use Rattle.apply_text_terraform.specs.UtcTimestamp.{precise_timestamp_text}
 
 pub known : {E : Type 0} {P : Type 0} (w : Result (Unit {0}) E) → IsOk w → OnOk w P → P
 known (Ok u) ok h = h
 known (Err e) ok h = absurd cc
 
--- the tokens of an object, behind other lines, are the object's line
+-- the tokens of an object, after other lines, are the object's line
 pub line_added : {E F : Type 0} (r : Result (Unit {0}) E) (w : Result (Unit {0}) F) (old before new wanted : List ℕ) (start tokens : List Token) (d : Data)
     → before ≡ old
     → start ≡ []
@@ -33,15 +33,15 @@ line_added r w old before new wanted start tokens d same none sent ended is =
 -- ---- the objects that are written are those of the defined lines
 
 -- the object of a message
-abbrev pub object_of : (moment : List ℕ) → Message → Data
-object_of moment message = message_object message.level message.text moment (typed message.name message.body message.type_name)
+abbrev pub object_of : (timestamp : List ℕ) → Message → Data
+object_of timestamp message = message_object message.level message.text timestamp (typed message.name message.body message.type_name)
 
-pub version_is : (plan : SavedPlan) (start : ℕ) (version moment : List ℕ) → version ≡ plan.version → moment ≡ fine_text (start + 0) → line_of (message_object (codes "info") (codes "Terraform " ++ version) moment (version_members version)) ≡ version_text plan start
-version_is plan start version moment versions moments = rw (versions, moments, add-zero start) refl
+pub version_is : (plan : SavedPlan) (start : ℕ) (version timestamp : List ℕ) → version ≡ plan.version → timestamp ≡ precise_timestamp_text (start + 0) → line_of (message_object (codes "info") (codes "Terraform " ++ version) timestamp (version_members version)) ≡ version_text plan start
+version_is plan start version timestamp versions moments = rw (versions, moments, add-zero start) refl
 
-pub message_is : (seconds : ℕ) (moment : List ℕ) (message : Message) → moment ≡ fine_text seconds → line_of (object_of moment message) ≡ message_line seconds message
-message_is seconds moment message moments = ap (λ m. line_of (object_of m message)) moments
+pub message_is : (seconds : ℕ) (timestamp : List ℕ) (message : Message) → timestamp ≡ precise_timestamp_text seconds → line_of (object_of timestamp message) ≡ message_line seconds message
+message_is seconds timestamp message moments = ap (λ m. line_of (object_of m message)) moments
 
--- the same at the start
-pub first_is : (start : ℕ) (moment : List ℕ) (message : Message) → moment ≡ fine_text (start + 0) → line_of (object_of moment message) ≡ message_line start message
-first_is start moment message moments = message_is start moment message (moments ∙ ap fine_text (add-zero start))
+-- the line of a message at the start
+pub first_is : (start : ℕ) (timestamp : List ℕ) (message : Message) → timestamp ≡ precise_timestamp_text (start + 0) → line_of (object_of timestamp message) ≡ message_line start message
+first_is start timestamp message moments = message_is start timestamp message (moments ∙ ap precise_timestamp_text (add-zero start))

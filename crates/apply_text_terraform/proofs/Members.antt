@@ -22,7 +22,7 @@ importing_first None others = refl
 importing_first (Some importing) others =
     ap (λ tokens. key (codes "importing") ∷ begin_object ∷ (tokens ++ members_tokens (members_outline others))) (text_first (codes "id") importing.id no_members)
 
--- what stands behind the action of a change that is planned
+-- the text after the action of a planned change
 pub details_first : (reason : Option (List ℕ)) (importing : Option Importing) (config : Option (List ℕ))
     → text_tokens (codes "reason") reason ++ (importing_tokens importing ++ (text_tokens (codes "generated_config") config ++ end_object ∷ []))
     ≡ members_tokens (members_outline (text_if (codes "reason") reason (importing_member importing (text_if (codes "generated_config") config no_members))))

@@ -1,4 +1,4 @@
--- Numbers and moments have no escapes.
+-- Numbers and timestamps need no escapes.
 use Rattle.std.proofs.Common.{◌≡◌, ℕ, zero, suc, ◌+◌, ◌/◌, ◌%◌, ◌<◌, ◌≤◌, ◌==◌, List, [], ◌∷◌, ◌++◌, codes, cond, decimal, nat_lt, slice_get, Bool, true, false, refl, ap₂, arith}
 use Rattle.std.specs.Prelude.{◌&&◌, ◌||◌, not}
 use Rattle.std.specs.Fmt.{digit_glyph, digits, digits_onto}
@@ -10,9 +10,9 @@ use Rattle.std.proofs.lemmas.Grind.{common_steps}
 use Rattle.json.specs.Print.{escape, escape_byte}
 use Rattle.json.proofs.Printed.Strings.{escape_byte_plain}
 use Rattle.apply_text.specs.Calendar.{CivilDate, date_of_day, dates}
-use Rattle.apply_text.specs.CachedParts.{open_date, time_of_day}
+use Rattle.apply_text.specs.CachedParts.{unterminated_date, time_of_day}
 use Rattle.apply_text.specs.Elapsed.{elapsed_of, minutes_text, seconds_text}
-use Rattle.apply_text.specs.Moment.{date_text, two_digits}
+use Rattle.apply_text.specs.UtcTimestamp.{date_text, two_digits}
 use Rattle.apply_text.proofs.ShortDates.{IsShort, dates_short}
 use Rattle.apply_text_terraform.proofs.Cuts.{IsPlain, both_plain, is_plain}
 
@@ -68,7 +68,7 @@ elapsed_plain seconds = either (nat_lt seconds 60) (nat_lt seconds 3600)
     either false true = minutes
     either false false = hours
 
--- ---- moments
+-- ---- timestamps
 
 two_plain : (n : ℕ) → n < 100 → IsPlain (two_digits n)
 two_plain n few = one_plain (48 + n / 10) (omega arith) (omega arith) ((48 + n % 10) ∷ []) (one_plain (48 + n % 10) (omega arith) (omega arith) [] refl)
@@ -125,6 +125,6 @@ at_day [] n h = tt
 at_day (d ∷ ds) zero h = short_figures d h.0
 at_day (d ∷ ds) (suc n) h = at_day ds n h.1
 
-pub date_plain : (day : ℕ) → IsPlain (open_date day)
-unfolding open_date
+pub date_plain : (day : ℕ) → IsPlain (unterminated_date day)
+unfolding unterminated_date
 date_plain day = both_plain (34 ∷ []) (escape (option_map_or date_text (date_of_day day) [])) refl (in_json (option_map_or date_text (date_of_day day) []) (at_day dates day dates_short))

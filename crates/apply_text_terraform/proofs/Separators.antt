@@ -9,13 +9,13 @@ or_right : (a b : Bool) → (a || b) ≡ false → b ≡ false
 or_right true b e = absurd cc
 or_right false b e = e
 
--- neither of two holds beside the first
+-- a flag that excludes two conditions one by one excludes both at once
 neither : (p a b : Bool) → (p && a) ≡ false → (p && b) ≡ false → (p && (a || b)) ≡ false
 neither false a b h k = refl
 neither true true b h k = h
 neither true false b h k = k
 
--- where none is, none is behind two bytes
+-- a text without separators has none after its first two bytes
 separator-drop : (text : List ℕ) → has_separator text ≡ false → has_separator (drop 2 text) ≡ false
 separator-drop [] none = refl
 separator-drop (a ∷ []) none = refl

@@ -17,36 +17,36 @@ filled (Err e) old new piece wanted empty grown is = tt
 pub planned_text : (old new address change_address word : List ℕ) → old ≡ [] → new ≡ old ++ (address ++ (codes ": Plan to " ++ word)) → address ≡ change_address → new ≡ change_address ++ codes ": Plan to " ++ word
 planned_text old new address change_address word empty grown is = grown ∙ rw (empty, is) (simp append_assoc)
 
--- what is said of no step
+-- the text of a diagnostic of no step
 pub note_text : (old new label label₂ summary summary₂ : List ℕ) → old ≡ [] → new ≡ old ++ (label ++ (codes ": " ++ summary)) → label ≡ label₂ → summary ≡ summary₂ → new ≡ label₂ ++ codes ": " ++ summary₂
 note_text old new label label₂ summary summary₂ empty grown labels summaries = grown ∙ rw (empty, labels, summaries) (simp append_assoc)
 
 -- ---- the summary
 
--- the totals behind what is said of imports
+-- the totals after the imports
 abbrev totals_behind : (imports : List ℕ) → Counts → List ℕ
 totals_behind imports counts =
     codes "Apply complete! Resources: " ++ imports ++ decimal counts.added ++ codes " added, "
     ++ decimal counts.changed ++ codes " changed, "
     ++ decimal counts.removed ++ codes " destroyed."
 
-nothing_said : (imported : ℕ) → imported ≡ 0 → [] ≡ imported_text imported
-nothing_said imported is = sym (ap imported_text is)
+nothing_stated : (imported : ℕ) → imported ≡ 0 → [] ≡ imported_text imported
+nothing_stated imported is = sym (ap imported_text is)
 
-imports_said : (imported : ℕ) → (imported ≡ 0 → ⊥) → decimal imported ++ codes " imported, " ≡ imported_text imported
-imports_said imported is = sym (ap (λ b. cond b [] (decimal imported ++ codes " imported, ")) (ne_eqb imported 0 is))
+imports_stated : (imported : ℕ) → (imported ≡ 0 → ⊥) → decimal imported ++ codes " imported, " ≡ imported_text imported
+imports_stated imported is = sym (ap (λ b. cond b [] (decimal imported ++ codes " imported, ")) (ne_eqb imported 0 is))
 
 pub none_imported : (counts : Counts) (imported : ℕ) → imported ≡ 0
     → codes "Apply complete! Resources: " ++ (decimal counts.added ++ (codes " added, " ++ (decimal counts.changed ++ (codes " changed, " ++ (decimal counts.removed ++ codes " destroyed."))))) ≡ summary_words Apply counts imported
 none_imported counts imported is =
     let same : codes "Apply complete! Resources: " ++ (decimal counts.added ++ (codes " added, " ++ (decimal counts.changed ++ (codes " changed, " ++ (decimal counts.removed ++ codes " destroyed."))))) ≡ totals_behind [] counts = simp append_assoc in
-    same ∙ ap (λ imports. totals_behind imports counts) (nothing_said imported is)
+    same ∙ ap (λ imports. totals_behind imports counts) (nothing_stated imported is)
 
 pub some_imported : (counts : Counts) (imported : ℕ) → (imported ≡ 0 → ⊥)
     → codes "Apply complete! Resources: " ++ (decimal imported ++ (codes " imported, " ++ (decimal counts.added ++ (codes " added, " ++ (decimal counts.changed ++ (codes " changed, " ++ (decimal counts.removed ++ codes " destroyed."))))))) ≡ summary_words Apply counts imported
 some_imported counts imported is =
     let same : codes "Apply complete! Resources: " ++ (decimal imported ++ (codes " imported, " ++ (decimal counts.added ++ (codes " added, " ++ (decimal counts.changed ++ (codes " changed, " ++ (decimal counts.removed ++ codes " destroyed."))))))) ≡ totals_behind (decimal imported ++ codes " imported, ") counts = simp append_assoc in
-    same ∙ ap (λ imports. totals_behind imports counts) (imports_said imported is)
+    same ∙ ap (λ imports. totals_behind imports counts) (imports_stated imported is)
 
 -- ---- what a writer of nothing else wrote
 

@@ -47,7 +47,7 @@ other_byte byte text high is =
     let other : (byte == 226) ≡ false = ne_eqb byte 226 is in
     stays byte text high (ap (λ b. b && begins_with 128 168 text) other) (ap (λ b. b && begins_with 128 169 text) other)
 
--- a byte behind the first of a character
+-- a byte after the first of a character
 later_byte : (bits : ℕ) (text : List ℕ) → escaped_onto (128 + bits % 64) text ≡ (128 + bits % 64) ∷ text
 later_byte bits text = other_byte (128 + bits % 64) text (omega arith) (λ e. omega (arith, e))
 
@@ -94,18 +94,18 @@ char_stays c high line paragraph = of_tests (nat_lt c 128) (nat_lt c 2048) (nat_
 
 -- ---- any character
 
--- what is told of the bytes below n is ASCII
-abbrev told_below : ℕ → Bool
-told_below zero = true
-told_below (suc n) = are_ascii (escaped (n ∷ [])) && told_below n
+-- the escapes of the bytes below n are ASCII
+abbrev written_below : ℕ → Bool
+written_below zero = true
+written_below (suc n) = are_ascii (escaped (n ∷ [])) && written_below n
 
-below : (n : ℕ) → told_below n ≡ true → (c : ℕ) → c < n → are_ascii (escaped (c ∷ [])) ≡ true
+below : (n : ℕ) → written_below n ≡ true → (c : ℕ) → c < n → are_ascii (escaped (c ∷ [])) ≡ true
 below zero e c h = absurd (omega arith)
 below (suc n) e c h =
     let p = and_parts _ _ e in
     elim (cases_eq c n) [ inl same ↦ rw same p.0 | inr other ↦ below n p.1 c (omega arith) ]
 
-all_ascii : told_below 128 ≡ true
+all_ascii : written_below 128 ≡ true
 all_ascii = refl
 
 line_separator : IsUtf8 (escaped (encode 8232))

@@ -3,11 +3,11 @@ pub mod CachedParts
 pub mod Details
 pub mod Escapes
 pub mod HookLines
-pub mod Kept
+pub mod Verbatim
 pub mod Laws
 pub mod Lines
 pub mod Message
-pub mod Moment
+pub mod UtcTimestamp
 pub mod Objects
 pub mod Outputs
 pub mod Sending

@@ -1,4 +1,4 @@
--- The JSON objects in messages, with their members in the order in which Terraform writes them (Machine-Readable UI).
+-- The JSON objects in messages. Members stand in Terraform's order (Machine-Readable UI).
 use Rattle.std.specs.Prelude.{ℕ, List, codes, Option, Some, None, option_map}
 use Rattle.serde_json.specs.Data.{Data, number, string, object, unsigned, Members, no_members, member}
 use Rattle.apply_model.specs.declared.details.change_details.ChangeDetails.{ChangeDetails}
@@ -14,7 +14,7 @@ use Rattle.apply_text.specs.declared.operation.Operation.{Operation}
 use Rattle.apply_text.specs.Objects.{elapsed_member, id_members, key_data, operation_word, output_member}
 use Rattle.apply_text.specs.Words.{action_word}
 
--- a member with a text, where there is one, before the other members
+-- a member whose value is a string where given, then other members
 abbrev pub text_if : (name : List ℕ) → Option (List ℕ) → Members → Members
 text_if name None others = others
 text_if name (Some text) others = member name (string text) others
@@ -32,7 +32,7 @@ resource_object change =
     (member (codes "resource_name") (string change.name)
     (member (codes "resource_key") (key_data change.key) no_members)))))))
 
--- what happens to a step of a change, with the object's id and the seconds that have passed, where they are told
+-- the object `hook` of a step, with the object's id and the elapsed seconds where given
 unfoldable pub hook_object : ResourceChange → StepKind → (elapsed : Option ℕ) → (id : Option (List ℕ)) → Data
 hook_object change step elapsed id =
     object
@@ -41,7 +41,7 @@ hook_object change step elapsed id =
     (id_members id
     (elapsed_member elapsed no_members))))
 
--- what a provisioner of a change does, with what it puts out, where it does
+-- the object `hook` of a provisioner, with a line of its output where given
 unfoldable pub provisioner_object : ResourceChange → (name : List ℕ) → (output : Option (List ℕ)) → Data
 provisioner_object change name output =
     object
@@ -51,7 +51,7 @@ provisioner_object change name output =
 
 -- ---- the object `change`
 
--- the resource that an object was before
+-- the resource that an object was before its move
 unfoldable pub previous_object : PreviousResource → Data
 previous_object previous =
     object
@@ -63,18 +63,18 @@ previous_object previous =
     (member (codes "resource_name") (string previous.name)
     (member (codes "resource_key") (key_data previous.key) no_members)))))))
 
--- the same, where the object was moved, before the other members
+-- the member for the previous resource where the object was moved, then other members
 abbrev pub previous_member : Option PreviousResource → Members → Members
 previous_member None others = others
 previous_member (Some previous) others = member (codes "previous_resource") (previous_object previous) others
 
--- what is imported, where something is, before the other members
+-- the member for an import where there is one, then other members
 abbrev pub importing_member : Option Importing → Members → Members
 importing_member None others = others
 importing_member (Some importing) others =
     member (codes "importing") (object (text_if (codes "id") importing.id no_members)) others
 
--- what is planned, in that word
+-- the object `change`; `word` is the planned action
 unfoldable pub change_object : ResourceChange → (word : List ℕ) → ChangeDetails → Data
 change_object change word details =
     object
@@ -87,7 +87,7 @@ change_object change word details =
 
 -- ---- the object `diagnostic`
 
--- what is said, and of which address, where it is of one; but for what is kept as text
+-- the object `diagnostic`, with an address where given, and without its verbatim members
 unfoldable pub diagnostic_object : (address : Option (List ℕ)) → (severity : List ℕ) → Diag → Data
 diagnostic_object address severity diag =
     object

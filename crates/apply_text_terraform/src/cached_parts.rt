@@ -1,4 +1,4 @@
-//! Texts that stay the same from line to line, so that a line is a few copies.
+//! Texts that stay the same from line to line. With them a line costs a few copies.
 
-pub mod frame;
-pub mod hook_frame;
+pub mod hook_template;
+pub mod progress_template;

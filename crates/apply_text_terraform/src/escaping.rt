@@ -1,4 +1,5 @@
-//! The escapes of a line.
+//! The escapes of a line, as Go's encoder writes them for HTML. Every `Err` means that memory was
+//! refused.
 
 ghost use Rattle.std.specs.Prelude.{◌≡◌, ◌≤◌, ◌<◌, ◌++◌, drop, false, length, string_bytes, take, IfOk, OnOk, OnErr};
 ghost use Rattle.std.specs.List.{list_any};
@@ -9,11 +10,13 @@ ghost use Rattle.apply_text_terraform.specs.Lines.{line_of_text};
 use memchr::{memchr, memchr3};
 use std::alloc::AllocError;
 
-/// How far the next character with an escape is looked for at a time, so that no long text is looked through anew for each.
+/// How many bytes one search looks at. Without the limit, a rare character would cost a search of
+/// the whole text for each escape.
 const SEARCH_LEN: usize = 1_024;
 
-/// Appends a line to others: the text with its escapes, and a line feed. `Err` where memory is refused; the lines are then
-/// as they were.
+/// Appends a line: the text with escapes, and a line feed.
+///
+/// After an `Err` the lines are unchanged.
 pub fn push_line(lines: &mut Vec<u8>, text: &[u8]) -> Result<(), AllocError>
     ensures ok { OnOk result (lines.new.items ≡ lines.old.items ++ line_of_text text.now) }
     ensures err { OnErr result (lines.new.items ≡ lines.old.items) }
@@ -28,7 +31,7 @@ pub fn push_line(lines: &mut Vec<u8>, text: &[u8]) -> Result<(), AllocError>
     }
 }
 
-/// The text with its escapes, in the place of what is in `room`. `Err` where memory is refused.
+/// Escapes a text. The result replaces the content of `room`.
 pub fn escaped_text(room: String, text: &str) -> Result<String, AllocError>
     ensures { IfOk result (λ whole. string_bytes whole ≡ escaped text.now) }
 {
@@ -39,20 +42,20 @@ pub fn escaped_text(room: String, text: &str) -> Result<String, AllocError>
     Ok(String::from_utf8(bytes).unwrap())
 }
 
-/// Appends a line to others, or a part of it where memory is refused.
+/// Appends a line. After an `Err` a part of it may be there.
 fn push_parts(lines: &mut Vec<u8>, text: &[u8]) -> Result<(), AllocError>
     ensures ok { OnOk result (lines.new.items ≡ lines.old.items ++ line_of_text text.now) }
-    ensures behind { take (length lines.old.items) lines.new.items ≡ lines.old.items }
+    ensures preserved { take (length lines.old.items) lines.new.items ≡ lines.old.items }
 {
     lines.reserve(text.len() + 1)?;
     push_escaped(lines, text)?;
     lines.extend_from_slice(b"\n")
 }
 
-/// Appends the text with its escapes, or a part of it where memory is refused.
+/// Appends a text with escapes. After an `Err` a part of it may be there.
 pub fn push_escaped(lines: &mut Vec<u8>, text: &[u8]) -> Result<(), AllocError>
     ensures ok { OnOk result (lines.new.items ≡ lines.old.items ++ escaped text.now) }
-    ensures behind { take (length lines.old.items) lines.new.items ≡ lines.old.items }
+    ensures preserved { take (length lines.old.items) lines.new.items ≡ lines.old.items }
 {
     let mut at = 0;
     while at < text.len() {
@@ -61,13 +64,13 @@ pub fn push_escaped(lines: &mut Vec<u8>, text: &[u8]) -> Result<(), AllocError>
     Ok(())
 }
 
-/// Appends what is told of some bytes at the front of a text: as many as stand as they are, and the character behind them.
-/// How many bytes these are. `Err` where memory is refused; a part of it may then be appended.
+/// Appends the front of a text: the bytes that need no escape, and the next character. Returns how
+/// many bytes of the text these are. After an `Err` a part may be there.
 fn push_front(lines: &mut Vec<u8>, text: &[u8]) -> Result<usize, AllocError>
     requires { 0 < length text.now }
     ensures ok { IfOk result (λ size. (0 < size) × (size ≤ length text.now)
         × (lines.new.items ++ escaped (drop size text.now) ≡ lines.old.items ++ escaped text.now)) }
-    ensures behind { take (length lines.old.items) lines.new.items ≡ lines.old.items }
+    ensures preserved { take (length lines.old.items) lines.new.items ≡ lines.old.items }
 {
     let plain = plain_len(text);
     lines.extend_from_slice(&text[..plain])?;
@@ -79,7 +82,7 @@ fn push_front(lines: &mut Vec<u8>, text: &[u8]) -> Result<usize, AllocError>
     Ok(plain + size)
 }
 
-/// How many bytes at the front of a text stand as they are. No more than `SEARCH_LEN` are looked at.
+/// How many bytes at the front of a text need no escape. Looks at `SEARCH_LEN` bytes at most.
 fn plain_len(text: &[u8]) -> usize
     ensures within { result ≤ length text.now }
     ensures plain { list_any is_special (take result text.now) ≡ false }
@@ -89,7 +92,7 @@ fn plain_len(text: &[u8]) -> usize
     len_before_separator(&searched[..bracket])
 }
 
-/// How many bytes stand before the first `<`, `>` or `&`, or how many there are where there is none.
+/// How many bytes stand before the first `<`, `>` or `&`. All, when there is none.
 fn len_before_bracket(text: &[u8]) -> usize
     ensures within { result ≤ length text.now }
     ensures none { list_any (is_byte3 60 62 38) (take result text.now) ≡ false }
@@ -100,7 +103,8 @@ fn len_before_bracket(text: &[u8]) -> usize
     }
 }
 
-/// How many bytes stand before the first that may begin U+2028 or U+2029, or how many there are where there is none.
+/// How many bytes stand before the first `0xE2`, with which U+2028 and U+2029 begin. All, when
+/// there is none.
 fn len_before_separator(text: &[u8]) -> usize
     ensures within { result ≤ length text.now }
     ensures none { list_any (is_byte 226) (take result text.now) ≡ false }
@@ -111,12 +115,13 @@ fn len_before_separator(text: &[u8]) -> usize
     }
 }
 
-/// What is told of the first character or byte of a text, and how many bytes that has.
+/// What to write for the first character of a text, and how many bytes of the text it replaces. A
+/// character without an escape is written byte by byte.
 fn front_of(text: &[u8]) -> (&[u8], usize)
     requires { 0 < length text.now }
     ensures some { 0 < result.1 }
     ensures within { result.1 ≤ length text.now }
-    ensures told { result.0.now ++ escaped (drop result.1 text.now) ≡ escaped text.now }
+    ensures escaped_front { result.0.now ++ escaped (drop result.1 text.now) ≡ escaped text.now }
 {
     let first = text[0];
     if first == b'<' {
@@ -134,7 +139,7 @@ fn front_of(text: &[u8]) -> (&[u8], usize)
     }
 }
 
-/// Whether the text goes on behind its first byte with 80 in hexadecimal and that byte.
+/// Whether the second byte of the text is `0x80`, and the third one is `third`.
 fn goes_on(text: &[u8], third: u8) -> bool
     requires { 0 < third }
     ensures { result ≡ begins_with 128 third (drop 1 text.now) }

@@ -1,9 +1,10 @@
 //! The form of a stream.
 
-/// In which form a stream is told.
+/// The form of a stream: which messages it has, and in which order members stand.
 #[derive(Clone, Copy, Debug, PartialEq, Eq)]
 pub enum Form {
-    /// The form of this program's own: the members of each object in the order of their names, and a summary at each end.
+    /// The default form. Members stand in the order of their names, and every stream ends with a
+    /// summary.
     Applystream,
     /// What Terraform 1.11 prints for `terraform apply -json` of a saved plan.
     Terraform,

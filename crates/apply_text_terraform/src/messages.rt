@@ -1,4 +1,6 @@
-//! The messages, written token by token into the buffer of a line. Each takes `scratch` for the texts that it puts together.
+//! Writes messages token by token into the buffer of a line. `scratch` is working memory for the
+//! texts of a message. Every `Err` means that memory was refused, and a part of the message may be
+//! written then.
 
 ghost use Rattle.std.specs.Prelude.{◌≡◌, ◌++◌, codes, string_bytes, OnOk, is_some};
 ghost use Rattle.std.specs.Option.{option_copied};
@@ -8,122 +10,122 @@ ghost use Rattle.apply_text.specs.Lines.{message_object};
 ghost use Rattle.apply_text.specs.Sending.{Sends, data_tokens, head_tokens, member_tokens, message_tokens};
 ghost use Rattle.apply_text_terraform.specs.AppliedStep.{message_of};
 ghost use Rattle.apply_text_terraform.specs.Lines.{version_members};
-ghost use Rattle.apply_text_terraform.specs.Message.{end_id, noted_address, note_message, planned_message, summary_message, summary_words};
+ghost use Rattle.apply_text_terraform.specs.Message.{end_id, diagnostic_address, note_message, planned_message, summary_message, summary_words};
 
-use crate::moment::FineMoment;
-use crate::note_words::NoteWords;
 use crate::objects::change_object::put_change;
 use crate::objects::changes_object::put_changes;
 use crate::objects::diagnostic_object::put_diagnostic;
 use crate::objects::hook_object::put_hook;
 use crate::objects::provisioner_object::put_provisioner;
+use crate::severity_words::SeverityWords;
+use crate::timestamp::UtcTimestamp;
 use apply_events::{Counts, What};
 use apply_model::{Change, ChangeDetails, Note, StepKind};
 use apply_text::Operation;
 use apply_text::parts::{
-    AppliedStep, DiagTexts, Elapsed, IdNote, StepWords, end_message, level, phase_words, put_text,
-    say_event, type_name,
+    AppliedStep, DiagTexts, Elapsed, IdSuffix, StepWords, end_message, level, phase_words,
+    put_text, type_name, write_event_text,
 };
 use json::Writer;
 use std::alloc::AllocError;
 
-/// Writes the first message.
+/// Writes the version message.
 pub fn put_version(
     out: &mut Writer,
     scratch: &mut String,
-    moment: &FineMoment,
+    timestamp: &UtcTimestamp,
     version: &str,
 ) -> Result<(), AllocError>
     ensures { Sends result out.old out.new (data_tokens
-        (message_object (codes "info") (codes "Terraform " ++ version.now) moment.now (version_members version.now))) }
+        (message_object (codes "info") (codes "Terraform " ++ version.now) timestamp.now (version_members version.now))) }
 {
     scratch.clear();
     write!(scratch, "Terraform {version}")?;
-    begin_message(out, scratch, "info", moment)?;
+    begin_message(out, scratch, "info", timestamp)?;
     put_text(out, "terraform", version)?;
     put_text(out, "type", "version")?;
     put_text(out, "ui", "1.2")?;
     out.end_object()
 }
 
-/// Writes the message of a planned change, in that word.
+/// Writes the message of a planned change. `word` is the planned action.
 pub fn put_planned(
     out: &mut Writer,
     scratch: &mut String,
-    moment: &FineMoment,
+    timestamp: &UtcTimestamp,
     change: &Change,
     word: &str,
     details: &ChangeDetails,
 ) -> Result<(), AllocError>
     ensures { Sends result out.old out.new
-        (message_tokens moment.now (planned_message change.now word.now details.now)) }
+        (message_tokens timestamp.now (planned_message change.now word.now details.now)) }
 {
     let address = change.address();
     scratch.clear();
     write!(scratch, "{address}: Plan to {word}")?;
-    begin_message(out, scratch, "info", moment)?;
+    begin_message(out, scratch, "info", timestamp)?;
     put_change(out, change, word, details)?;
     end_message(out, "planned_change")
 }
 
-/// Writes the message of an event of a step, of which that id is planned.
+/// Writes the message of an event of a step. `planned` is the id that the plan gives.
 pub fn put_event(
     out: &mut Writer,
     scratch: &mut String,
-    moment: &FineMoment,
+    timestamp: &UtcTimestamp,
     step: AppliedStep<'_>,
     planned: Option<&str>,
     what: What,
 ) -> Result<(), AllocError>
-    ensures { Sends result out.old out.new (message_tokens moment.now
+    ensures { Sends result out.old out.new (message_tokens timestamp.now
         (message_of step.entry (option_copied planned.entry) what)) }
 {
-    say(scratch, step, planned, what)?;
-    begin_message(out, scratch, level(what), moment)?;
+    write_text(scratch, step, planned, what)?;
+    begin_message(out, scratch, level(what), timestamp)?;
     put_body(out, scratch, step, planned, what)?;
     end_message(out, type_name(what))
 }
 
-/// Writes a diagnostic of no step, but for its range and its snippet.
+/// Writes a diagnostic of no step, without its range and its snippet.
 pub fn put_note(
     out: &mut Writer,
     scratch: &mut String,
-    moment: &FineMoment,
+    timestamp: &UtcTimestamp,
     note: &Note,
 ) -> Result<(), AllocError>
-    ensures { Sends result out.old out.new (message_tokens moment.now (note_message note.now)) }
+    ensures { Sends result out.old out.new (message_tokens timestamp.now (note_message note.now)) }
 {
-    let words = NoteWords::new(note.severity);
+    let words = SeverityWords::new(note.severity);
     let label = words.label;
     let diag = DiagTexts::new(&note.diag);
     let summary = diag.summary;
     scratch.clear();
     write!(scratch, "{label}: {summary}")?;
-    begin_message(out, scratch, words.level, moment)?;
+    begin_message(out, scratch, words.level, timestamp)?;
     put_diagnostic(out, note.address(), words.severity, diag)?;
     end_message(out, "diagnostic")
 }
 
-/// Writes the message of how much was completed and imported.
+/// Writes the summary: the counts of completed changes and of imports.
 pub fn put_summary(
     out: &mut Writer,
     scratch: &mut String,
-    moment: &FineMoment,
+    timestamp: &UtcTimestamp,
     operation: Operation,
     counts: &Counts,
     imported: u64,
 ) -> Result<(), AllocError>
     ensures { Sends result out.old out.new
-        (message_tokens moment.now (summary_message operation counts.now imported)) }
+        (message_tokens timestamp.now (summary_message operation counts.now imported)) }
 {
-    say_totals(scratch, operation, counts, imported)?;
-    begin_message(out, scratch, "info", moment)?;
+    write_totals(scratch, operation, counts, imported)?;
+    begin_message(out, scratch, "info", timestamp)?;
     put_changes(out, operation, counts, imported)?;
     end_message(out, "change_summary")
 }
 
-/// What the summary says.
-fn say_totals(
+/// Replaces `scratch` by the text of the summary.
+fn write_totals(
     scratch: &mut String,
     operation: Operation,
     counts: &Counts,
@@ -149,26 +151,27 @@ fn say_totals(
     }
 }
 
-/// Begins a message: writes the members that every message has. `scratch` holds what it says, and is used up.
+/// Starts a message, and writes the members that every message has. `scratch` holds the text of the
+/// message, and is overwritten.
 fn begin_message(
     out: &mut Writer,
     scratch: &mut String,
     level: &str,
-    moment: &FineMoment,
+    timestamp: &UtcTimestamp,
 ) -> Result<(), AllocError>
-    ensures { Sends result out.old out.new (head_tokens level.now (string_bytes scratch.old) moment.now) }
+    ensures { Sends result out.old out.new (head_tokens level.now (string_bytes scratch.old) timestamp.now) }
 {
     out.begin_object()?;
     put_text(out, "@level", level)?;
     put_text(out, "@message", scratch.as_str())?;
     put_text(out, "@module", "terraform.ui")?;
     scratch.clear();
-    write!(scratch, "{moment}")?;
+    write!(scratch, "{timestamp}")?;
     put_text(out, "@timestamp", scratch.as_str())
 }
 
-/// What is said of an event.
-fn say(
+/// Replaces `scratch` by the text of an event's message.
+fn write_text(
     scratch: &mut String,
     step: AppliedStep<'_>,
     planned: Option<&str>,
@@ -178,14 +181,14 @@ fn say(
         ≡ (message_of step.entry (option_copied planned.entry) what).text) }
 {
     if let What::Complete(seconds) = what {
-        say_complete(scratch, step, planned, seconds)
+        write_complete_text(scratch, step, planned, seconds)
     } else {
-        say_event(scratch, step, what)
+        write_event_text(scratch, step, what)
     }
 }
 
-/// What is said of a step that completes.
-fn say_complete(
+/// Replaces `scratch` by the text of a completion.
+fn write_complete_text(
     scratch: &mut String,
     step: AppliedStep<'_>,
     planned: Option<&str>,
@@ -197,14 +200,14 @@ fn say_complete(
     let address = step.change.address();
     let noun = StepWords::new(step.kind).noun;
     let elapsed = Elapsed { seconds };
-    let note = IdNote {
+    let note = IdSuffix {
         id: told_id(step, planned),
     };
     scratch.clear();
     write!(scratch, "{address}: {noun} complete after {elapsed}{note}")
 }
 
-/// The id that is told when the step completes: the provider's, else the planned one. `None` for a delete.
+/// The id that a completion shows: the provider's, else the planned one. `None` for a delete.
 pub fn told_id<'a>(step: AppliedStep<'a>, planned: Option<&'a str>) -> Option<&'a str>
     ensures { option_copied result
         ≡ end_id step.entry.kind (outcome_view step.entry).result (option_copied planned.entry) }
@@ -228,10 +231,10 @@ fn has_failed_provisioner(step: AppliedStep<'_>) -> bool
     }
 }
 
-/// Of which address a provider's diagnostic is. `None` at a delete, but where a provisioner failed.
+/// The address of a provider's diagnostic. `None` at a delete, unless a provisioner failed.
 fn address_of<'a>(step: AppliedStep<'a>) -> Option<&'a str>
     ensures { option_copied result
-        ≡ noted_address step.entry.change.now step.entry.kind (outcome_view step.entry) }
+        ≡ diagnostic_address step.entry.change.now step.entry.kind (outcome_view step.entry) }
 {
     if step.kind == StepKind::Delete && !has_failed_provisioner(step) {
         None
@@ -240,7 +243,7 @@ fn address_of<'a>(step: AppliedStep<'a>) -> Option<&'a str>
     }
 }
 
-/// Writes the member of its own that the message of an event has.
+/// Writes the member that only messages of this type have: `hook` or `diagnostic`.
 fn put_body(
     out: &mut Writer,
     scratch: &mut String,

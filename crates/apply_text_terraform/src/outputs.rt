@@ -1,4 +1,5 @@
-//! The line of the outputs, whose types and values are texts of JSON already.
+//! The line of the outputs. Types and values are JSON text already. Every `Err` means that memory
+//! was refused.
 
 ghost use Rattle.std.specs.Prelude.{◌≡◌, ◌++◌, [], codes, decimal, length, string_bytes, take, IfOk, OnErr, OnOk};
 ghost use Rattle.json.specs.Print.{quoted};
@@ -8,32 +9,34 @@ ghost use Rattle.apply_text_terraform.specs.Outputs as specs;
 ghost use Rattle.apply_text_terraform.specs.Outputs.{output_text, outputs_from, outputs_message};
 
 use crate::escaping::push_escaped;
-use crate::moment::FineMoment;
+use crate::timestamp::UtcTimestamp;
 use apply_model::Output;
 use json::Writer;
 use std::alloc::{AllocError, Global};
 
-/// How long a line is but for its outputs, at most.
+/// The length of the line without its outputs, at most.
 const LINE_LEN: usize = 160;
 
-/// How long an output is but for its name, type and value, at most.
+/// The length of an output without its name, type and value, at most.
 const OUTPUT_LEN: usize = 48;
 
-/// Appends the line of the outputs to others, text by text, so that no value is copied twice. `Err` where memory is refused;
-/// the lines are then as they were. `scratch` is used up.
+/// Appends the line of the outputs, piece by piece, so that no value is copied twice. Overwrites
+/// `scratch`.
+///
+/// After an `Err` the lines are unchanged.
 pub fn push_outputs(
     alloc: Global,
     lines: &mut Vec<u8>,
     scratch: &mut String,
-    moment: &FineMoment,
+    timestamp: &UtcTimestamp,
     outputs: &[Output],
 ) -> Result<(), AllocError>
     ensures ok { OnOk result (lines.new.items
-        ≡ lines.old.items ++ line_of_text (outputs_message moment.now outputs.now)) }
+        ≡ lines.old.items ++ line_of_text (outputs_message timestamp.now outputs.now)) }
     ensures err { OnErr result (lines.new.items ≡ lines.old.items) }
 {
     let before = lines.len();
-    match push_message(alloc, lines, scratch, moment, outputs) {
+    match push_message(alloc, lines, scratch, timestamp, outputs) {
         Ok(()) => Ok(()),
         Err(refused) => {
             lines.truncate(before);
@@ -42,26 +45,27 @@ pub fn push_outputs(
     }
 }
 
-/// Appends the line of the outputs, or a part of it where memory is refused. Room for all of it is made at once.
+/// Appends the line of the outputs. Reserves memory for all of it at once. After an `Err` a part of
+/// the line may be there.
 fn push_message(
     alloc: Global,
     lines: &mut Vec<u8>,
     scratch: &mut String,
-    moment: &FineMoment,
+    timestamp: &UtcTimestamp,
     outputs: &[Output],
 ) -> Result<(), AllocError>
     ensures ok { OnOk result (lines.new.items
-        ≡ lines.old.items ++ line_of_text (outputs_message moment.now outputs.now)) }
-    ensures behind { take (length lines.old.items) lines.new.items ≡ lines.old.items }
+        ≡ lines.old.items ++ line_of_text (outputs_message timestamp.now outputs.now)) }
+    ensures preserved { take (length lines.old.items) lines.new.items ≡ lines.old.items }
 {
     lines.reserve(room_for(outputs))?;
-    say_front(scratch, moment, outputs.len())?;
+    write_front(scratch, timestamp, outputs.len())?;
     push_escaped(lines, scratch.as_bytes())?;
     push_all(alloc, lines, scratch, outputs)?;
     lines.extend_from_slice(b"},\"type\":\"outputs\"}\n")
 }
 
-/// How long the line of the outputs is at most, where nothing in it has an escape.
+/// The length of the line of the outputs, at most. Escapes are not counted.
 fn room_for(outputs: &[Output]) -> usize {
     let mut room = LINE_LEN;
     for output in outputs {
@@ -74,20 +78,20 @@ fn room_for(outputs: &[Output]) -> usize {
     room
 }
 
-/// Puts the message up to the first of so many outputs into `text`.
-fn say_front(text: &mut String, moment: &FineMoment, count: usize) -> Result<(), AllocError>
+/// Replaces `text` by the message up to its first output. `count` is the number of outputs.
+fn write_front(text: &mut String, timestamp: &UtcTimestamp, count: usize) -> Result<(), AllocError>
     ensures { OnOk result (string_bytes text.new
         ≡ codes "{\"@level\":\"info\",\"@message\":\"Outputs: " ++ (decimal count
-        ++ (codes "\",\"@module\":\"terraform.ui\",\"@timestamp\":\"" ++ (moment.now ++ codes "\",\"outputs\":{")))) }
+        ++ (codes "\",\"@module\":\"terraform.ui\",\"@timestamp\":\"" ++ (timestamp.now ++ codes "\",\"outputs\":{")))) }
 {
     text.clear();
     write!(
         text,
-        "{{\"@level\":\"info\",\"@message\":\"Outputs: {count}\",\"@module\":\"terraform.ui\",\"@timestamp\":\"{moment}\",\"outputs\":{{"
+        "{{\"@level\":\"info\",\"@message\":\"Outputs: {count}\",\"@module\":\"terraform.ui\",\"@timestamp\":\"{timestamp}\",\"outputs\":{{"
     )
 }
 
-/// Appends the outputs, with a comma between two, or a part of them where memory is refused.
+/// Appends the outputs, separated by commas. After an `Err` a part may be there.
 fn push_all(
     alloc: Global,
     lines: &mut Vec<u8>,
@@ -96,7 +100,7 @@ fn push_all(
 ) -> Result<(), AllocError>
     ensures ok { OnOk result
         (lines.new.items ≡ lines.old.items ++ escaped (outputs_from [] outputs.now)) }
-    ensures behind { take (length lines.old.items) lines.new.items ≡ lines.old.items }
+    ensures preserved { take (length lines.old.items) lines.new.items ≡ lines.old.items }
 {
     match outputs {
         [] => Ok(()),
@@ -107,7 +111,7 @@ fn push_all(
     }
 }
 
-/// Appends further outputs, with a comma before each, or a part of them where memory is refused.
+/// Appends more outputs, each after a comma. After an `Err` a part may be there.
 fn push_more(
     alloc: Global,
     lines: &mut Vec<u8>,
@@ -116,7 +120,7 @@ fn push_more(
 ) -> Result<(), AllocError>
     ensures ok { OnOk result
         (lines.new.items ≡ lines.old.items ++ escaped (outputs_from (codes ",") outputs.now)) }
-    ensures behind { take (length lines.old.items) lines.new.items ≡ lines.old.items }
+    ensures preserved { take (length lines.old.items) lines.new.items ≡ lines.old.items }
 {
     for output in outputs {
         push_output(alloc, lines, scratch, ",", output)?;
@@ -124,7 +128,7 @@ fn push_more(
     Ok(())
 }
 
-/// Appends an output behind that comma, or a part of it where memory is refused.
+/// Appends `comma` and an output. After an `Err` a part may be there.
 fn push_output(
     alloc: Global,
     lines: &mut Vec<u8>,
@@ -134,9 +138,9 @@ fn push_output(
 ) -> Result<(), AllocError>
     ensures ok { OnOk result (lines.new.items ≡ lines.old.items
         ++ escaped (comma.now ++ (quoted output.now.name ++ output_text output.now))) }
-    ensures behind { take (length lines.old.items) lines.new.items ≡ lines.old.items }
+    ensures preserved { take (length lines.old.items) lines.new.items ≡ lines.old.items }
 {
-    say_name(alloc, scratch, comma, output)?;
+    write_name(alloc, scratch, comma, output)?;
     push_escaped(lines, scratch.as_bytes())?;
     push_escaped(lines, output.kind.as_str().as_bytes())?;
     if output.sensitive {
@@ -146,19 +150,19 @@ fn push_output(
     }
 }
 
-/// Appends the value of an output, behind its type, or a part of it where memory is refused.
+/// Appends the value of an output, after its type. After an `Err` a part may be there.
 fn push_value(lines: &mut Vec<u8>, value: &str) -> Result<(), AllocError>
     ensures ok { OnOk result
         (lines.new.items ≡ lines.old.items ++ escaped (codes ",\"value\":" ++ (value.now ++ codes "}"))) }
-    ensures behind { take (length lines.old.items) lines.new.items ≡ lines.old.items }
+    ensures preserved { take (length lines.old.items) lines.new.items ≡ lines.old.items }
 {
     lines.extend_from_slice(b",\"value\":")?;
     push_escaped(lines, value.as_bytes())?;
     lines.extend_from_slice(b"}")
 }
 
-/// Puts what stands before the type of an output into `text`, behind that comma. `Err` where memory is refused.
-fn say_name(
+/// Replaces `text` by `comma` and the output up to its type.
+fn write_name(
     alloc: Global,
     text: &mut String,
     comma: &str,
@@ -174,7 +178,7 @@ fn say_name(
     write!(text, "{comma}{name}{before_type}")
 }
 
-/// What stands between the name of an output and its type.
+/// The text between the name of an output and its type.
 fn before_type(sensitive: bool) -> &'static str
     ensures { result.now ≡ specs.before_type sensitive }
 {
@@ -185,7 +189,7 @@ fn before_type(sensitive: bool) -> &'static str
     }
 }
 
-/// The text in JSON. `Err` where memory is refused.
+/// The text as a JSON string.
 fn quoted_text(alloc: Global, text: &str) -> Result<String, AllocError>
     ensures { IfOk result (λ whole. string_bytes whole ≡ quoted text.now) }
 {

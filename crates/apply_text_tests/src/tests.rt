@@ -1,7 +1,9 @@
-//! What no clause says: that the definitions are the ones that were meant, and that calls succeed with ample memory.
+//! What no clause states: that the definitions are the intended ones, and that calls succeed when
+//! memory suffices.
 //!
-//! A test is proved before it runs: rows are texts, these functions are short and end the test at once where memory is
-//! refused, and what they make is kept until it ends.
+//! A test is proved before it runs, so it is written for a short proof. Rows are texts. The
+//! functions here are short, and end the test at once when memory is refused. What they make lives
+//! until the test ends.
 
 ghost use Rattle.std.specs.Prelude.{◌≡◌, true};
 ghost use Rattle.apply_events.specs.Fits.{HasStep};
@@ -22,23 +24,24 @@ use std::alloc::Global;
 use std::fmt::Display;
 use std::process::Abort;
 
-/// A script without entries.
+/// A script without changes.
 const NOTHING_SAID: &str = r#"{"changes":[]}"#;
 
-/// Fails where it is not so. A proof grows by each assertion, and by less where it is a call.
+/// Fails when `is_so` is false. A call makes a proof grow less than an assertion does.
 fn holds(rt: &impl Abort, case: &str, is_so: bool)
     ensures { is_so ≡ true }
 {
     assert!(rt; is_so, "{case}");
 }
 
-/// The value, for as long as the test runs: a proof grows with each place at which something has to be dropped.
+/// Keeps a value as long as the test runs. A proof grows with each place at which a value is
+/// dropped.
 fn kept<'a, T: Drop + 'a>(rt: &impl Abort, alloc: Global, value: T) -> &'a T {
     let kept = Box::new(alloc, value).expect(rt, "memory");
     &*Box::leak(kept)
 }
 
-/// What stands before the first mark, and what behind it.
+/// The texts before and after the first mark.
 fn parted<'a>(rt: &impl Abort, text: &'a str, mark: &str) -> (&'a str, &'a str) {
     text.split_once(mark).expect(rt, "a mark")
 }
@@ -47,29 +50,29 @@ fn number_of(rt: &impl Abort, text: &str) -> u32 {
     text.parse::<u32>().ok().expect(rt, "a number")
 }
 
-/// What `Display` prints of it.
+/// The `Display` text of a value.
 fn shown(rt: &impl Abort, alloc: Global, value: &impl Display) -> &'static str {
     let text = value.to_string(alloc).expect(rt, "memory");
     kept(rt, alloc, text).as_str()
 }
 
-/// Adds more to a text.
+/// Appends text.
 fn push(rt: &impl Abort, text: &mut String, more: &str) {
     text.push_str(more).expect(rt, "memory");
 }
 
-/// The text with another one in each place of the mark.
+/// Replaces each mark by another text.
 fn put(rt: &impl Abort, alloc: Global, text: &str, mark: &str, other: &str) -> &'static str {
     let text = text.replace(alloc, mark, other).expect(rt, "memory");
     kept(rt, alloc, text).as_str()
 }
 
-/// Fails where another text was found for the case, byte for byte.
+/// Fails when the texts differ.
 fn compare(rt: &impl Abort, case: &str, found: &str, wanted: &str) {
     assert!(rt; found == wanted, "at {case}: {found}");
 }
 
-/// Fails where anything but this line and its line feed was found for the case, byte for byte.
+/// Fails when the text is not this line with its line feed.
 fn compare_line(rt: &impl Abort, case: &str, found: &str, wanted: &str) {
     let line = found
         .strip_suffix("\n")
@@ -77,29 +80,29 @@ fn compare_line(rt: &impl Abort, case: &str, found: &str, wanted: &str) {
     compare(rt, case, line, wanted);
 }
 
-/// A plan that has to be accepted.
+/// Reads a plan. Fails when it is refused.
 fn plan_of(rt: &impl Abort, alloc: Global, text: &str) -> &'static Plan {
     let plan = read_plan(alloc, text.as_bytes());
     kept(rt, alloc, plan.ok().expect(rt, "a plan"))
 }
 
-/// A script that has to be accepted.
+/// Reads a script. Fails when it is refused.
 fn script_of(rt: &impl Abort, alloc: Global, text: &str, plan: &Plan) -> &'static Script {
     let script = read_script(alloc, text.as_bytes(), plan);
     kept(rt, alloc, script.ok().expect(rt, "a script"))
 }
 
-/// A script that says nothing.
+/// A script that gives nothing.
 fn empty_script(rt: &impl Abort, alloc: Global) -> &'static Script {
     kept(rt, alloc, Script::empty())
 }
 
-/// A start that has to be accepted.
+/// Reads a start. Fails when it is refused.
 fn start_of(rt: &impl Abort, text: &str) -> Start {
     Start::read(text).ok().expect(rt, "a start")
 }
 
-/// The line of an event that the plan has to have.
+/// The line of an event. The plan must have the event's step.
 fn line_of(
     rt: &impl Abort,
     alloc: Global,
@@ -115,7 +118,7 @@ fn line_of(
     kept(rt, alloc, line.expect(rt, "memory")).as_str()
 }
 
-/// The plan has to have the event's step.
+/// Fails when the plan does not have the event's step.
 fn check_step(rt: &impl Abort, plan: &Plan, event: &Event)
     ensures { HasStep plan.now event.now.change event.now.step }
 {

@@ -1,7 +1,7 @@
--- Streams: what was written, told, and how they end.
+-- Streams: what was accepted and written, and how they end.
 pub mod Ending
 pub mod Lines
 pub mod Notes
 pub mod Pieces
-pub mod Telling
+pub mod WriterState
 pub mod Writing

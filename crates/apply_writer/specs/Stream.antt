@@ -1,8 +1,8 @@
--- The stream that is written: what was told of the events, and what its sink took.
+-- The stream that is written: the accepted events, and the bytes in the sink.
 pub mod Delivered
 pub mod Ended
 pub mod Form
 pub mod Outlet
 pub mod Counting
-pub mod Telling
+pub mod WriterState
 pub mod Terraform

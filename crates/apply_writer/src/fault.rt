@@ -1,4 +1,4 @@
-//! How a run that did not end well has ended.
+//! The error of a run.
 
 ghost use Rattle.std.specs.Prelude.{◌≡◌};
 
@@ -6,18 +6,18 @@ use crate::report::Report;
 use crate::why::Why;
 use thiserror::Error;
 
-/// How a run that did not end well has ended.
+/// Why a run failed, and what it had done by then.
 #[derive(Clone, Copy, Debug, Drop, Error, PartialEq, Eq)]
 #[error("{why}")]
 pub struct Fault {
-    /// Why it did not end well.
+    /// Why the run failed.
     pub why: Why,
-    /// What it has done.
+    /// What the run had done.
     pub report: Report,
 }
 
 impl Fault {
-    /// Of a run that has done nothing.
+    /// The error of a run that did nothing.
     pub fn at_once(why: Why) -> Fault
         ensures why { result.why ≡ why }
         ensures nothing { result.report ≡ record {

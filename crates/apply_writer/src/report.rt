@@ -1,22 +1,22 @@
-//! What a run has done.
+//! The report of a run.
 
 ghost use Rattle.std.specs.Prelude.{◌≡◌};
 
 use apply_events::Counts;
 
-/// What a run has done.
+/// What a run has done, whether it succeeded or failed.
 #[derive(Clone, Copy, Debug, PartialEq, Eq)]
 pub struct Report {
-    /// How many steps were completed, failed and halted.
+    /// How many steps completed, failed and were halted.
     pub counts: Counts,
-    /// How many events were taken from the workers.
+    /// How many events of the workers or lanes were counted.
     pub taken: u64,
-    /// How many bytes the sink took.
+    /// How many bytes were written to the sink.
     pub written: u128,
 }
 
 impl Report {
-    /// Of a run that has done nothing.
+    /// The report of a run that did nothing.
     pub fn nothing() -> Report
         ensures { result ≡ record {
           counts = record { added = 0; changed = 0; removed = 0; failed = 0; halted = 0 };

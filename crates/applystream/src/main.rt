@@ -1,28 +1,28 @@
 //! The program `applystream`: starts the main command or the tool that its first argument names.
 #![tactic(auto)]
 
-use apply_cli::{Awaited, Usage, follow_standard, given_words, refuse_standard};
+use apply_cli::{PromptingReader, Usage, follow_standard, given_words, refuse_standard};
 use std::env;
 use std::io::{BufWriter, IsTerminal};
 use std::process::ExitCode;
 
-/// Said where somebody has typed `applystream check` alone.
+/// Printed when somebody types `applystream check` alone.
 const NO_STREAM: &str =
     "a stream is awaited from this terminal: name its file, as in applystream check stream.jsonl";
 
-/// Said where somebody has typed `applystream play` alone.
+/// Printed when somebody types `applystream play` alone.
 const NO_STREAM_TO_PLAY: &str =
     "a stream is awaited from this terminal: name its file, as in applystream play stream.jsonl";
 
-/// Said where somebody has typed `applystream view` alone.
+/// Printed when somebody types `applystream view` alone.
 const NO_STREAM_TO_VIEW: &str =
     "a stream is awaited from this terminal: name its file, as in applystream view stream.jsonl";
 
-/// Said where somebody has typed `applystream validate` alone.
+/// Printed when somebody types `applystream validate` alone.
 const NO_PLAN: &str =
     "a plan is awaited from this terminal: give it, as in applystream validate < plan.json";
 
-/// How many bytes of output are gathered before they are written.
+/// How many bytes of output are buffered before a write.
 const OUTPUT_ROOM: usize = 65_536;
 
 fn main(rt: HostRuntime) -> ExitCode {
@@ -36,7 +36,8 @@ fn main(rt: HostRuntime) -> ExitCode {
     ExitCode::from(status)
 }
 
-/// Does what a tool does, where the first word behind the program's name is that of one, and answers the exit status.
+/// Runs the tool that the first argument names, and returns its exit status. `None` if it names no
+/// tool.
 fn use_tool(rt: &HostRuntime, words: &[String]) -> Option<u8> {
     match words.get(1)?.as_str() {
         "check" => Some(check_stream(rt, words)),
@@ -47,7 +48,7 @@ fn use_tool(rt: &HostRuntime, words: &[String]) -> Option<u8> {
     }
 }
 
-/// Checks a stream, as the words behind the second say, and answers the exit status.
+/// Checks a stream with the arguments after `check`, and returns the exit status.
 fn check_stream(rt: &HostRuntime, words: &[String]) -> u8 {
     let words = words.get(2..).unwrap_or(&[]);
     let is_terminal = rt.stdin().is_terminal();
@@ -57,14 +58,14 @@ fn check_stream(rt: &HostRuntime, words: &[String]) -> u8 {
         rt.alloc(),
         words,
         is_terminal,
-        &mut Awaited::new(rt.reader(), rt.stderr(), text),
+        &mut PromptingReader::new(rt.reader(), rt.stderr(), text),
         &mut rt.stdout(),
         &mut rt.stderr(),
     );
     followed.status
 }
 
-/// Plays a stream, as the words behind the second say, and answers the exit status.
+/// Plays a stream with the arguments after `play`, and returns the exit status.
 fn play_stream(rt: &HostRuntime, words: &[String]) -> u8 {
     let words = words.get(2..).unwrap_or(&[]);
     let Ok(mut output) = BufWriter::with_capacity(rt.alloc(), OUTPUT_ROOM, rt.stdout()) else {
@@ -78,16 +79,17 @@ fn play_stream(rt: &HostRuntime, words: &[String]) -> u8 {
         rt.alloc(),
         words,
         is_terminal,
-        &mut Awaited::new(rt.reader(), rt.stderr(), text),
+        &mut PromptingReader::new(rt.reader(), rt.stderr(), text),
         &mut output,
         &mut rt.stderr(),
     );
-    // What a failed write left behind is given up: a drop would write it once more, behind the fault.
+    // Bytes that a failed write left in the buffer are given up: a drop would write them once more,
+    // after the error was reported.
     let (_stdout, _unwritten) = output.into_parts();
     followed.status
 }
 
-/// Draws a stream, as the words behind the second say, and answers the exit status.
+/// Draws a stream with the arguments after `view`, and returns the exit status.
 fn view_stream(rt: &HostRuntime, words: &[String]) -> u8 {
     let words = words.get(2..).unwrap_or(&[]);
     let Ok(mut output) = BufWriter::with_capacity(rt.alloc(), OUTPUT_ROOM, rt.stdout()) else {
@@ -101,16 +103,17 @@ fn view_stream(rt: &HostRuntime, words: &[String]) -> u8 {
         words,
         is_terminal,
         rt.stdout().is_terminal() && wants_colour(rt),
-        &mut Awaited::new(rt.reader(), rt.stderr(), text),
+        &mut PromptingReader::new(rt.reader(), rt.stderr(), text),
         &mut output,
         &mut rt.stderr(),
     );
-    // What a failed write left behind is given up: a drop would write it once more, behind the fault.
+    // Bytes that a failed write left in the buffer are given up: a drop would write them once more,
+    // after the error was reported.
     let (_stdout, _unwritten) = output.into_parts();
     followed.status
 }
 
-/// Validates a plan and a script, as the words behind the second say, and answers the exit status.
+/// Validates a plan and a script with the arguments after `validate`, and returns the exit status.
 fn validate(rt: &HostRuntime, words: &[String]) -> u8 {
     let words = words.get(2..).unwrap_or(&[]);
     let text = rt.stdin().is_terminal().then_some(NO_PLAN);
@@ -118,7 +121,7 @@ fn validate(rt: &HostRuntime, words: &[String]) -> u8 {
         rt,
         rt.alloc(),
         words,
-        &mut Awaited::new(rt.reader(), rt.stderr(), text),
+        &mut PromptingReader::new(rt.reader(), rt.stderr(), text),
         &mut rt.stdout(),
         &mut rt.stderr(),
     );

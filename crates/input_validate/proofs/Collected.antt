@@ -1,22 +1,22 @@
--- What is kept of findings that are put together.
+-- The report of findings that are put together.
 use Rattle.std.proofs.Common.{◌≡◌, ℕ, zero, suc, ◌+◌, ◌-◌, List, [], ◌∷◌, ◌++◌, length, map, min, take, drop, get_or, set, ◌<◌, Bool, true, false, ◌||◌, refl, sym, ap, ◌∙◌, arith}
 use Rattle.std.specs.List.{flat_map, list_any}
 use Rattle.std.proofs.lemmas.List.Edits.{map_over_more}
 use Rattle.std.proofs.lemmas.List.{flat_map_more, length-append, length-map, take-map, take-take, take_more}
 use Rattle.std.proofs.lemmas.List.Folds.{list_any-append}
 use Rattle.input_validate.specs.declared.findings.finding.Finding.{Finding}
-use Rattle.input_validate.specs.declared.findings.part.Part.{Part}
-use Rattle.input_validate.specs.declared.findings.what.What.{What}
-use Rattle.input_validate.specs.Findings.{Told, is_refusal, most_counted, most_kept, told, under}
+use Rattle.input_validate.specs.declared.findings.path.Segment.{Segment}
+use Rattle.input_validate.specs.declared.findings.problem.Problem.{Problem}
+use Rattle.input_validate.specs.Findings.{Reported, is_refusal, most_counted, max_stored, reported, under}
 
-abbrev pub kept_as : List Finding → ℕ → Bool → Told
-kept_as kept count refuses = record { kept = kept; count = count; refuses = refuses }
+abbrev pub stored_as : List Finding → ℕ → Bool → Reported
+stored_as stored count refuses = record { stored = stored; count = count; refuses = refuses }
 
-same_told : (f g : Told) → f.kept ≡ g.kept → f.count ≡ g.count → f.refuses ≡ g.refuses → f ≡ g
-same_told f g kept count refuses =
-    ap (λ (k : List Finding). kept_as k f.count f.refuses) kept
-    ∙ ap (λ (n : ℕ). kept_as g.kept n f.refuses) count
-    ∙ ap (λ (r : Bool). kept_as g.kept g.count r) refuses
+same_reported : (f g : Reported) → f.stored ≡ g.stored → f.count ≡ g.count → f.refuses ≡ g.refuses → f ≡ g
+same_reported f g stored count refuses =
+    ap (λ (k : List Finding). stored_as k f.count f.refuses) stored
+    ∙ ap (λ (n : ℕ). stored_as g.stored n f.refuses) count
+    ∙ ap (λ (r : Bool). stored_as g.stored g.count r) refuses
 
 pub take_append : (n : ℕ) (xs ys : List Finding) → take n xs ++ take (n - length (take n xs)) ys ≡ take n (xs ++ ys)
 take_append zero xs ys = refl
@@ -29,53 +29,53 @@ or_false : (b : Bool) → (b || false) ≡ b
 or_false true = refl
 or_false false = refl
 
-pub told_one : (kept : List Finding) (x : Finding) (refuses : Bool) → kept ≡ x ∷ [] → refuses ≡ is_refusal x
-    → kept_as kept 1 refuses ≡ told (x ∷ [])
-unfolding told
-told_one kept x refuses is said =
-    ap (λ (k : List Finding). kept_as k 1 refuses) is
-    ∙ ap (λ (b : Bool). kept_as (x ∷ []) 1 b) (said ∙ sym (or_false (is_refusal x)))
+pub reported_one : (stored : List Finding) (x : Finding) (refuses : Bool) → stored ≡ x ∷ [] → refuses ≡ is_refusal x
+    → stored_as stored 1 refuses ≡ reported (x ∷ [])
+unfolding reported
+reported_one stored x refuses is said =
+    ap (λ (k : List Finding). stored_as k 1 refuses) is
+    ∙ ap (λ (b : Bool). stored_as (x ∷ []) 1 b) (said ∙ sym (or_false (is_refusal x)))
 
 -- two counts that stop at the greatest, together
 counts : (a b m : ℕ) → min (min a m + min b m) m ≡ min (a + b) m
 counts a b m = omega arith
 
-pub told_then : (xs ys : List Finding) (f : Told) → f.kept ≡ (told xs).kept ++ take (most_kept - length (told xs).kept) (told ys).kept
-    → f.count ≡ min ((told xs).count + (told ys).count) most_counted → f.refuses ≡ ((told xs).refuses || (told ys).refuses)
-    → f ≡ told (xs ++ ys)
-unfolding told
-told_then xs ys f kept count refuses =
-    let k : f.kept ≡ take most_kept (xs ++ ys) = kept
-    ∙ ap (λ (zs : List Finding). take most_kept xs ++ zs) (take-take (most_kept - length (take most_kept xs)) most_kept ys (omega arith))
-    ∙ take_append most_kept xs ys in
+pub reported_then : (xs ys : List Finding) (f : Reported) → f.stored ≡ (reported xs).stored ++ take (max_stored - length (reported xs).stored) (reported ys).stored
+    → f.count ≡ min ((reported xs).count + (reported ys).count) most_counted → f.refuses ≡ ((reported xs).refuses || (reported ys).refuses)
+    → f ≡ reported (xs ++ ys)
+unfolding reported
+reported_then xs ys f stored count refuses =
+    let k : f.stored ≡ take max_stored (xs ++ ys) = stored
+    ∙ ap (λ (zs : List Finding). take max_stored xs ++ zs) (take-take (max_stored - length (take max_stored xs)) max_stored ys (omega arith))
+    ∙ take_append max_stored xs ys in
     let n : f.count ≡ min (length (xs ++ ys)) most_counted = count ∙ counts (length xs) (length ys) most_counted ∙ ap (λ (n : ℕ). min n most_counted) (sym (length-append xs ys)) in
     let r : f.refuses ≡ list_any is_refusal (xs ++ ys) = refuses ∙ sym (list_any-append is_refusal xs ys) in
-    same_told f (told (xs ++ ys)) k n r
+    same_reported f (reported (xs ++ ys)) k n r
 
-same_refusals : (part : Part) (xs : List Finding) → list_any is_refusal (map (under part) xs) ≡ list_any is_refusal xs
-same_refusals part [] = refl
-same_refusals part (x ∷ xs) = ap (λ (b : Bool). is_refusal x || b) (same_refusals part xs)
+same_refusals : (segment : Segment) (xs : List Finding) → list_any is_refusal (map (under segment) xs) ≡ list_any is_refusal xs
+same_refusals segment [] = refl
+same_refusals segment (x ∷ xs) = ap (λ (b : Bool). is_refusal x || b) (same_refusals segment xs)
 
-pub told_under : (part : Part) (xs : List Finding) (f : Told) → f.kept ≡ map (under part) (told xs).kept → f.count ≡ (told xs).count → f.refuses ≡ (told xs).refuses
-    → f ≡ told (map (under part) xs)
-unfolding told
-told_under part xs f kept count refuses =
-    let k : f.kept ≡ take most_kept (map (under part) xs) = kept ∙ sym (take-map (under part) most_kept xs) in
-    let n : f.count ≡ min (length (map (under part) xs)) most_counted = count ∙ ap (λ (n : ℕ). min n most_counted) (sym (length-map xs (under part))) in
-    let r : f.refuses ≡ list_any is_refusal (map (under part) xs) = refuses ∙ sym (same_refusals part xs) in
-    same_told f (told (map (under part) xs)) k n r
+pub reported_under : (segment : Segment) (xs : List Finding) (f : Reported) → f.stored ≡ map (under segment) (reported xs).stored → f.count ≡ (reported xs).count → f.refuses ≡ (reported xs).refuses
+    → f ≡ reported (map (under segment) xs)
+unfolding reported
+reported_under segment xs f stored count refuses =
+    let k : f.stored ≡ take max_stored (map (under segment) xs) = stored ∙ sym (take-map (under segment) max_stored xs) in
+    let n : f.count ≡ min (length (map (under segment) xs)) most_counted = count ∙ ap (λ (n : ℕ). min n most_counted) (sym (length-map xs (under segment))) in
+    let r : f.refuses ≡ list_any is_refusal (map (under segment) xs) = refuses ∙ sym (same_refusals segment xs) in
+    same_reported f (reported (map (under segment) xs)) k n r
 
-abbrev found_as : List Part → What → Finding
-found_as path what = record { path = path; what = what }
+abbrev finding_of : List Segment → Problem → Finding
+finding_of path problem = record { path = path; problem = problem }
 
 -- one path more begins with the step
-pub begin_more : (part : Part) (xs ys : List Finding) (i : ℕ) (item : Finding) (path : List Part) → i < length xs → ys ≡ map (under part) (take i xs) ++ drop i xs
-    → item ≡ get_or ys i item → path ≡ part ∷ (get_or ys i item).path
-    → set ys i (found_as path (get_or ys i item).what) ≡ map (under part) (take (i + 1) xs) ++ drop (i + 1) xs
-begin_more part xs ys i item path below so_far read is =
-    let e : found_as path (get_or ys i item).what ≡ under part item =
-    ap (λ (p : List Part). found_as p (get_or ys i item).what) is ∙ ap (under part) (sym read) in
-    ap (λ (x : Finding). set ys i x) e ∙ map_over_more (under part) xs ys i item below so_far read
+pub begin_more : (segment : Segment) (xs ys : List Finding) (i : ℕ) (item : Finding) (path : List Segment) → i < length xs → ys ≡ map (under segment) (take i xs) ++ drop i xs
+    → item ≡ get_or ys i item → path ≡ segment ∷ (get_or ys i item).path
+    → set ys i (finding_of path (get_or ys i item).problem) ≡ map (under segment) (take (i + 1) xs) ++ drop (i + 1) xs
+begin_more segment xs ys i item path below so_far read is =
+    let e : finding_of path (get_or ys i item).problem ≡ under segment item =
+    ap (λ (p : List Segment). finding_of p (get_or ys i item).problem) is ∙ ap (under segment) (sym read) in
+    ap (λ (x : Finding). set ys i x) e ∙ map_over_more (under segment) xs ys i item below so_far read
 
 -- the findings of one item more, and of all
 pub flat_map_next : {X : Type 0} (f : X → List Finding) (xs : List X) (i : ℕ) (x : X) → i < length xs → x ≡ get_or xs i x
@@ -84,6 +84,6 @@ flat_map_next f xs i x below read =
     flat_map_more f [] (take i xs) x
     ∙ ap (λ ys. flat_map f ys) (ap (λ y. take i xs ++ y ∷ []) read ∙ sym (take_more xs i x below))
 
-pub refuses_is : (t : Told) (xs : List Finding) → t ≡ told xs → t.refuses ≡ list_any is_refusal xs
-unfolding told
-refuses_is t xs is = ap (λ (s : Told). s.refuses) is
+pub refuses_is : (t : Reported) (xs : List Finding) → t ≡ reported xs → t.refuses ≡ list_any is_refusal xs
+unfolding reported
+refuses_is t xs is = ap (λ (s : Reported). s.refuses) is

@@ -1,4 +1,4 @@
--- Which value names an object first, among values that are looked at one after another.
+-- The index of the first value that names each object, as values are added.
 use Rattle.std.proofs.Common.{◌≡◌, ℕ, suc, ◌+◌, Bool, true, false, cond, List, [], ◌∷◌, ◌++◌, ◌<◌, length, map, take, BTreeMap, Option, Some, None, Ordering, is_some, refl, sym, ap, ◌∙◌, ⊎_elim, arith}
 use Rattle.std.specs.Prelude.{◌&&◌, ◌||◌, find, slice_get}
 use Rattle.std.specs.BTreeMap.{IsEmpty, Updates, get_by}
@@ -42,7 +42,7 @@ keys_ordered None (Some other) = refl
 keys_ordered (Some one) None = refl
 keys_ordered (Some one) (Some other) = is_eq-slice_cmp one.now other.now
 
--- the order finds two equal just where they name the same object
+-- two names are equal in the order if and only if they name the same object
 tells : (one other : ObjectName) → is_eq (by_address_and_key one other) ≡ is_same_name one other
 tells one other =
     then_is_eq (slice_cmp nat_cmp one.address.now other.address.now) (option_cmp (λ a b. slice_cmp nat_cmp a.now b.now) one.deposed other.deposed)
@@ -97,7 +97,7 @@ position_push test n (x ∷ names) name =
     ∙ by_head (test x) n (position_from test (n + 1) names) (cond (test name) (Some (n + 1 + length names)) None)
     ∙ ap (λ (k : ℕ). option_or (cond (test x) (Some n) (position_from test (n + 1) names)) (cond (test name) (Some k) None)) (let e : n + 1 + length names ≡ n + suc (length names) = omega arith in e)
 
--- one that names nothing
+-- a value that names no object
 pub nothing_more : (numbers : BTreeMap ObjectName ℕ) (names : List (Option Named)) → HasFirst numbers names → HasFirst numbers (names ++ None ∷ [])
 nothing_more numbers names has name =
     has name ∙ sym (position_push (is_named (name_view name)) 0 names None ∙ or_none (position_from (is_named (name_view name)) 0 names))
@@ -110,7 +110,7 @@ none_first : (o last : Option ℕ) → is_some o ≡ false → option_or o last 
 none_first (Some n) last e = absurd cc
 none_first None last e = refl
 
--- where it stands: as the key does, of which it is
+-- an object's place is the place of the key that names it
 first_of : (numbers : BTreeMap ObjectName ℕ) (names : List (Option Named)) → HasFirst numbers names → (key name : ObjectName) → is_same_name key name ≡ true
     → position_from (is_named (name_view name)) 0 names ≡ get_by (by_address_and_key key) numbers
 first_of numbers names has key name e =
@@ -146,7 +146,7 @@ new_more old new names key number has absent counted updates name = ⊎_elim
     ∙ or_none (position_from (is_named (name_view name)) 0 names)))
     (cases_Bool (is_same_name key name))
 
--- the number that is asked for
+-- the number that a lookup gives
 pub first_is : (numbers : BTreeMap ObjectName ℕ) (names : List (Option Named)) (name : ObjectName) → HasFirst numbers names
     → get_by (by_address_and_key name) numbers ≡ first_named names (Some (name_view name))
 first_is numbers names name has = get_is numbers name ∙ has name
@@ -157,32 +157,32 @@ first_is numbers names name has = get_is numbers name ∙ has name
 pub record IsAt {X : Type 0} (test : X → Bool) (xs : List X) (n i : ℕ) : Type 0 where
   pub at : ℕ
   pub is : i ≡ n + at
-  pub found : slice_get xs at ≡ find test xs
+  pub same_value : slice_get xs at ≡ find test xs
   pub below : at < length xs
 
-here_or_behind : {X : Type 0} (see : X → Option Named) (test : Option Named → Bool) (x : X) (xs : List X) (n i : ℕ) (b : Bool) → test (see x) ≡ b
+here_or_after : {X : Type 0} (see : X → Option Named) (test : Option Named → Bool) (x : X) (xs : List X) (n i : ℕ) (b : Bool) → test (see x) ≡ b
     → (position_from test (n + 1) (map see xs) ≡ Some i → IsAt (λ y. test (see y)) xs (n + 1) i)
     → cond b (Some n) (position_from test (n + 1) (map see xs)) ≡ Some i → IsAt (λ y. test (see y)) (x ∷ xs) n i
-here_or_behind see test x xs n i true is rest e =
+here_or_after see test x xs n i true is rest e =
     record {
       at = 0;
       is = sym (some_is n i e) ∙ (let q : n ≡ n + 0 = omega arith in q);
-      found = rw is refl;
+      same_value = rw is refl;
       below = (let q : 0 < suc (length xs) = omega arith in q);
     }
-here_or_behind see test x xs n i false is rest e =
+here_or_after see test x xs n i false is rest e =
     let it = rest e in
     record {
       at = suc it.at;
       is = it.is ∙ (let q : n + 1 + it.at ≡ n + suc it.at = omega arith in q);
-      found = rw is it.found;
+      same_value = rw is it.same_value;
       below = (let few : it.at < length xs = it.below in let q : suc it.at < suc (length xs) = omega arith in q);
     }
 
 pub where_first : {X : Type 0} (see : X → Option Named) (test : Option Named → Bool) (xs : List X) (n i : ℕ) → position_from test n (map see xs) ≡ Some i
     → IsAt (λ x. test (see x)) xs n i
 where_first see test [] n i e = absurd cc
-where_first see test (x ∷ xs) n i e = here_or_behind see test x xs n i (test (see x)) refl (where_first see test xs (n + 1) i) e
+where_first see test (x ∷ xs) n i e = here_or_after see test x xs n i (test (see x)) refl (where_first see test xs (n + 1) i) e
 
 none_by : {X : Type 0} (b : Bool) (n : ℕ) (x : X) (o : Option ℕ) (p : Option X) → (o ≡ None → p ≡ None) → cond b (Some n) o ≡ None → cond b (Some x) p ≡ None
 none_by true n x o p rest e = absurd cc

@@ -1,4 +1,4 @@
--- Values that may be missing, one after another, and tests.
+-- Optional values and tests.
 use Rattle.std.proofs.Common.{◌≡◌, List, [], ◌∷◌, map, Bool, true, false, not, ◌&&◌, ◌||◌, is_some, Option, Some, None, refl, sym, ap, ◌∙◌}
 use Rattle.std.specs.List.{list_all, list_any}
 use Rattle.std.specs.Option.{option_and_then, option_map, option_map_or}
@@ -21,7 +21,7 @@ pub and_assoc : (a b c : Bool) → (a && (b && c)) ≡ ((a && b) && c)
 and_assoc true b c = refl
 and_assoc false b c = refl
 
--- a test that another holds of itself, beside a third
+-- a test that follows from another, next to a third
 pub still : (o s r : Bool) → (o && s) ≡ s → (o && (s && r)) ≡ (s && r)
 still o s r e = and_assoc o s r ∙ ap (λ (b : Bool). b && r) e
 
@@ -70,12 +70,12 @@ pub bind_some : {A B : Type 0} (o : Option A) (f : A → Option B) (y : B) → (
 bind_some None f y e = absurd cc
 bind_some (Some x) f y e = (x, refl, e)
 
-pub all_some_is : {A D : Type 0} (part : D → Option A) (ds : List D) → is_some (all_some (map part ds)) ≡ list_all (λ d. is_some (part d)) ds
-all_some_is part [] = refl
-all_some_is {A} part (d ∷ ds) =
-    some_then (part d) (λ x. all_some (map part ds) >>= λ xs. Some (x ∷ xs)) (is_some (all_some (map part ds)))
-    (λ x. some_then (all_some (map part ds)) (λ xs. Some (x ∷ xs)) true (λ xs. refl) ∙ and_true (is_some (all_some (map part ds))))
-    ∙ ap (λ (b : Bool). is_some (part d) && b) (all_some_is part ds)
+pub all_some_is : {A D : Type 0} (segment : D → Option A) (ds : List D) → is_some (all_some (map segment ds)) ≡ list_all (λ d. is_some (segment d)) ds
+all_some_is segment [] = refl
+all_some_is {A} segment (d ∷ ds) =
+    some_then (segment d) (λ x. all_some (map segment ds) >>= λ xs. Some (x ∷ xs)) (is_some (all_some (map segment ds)))
+    (λ x. some_then (all_some (map segment ds)) (λ xs. Some (x ∷ xs)) true (λ xs. refl) ∙ and_true (is_some (all_some (map segment ds))))
+    ∙ ap (λ (b : Bool). is_some (segment d) && b) (all_some_is segment ds)
 
 -- a test of what each is, where each is something
 one_more : {A : Type 0} (fits : A → Bool) (o : Option A) (os : Option (List A)) (rest : Bool) → rest ≡ option_map_or (list_all fits) os false
@@ -84,11 +84,11 @@ one_more fits None os rest is = refl
 one_more fits (Some x) None rest is = ap (λ (b : Bool). fits x && b) is ∙ and_false (fits x)
 one_more fits (Some x) (Some xs) rest is = ap (λ (b : Bool). fits x && b) is
 
-pub all_fit : {A D : Type 0} (part : D → Option A) (fits : A → Bool) (ds : List D)
-    → list_all (λ d. option_map_or fits (part d) false) ds ≡ option_map_or (list_all fits) (all_some (map part ds)) false
-all_fit part fits [] = refl
-all_fit part fits (d ∷ ds) =
-    one_more fits (part d) (all_some (map part ds)) (list_all (λ d. option_map_or fits (part d) false) ds) (all_fit part fits ds)
+pub all_fit : {A D : Type 0} (segment : D → Option A) (fits : A → Bool) (ds : List D)
+    → list_all (λ d. option_map_or fits (segment d) false) ds ≡ option_map_or (list_all fits) (all_some (map segment ds)) false
+all_fit segment fits [] = refl
+all_fit segment fits (d ∷ ds) =
+    one_more fits (segment d) (all_some (map segment ds)) (list_all (λ d. option_map_or fits (segment d) false) ds) (all_fit segment fits ds)
 
 pub none_any : {A : Type 0} (p : A → Bool) (xs : List A) → list_all (λ x. not (p x)) xs ≡ not (list_any p xs)
 none_any p [] = refl

@@ -1,4 +1,4 @@
--- Values of a tree in their order, one after another.
+-- The findings of the items of a tree so far.
 use Rattle.std.proofs.Common.{◌≡◌, ℕ, suc, ◌+◌, ◌<◌, ◌≤◌, List, [], ◌∷◌, ◌++◌, length, map, drop, take, get_or, true, false, Some, None, refl, sym, ap, ◌∙◌, append_assoc, arith}
 use Rattle.std.specs.List.{sum_by}
 use Rattle.std.proofs.Math.Seq.{drop-cons}
@@ -11,15 +11,15 @@ use Rattle.serde_json.specs.Data.{Data, null, boolean, number, string, array, ob
 use Rattle.serde_json.specs.Find.{as_object}
 use Rattle.serde_json.specs.View.{items_of, items_view, members_view, view}
 use Rattle.serde_json.specs.declared.value.Value.{Value}
-use Rattle.apply_json.specs.Seen.{members_in}
+use Rattle.apply_json.specs.ShallowView.{members_in}
 use Rattle.apply_json.specs.Tree.{list_of}
 use Rattle.input_validate.specs.declared.findings.finding.Finding.{Finding}
 use Rattle.input_validate.specs.declared.findings.name.Name.{Name}
-use Rattle.input_validate.specs.declared.findings.part.Part.TheVariants.{Item}
-use Rattle.input_validate.specs.Beside.{beyond_at, waits_beyond, waits_in}
+use Rattle.input_validate.specs.declared.findings.path.Segment.TheVariants.{Item}
+use Rattle.input_validate.specs.AgainstPlan.{beyond_at, waits_beyond, waits_in}
 use Rattle.input_validate.specs.Findings.{under}
 use Rattle.input_validate.specs.PlanFindings.{is_one_of_eight}
-use Rattle.input_validate.specs.Walks.{items_behind, items_from, texts_in, unless_known, unread_from}
+use Rattle.input_validate.specs.Rules.{items_after, items_from, texts_in, unless_known, ignored_from}
 
 in_order : (ds : List Data) → list_of (items_of ds) ≡ ds
 in_order [] = refl
@@ -44,43 +44,43 @@ length_so_far vs i few = length_listed (take i vs) ∙ length-take-le i vs few
 
 -- ---- one more
 
-pub items_from_push : (found : ℕ → Data → List Finding) (n : ℕ) (ds : List Data) (d : Data)
-    → items_from found n (ds ++ d ∷ []) ≡ items_from found n ds ++ map (under (Item (n + length ds))) (found (n + length ds) d)
-items_from_push found n [] d =
-    append-nil (map (under (Item n)) (found n d)) ∙ ap (λ (k : ℕ). map (under (Item k)) (found k d)) (let e : n ≡ n + 0 = omega arith in e)
-items_from_push found n (e ∷ ds) d =
-    ap (λ (xs : List Finding). map (under (Item n)) (found n e) ++ xs) (items_from_push found (suc n) ds d)
-    ∙ sym (append_assoc (map (under (Item n)) (found n e)) (items_from found (suc n) ds) (map (under (Item (suc n + length ds))) (found (suc n + length ds) d)))
-    ∙ ap (λ (k : ℕ). map (under (Item n)) (found n e) ++ items_from found (suc n) ds ++ map (under (Item k)) (found k d)) (let q : suc n + length ds ≡ n + suc (length ds) = omega arith in q)
+pub items_from_push : (findings : ℕ → Data → List Finding) (n : ℕ) (ds : List Data) (d : Data)
+    → items_from findings n (ds ++ d ∷ []) ≡ items_from findings n ds ++ map (under (Item (n + length ds))) (findings (n + length ds) d)
+items_from_push findings n [] d =
+    append-nil (map (under (Item n)) (findings n d)) ∙ ap (λ (k : ℕ). map (under (Item k)) (findings k d)) (let e : n ≡ n + 0 = omega arith in e)
+items_from_push findings n (e ∷ ds) d =
+    ap (λ (xs : List Finding). map (under (Item n)) (findings n e) ++ xs) (items_from_push findings (suc n) ds d)
+    ∙ sym (append_assoc (map (under (Item n)) (findings n e)) (items_from findings (suc n) ds) (map (under (Item (suc n + length ds))) (findings (suc n + length ds) d)))
+    ∙ ap (λ (k : ℕ). map (under (Item n)) (findings n e) ++ items_from findings (suc n) ds ++ map (under (Item k)) (findings k d)) (let q : suc n + length ds ≡ n + suc (length ds) = omega arith in q)
 
-pub items_more : (found : ℕ → Data → List Finding) (vs : List Value) (i : ℕ) (v : Value) → i < length vs → v ≡ get_or vs i v
-    → items_from found 0 (list_of (items_view (take i vs))) ++ map (under (Item i)) (found i (view v)) ≡ items_from found 0 (list_of (items_view (take (i + 1) vs)))
-items_more found vs i v below read =
+pub items_more : (findings : ℕ → Data → List Finding) (vs : List Value) (i : ℕ) (v : Value) → i < length vs → v ≡ get_or vs i v
+    → items_from findings 0 (list_of (items_view (take i vs))) ++ map (under (Item i)) (findings i (view v)) ≡ items_from findings 0 (list_of (items_view (take (i + 1) vs)))
+items_more findings vs i v below read =
     let so_far : List Data = list_of (items_view (take i vs)) in
     let n : i ≡ 0 + length so_far = sym (let e : 0 + length so_far ≡ length so_far = omega arith in e ∙ length_so_far vs i (omega arith)) in
-    ap (λ (k : ℕ). items_from found 0 so_far ++ map (under (Item k)) (found k (view v))) n
-    ∙ sym (items_from_push found 0 so_far (view v))
-    ∙ ap (λ (ds : List Data). items_from found 0 ds) (sym (listed_more vs i v below read))
+    ap (λ (k : ℕ). items_from findings 0 so_far ++ map (under (Item k)) (findings k (view v))) n
+    ∙ sym (items_from_push findings 0 so_far (view v))
+    ∙ ap (λ (ds : List Data). items_from findings 0 ds) (sym (listed_more vs i v below read))
 
-behind_push : (found : List Data → Data → List Finding) (before ds : List Data) (d : Data)
-    → items_behind found before (ds ++ d ∷ []) ≡ items_behind found before ds ++ map (under (Item (length (before ++ ds)))) (found (before ++ ds) d)
-behind_push found before [] d =
-    append-nil (map (under (Item (length before))) (found before d))
-    ∙ ap (λ (bs : List Data). map (under (Item (length bs))) (found bs d)) (sym (append-nil before))
-behind_push found before (e ∷ ds) d =
-    let own : List Finding = map (under (Item (length before))) (found before e) in
-    ap (λ (xs : List Finding). own ++ xs) (behind_push found (before ++ e ∷ []) ds d)
-    ∙ sym (append_assoc own (items_behind found (before ++ e ∷ []) ds) (map (under (Item (length (before ++ e ∷ [] ++ ds)))) (found (before ++ e ∷ [] ++ ds) d)))
-    ∙ ap (λ (bs : List Data). own ++ items_behind found (before ++ e ∷ []) ds ++ map (under (Item (length bs))) (found bs d)) (append_assoc before (e ∷ []) ds)
+after_push : (findings : List Data → Data → List Finding) (before ds : List Data) (d : Data)
+    → items_after findings before (ds ++ d ∷ []) ≡ items_after findings before ds ++ map (under (Item (length (before ++ ds)))) (findings (before ++ ds) d)
+after_push findings before [] d =
+    append-nil (map (under (Item (length before))) (findings before d))
+    ∙ ap (λ (bs : List Data). map (under (Item (length bs))) (findings bs d)) (sym (append-nil before))
+after_push findings before (e ∷ ds) d =
+    let own : List Finding = map (under (Item (length before))) (findings before e) in
+    ap (λ (xs : List Finding). own ++ xs) (after_push findings (before ++ e ∷ []) ds d)
+    ∙ sym (append_assoc own (items_after findings (before ++ e ∷ []) ds) (map (under (Item (length (before ++ e ∷ [] ++ ds)))) (findings (before ++ e ∷ [] ++ ds) d)))
+    ∙ ap (λ (bs : List Data). own ++ items_after findings (before ++ e ∷ []) ds ++ map (under (Item (length bs))) (findings bs d)) (append_assoc before (e ∷ []) ds)
 
-pub behind_more : (found : List Data → Data → List Finding) (vs : List Value) (i : ℕ) (v : Value) → i < length vs → v ≡ get_or vs i v
-    → items_behind found [] (list_of (items_view (take i vs))) ++ map (under (Item i)) (found (list_of (items_view (take i vs))) (view v))
-    ≡ items_behind found [] (list_of (items_view (take (i + 1) vs)))
-behind_more found vs i v below read =
+pub after_more : (findings : List Data → Data → List Finding) (vs : List Value) (i : ℕ) (v : Value) → i < length vs → v ≡ get_or vs i v
+    → items_after findings [] (list_of (items_view (take i vs))) ++ map (under (Item i)) (findings (list_of (items_view (take i vs))) (view v))
+    ≡ items_after findings [] (list_of (items_view (take (i + 1) vs)))
+after_more findings vs i v below read =
     let so_far : List Data = list_of (items_view (take i vs)) in
-    ap (λ (k : ℕ). items_behind found [] so_far ++ map (under (Item k)) (found so_far (view v))) (sym (length_so_far vs i (omega arith)))
-    ∙ sym (behind_push found [] so_far (view v))
-    ∙ ap (λ (ds : List Data). items_behind found [] ds) (sym (listed_more vs i v below read))
+    ap (λ (k : ℕ). items_after findings [] so_far ++ map (under (Item k)) (findings so_far (view v))) (sym (length_so_far vs i (omega arith)))
+    ∙ sym (after_push findings [] so_far (view v))
+    ∙ ap (λ (ds : List Data). items_after findings [] ds) (sym (listed_more vs i v below read))
 
 -- what each of the values names, of one more
 pub named_more : {A : Type 0} (named : Data → A) (vs : List Value) (i : ℕ) (v : Value) → i < length vs → v ≡ get_or vs i v
@@ -88,26 +88,26 @@ pub named_more : {A : Type 0} (named : Data → A) (vs : List Value) (i : ℕ) (
 named_more named vs i v below read =
     sym (map-append named (list_of (items_view (take i vs))) (view v ∷ [])) ∙ ap (map named) (sym (listed_more vs i v below read))
 
-unread_push : (names : List Name) (n : ℕ) (texts : List (List ℕ)) (text : List ℕ)
-    → unread_from names n (texts ++ text ∷ []) ≡ unread_from names n texts ++ unless_known names (n + length texts) text
-unread_push names n [] text =
+ignored_push : (names : List Name) (n : ℕ) (texts : List (List ℕ)) (text : List ℕ)
+    → ignored_from names n (texts ++ text ∷ []) ≡ ignored_from names n texts ++ unless_known names (n + length texts) text
+ignored_push names n [] text =
     append-nil (unless_known names n text) ∙ ap (λ (k : ℕ). unless_known names k text) (let e : n ≡ n + 0 = omega arith in e)
-unread_push names n (t ∷ texts) text =
-    ap (λ (xs : List Finding). unless_known names n t ++ xs) (unread_push names (suc n) texts text)
-    ∙ sym (append_assoc (unless_known names n t) (unread_from names (suc n) texts) (unless_known names (suc n + length texts) text))
-    ∙ ap (λ (k : ℕ). unless_known names n t ++ unread_from names (suc n) texts ++ unless_known names k text) (let q : suc n + length texts ≡ n + suc (length texts) = omega arith in q)
+ignored_push names n (t ∷ texts) text =
+    ap (λ (xs : List Finding). unless_known names n t ++ xs) (ignored_push names (suc n) texts text)
+    ∙ sym (append_assoc (unless_known names n t) (ignored_from names (suc n) texts) (unless_known names (suc n + length texts) text))
+    ∙ ap (λ (k : ℕ). unless_known names n t ++ ignored_from names (suc n) texts ++ unless_known names k text) (let q : suc n + length texts ≡ n + suc (length texts) = omega arith in q)
 
 abbrev texts_of : List (Bor (List ℕ)) → List (List ℕ)
 texts_of texts = map (λ text. text.now) texts
 
 pub texts_more : (names : List Name) (texts : List (Bor (List ℕ))) (i : ℕ) (d : Bor (List ℕ)) → i < length texts
-    → unread_from names 0 (texts_of (take i texts)) ++ unless_known names i (get_or texts i d).now ≡ unread_from names 0 (texts_of (take (i + 1) texts))
+    → ignored_from names 0 (texts_of (take i texts)) ++ unless_known names i (get_or texts i d).now ≡ ignored_from names 0 (texts_of (take (i + 1) texts))
 texts_more names texts i d below =
     let so_far : List (List ℕ) = texts_of (take i texts) in
     let n : i ≡ 0 + length so_far = sym (let e : 0 + length so_far ≡ length so_far = omega arith in e ∙ length-map (take i texts) (λ text. text.now) ∙ length-take-le i texts (omega arith)) in
-    ap (λ (k : ℕ). unread_from names 0 so_far ++ unless_known names k (get_or texts i d).now) n
-    ∙ sym (unread_push names 0 so_far (get_or texts i d).now)
-    ∙ ap (λ (xs : List (List ℕ)). unread_from names 0 xs) (sym (ap texts_of (take_more texts i d below) ∙ map-append (λ text. text.now) (take i texts) (get_or texts i d ∷ [])))
+    ap (λ (k : ℕ). ignored_from names 0 so_far ++ unless_known names k (get_or texts i d).now) n
+    ∙ sym (ignored_push names 0 so_far (get_or texts i d).now)
+    ∙ ap (λ (xs : List (List ℕ)). ignored_from names 0 xs) (sym (ap texts_of (take_more texts i d below) ∙ map-append (λ text. text.now) (take i texts) (get_or texts i d ∷ [])))
 
 -- ---- sums
 

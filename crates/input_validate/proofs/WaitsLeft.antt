@@ -8,14 +8,14 @@ use Rattle.std.proofs.lemmas.Bool.Decides.{nat_tests}
 use denote.Ref.{Bor}
 use Rattle.serde_json.specs.Data.{Data}
 use Rattle.apply_model.specs.Script.Limits.{max_waits}
-use Rattle.input_validate.specs.Beside.{waits_behind, waits_in, waits_left}
+use Rattle.input_validate.specs.AgainstPlan.{waits_left_after, waits_in, waits_left}
 
--- how many more items there may be behind steps
-pub behind_over : (most : ℕ) (ds : List Data) → nat_lt most (sum_by waits_in ds) ≡ true → None ≡ waits_behind most ds
-behind_over most ds e = rw e refl
+-- how many items a script may still have after these steps
+pub after_over : (most : ℕ) (ds : List Data) → nat_lt most (sum_by waits_in ds) ≡ true → None ≡ waits_left_after most ds
+after_over most ds e = rw e refl
 
-pub behind_left : (most left : ℕ) (ds : List Data) → left + sum_by waits_in ds ≡ most → Some left ≡ waits_behind most ds
-behind_left most left ds e =
+pub after_left : (most left : ℕ) (ds : List Data) → left + sum_by waits_in ds ≡ most → Some left ≡ waits_left_after most ds
+after_left most left ds e =
     let taken : ℕ = sum_by waits_in ds in
     let none : nat_lt most taken ≡ false = le-ltb most taken (let q : left + taken ≡ most = e in omega arith) in
     let rest : left ≡ most - taken = (let q : left + taken ≡ most = e in omega arith) in

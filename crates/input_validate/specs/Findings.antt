@@ -1,46 +1,48 @@
--- Findings, and what is kept of them.
+-- Findings, and the report of a list of findings.
 use Rattle.std.specs.Prelude.{ℕ, ◌^◌, ◌-◌, List, [], ◌∷◌, length, min, take, Bool, true, false}
 use Rattle.std.specs.List.{list_any}
 use Rattle.input_validate.specs.declared.findings.finding.Finding.{Finding}
-use Rattle.input_validate.specs.declared.findings.part.Part.{Part}
-use Rattle.input_validate.specs.declared.findings.what.What.{What}
-use Rattle.input_validate.specs.declared.findings.what.What.TheVariants.{NotRead}
+use Rattle.input_validate.specs.declared.findings.path.Segment.{Segment}
+use Rattle.input_validate.specs.declared.findings.problem.Problem.{Problem}
+use Rattle.input_validate.specs.declared.findings.problem.Problem.TheVariants.{NotRead}
 
--- at the value itself
-abbrev pub finding_here : What → Finding
-finding_here what = record { path = []; what = what }
+-- a finding at the value itself
+abbrev pub finding_here : Problem → Finding
+finding_here problem = record { path = []; problem = problem }
 
--- at what a step leads to
-abbrev pub finding_at : Part → What → Finding
-finding_at part what = record { path = part ∷ []; what = what }
+-- a finding at a member or an item
+abbrev pub finding_at : Segment → Problem → Finding
+finding_at segment problem = record { path = segment ∷ []; problem = problem }
 
--- the same, of the value in which that step leads to where the path began
-abbrev pub under : Part → Finding → Finding
-under part finding = record { path = part ∷ finding.path; what = finding.what }
+-- the finding seen from the value that holds that member or item
+abbrev pub under : Segment → Finding → Finding
+under segment finding = record { path = segment ∷ finding.path; problem = finding.problem }
 
--- a run refuses a plan or a script for it; the others are warnings
-abbrev pub is_refusal_of : What → Bool
+-- a run refuses for this problem; `NotRead` is the only warning
+abbrev pub is_refusal_of : Problem → Bool
 is_refusal_of NotRead = false
 is_refusal_of _ = true
 
+-- a run refuses for this finding
 abbrev pub is_refusal : Finding → Bool
-is_refusal finding = is_refusal_of finding.what
+is_refusal finding = is_refusal_of finding.problem
 
--- what is kept of findings
-pub record Told : Type 0 where
-  -- the first of them
-  pub kept : List Finding
-  -- how many there are
+-- what a program holds of a list of findings
+pub record Reported : Type 0 where
+  -- the first 1,000 findings
+  pub stored : List Finding
+  -- the number of all findings
   pub count : ℕ
-  -- a run refuses for one of them
+  -- a run refuses for one of the findings, stored or not
   pub refuses : Bool
 
-abbrev pub most_kept : ℕ
-most_kept = 1000
+abbrev pub max_stored : ℕ
+max_stored = 1000
 
--- a count goes no further
+-- the greatest number that a program counts to
 abbrev pub most_counted : ℕ
 most_counted = 2 ^ 64 - 1
 
-unfoldable pub told : List Finding → Told
-told all = record { kept = take most_kept all; count = min (length all) most_counted; refuses = list_any is_refusal all }
+-- the report of a list of findings
+unfoldable pub reported : List Finding → Reported
+reported all = record { stored = take max_stored all; count = min (length all) most_counted; refuses = list_any is_refusal all }

@@ -1,4 +1,4 @@
--- What is found for a run in a form.
+-- Findings for a run in one of the two forms.
 use Rattle.std.specs.Prelude.{ℕ, List, [], ◌++◌, Bool, Option, Some, None}
 use Rattle.std.specs.List.{list_any}
 use Rattle.apply_plan.specs.Plan.SavedPlan.{plan_of}
@@ -9,13 +9,14 @@ use Rattle.input_validate.specs.Extras.{extras_findings, outputs_unless}
 use Rattle.input_validate.specs.Findings.{is_refusal}
 use Rattle.input_validate.specs.Whole.{given_findings, plan_findings}
 
--- what is found of what only a run in that form reads, in a script for a plan that may be refused
+-- the findings of the members that only a run in this form reads; `refused` says that a run refuses
+-- the plan
 abbrev pub extras_for : Form → (refused : Bool) → List ℕ → Option (List ℕ) → List Finding
 extras_for Applystream refused plan script = []
 extras_for Terraform refused plan None = []
 extras_for Terraform refused plan (Some bytes) = extras_findings (outputs_unless refused plan) bytes
 
--- what is found in a script for a plan, both as bytes
+-- the findings of a script for a plan, from the bytes of both
 abbrev pub findings_in : Form → (lanes : Bool) → List ℕ → Option (List ℕ) → List Finding
 findings_in form lanes plan script =
     given_findings lanes (plan_of plan) script ++ extras_for form (list_any is_refusal (plan_findings plan)) plan script

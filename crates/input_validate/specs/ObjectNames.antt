@@ -1,9 +1,9 @@
--- What contracts see of the name of an object, for the private type that borrows it.
+-- The name of an object, as contracts see it.
 use Rattle.std.specs.Prelude.{ℕ, List, Option}
 use Rattle.std.specs.Option.{option_copied}
 use Rattle.input_validate.specs.declared.plan.object_name.ObjectName.{ObjectName}
 
--- an address, and the key of a deposed object or none
+-- an address, and the key of a deposed object; `None` is the object that is not deposed
 abbrev pub Named : Type 0
 Named = List ℕ × Option (List ℕ)
 

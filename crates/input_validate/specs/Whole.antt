@@ -1,4 +1,4 @@
--- What is found in bytes.
+-- Findings of inputs, from their bytes.
 use Rattle.std.specs.Prelude.{ℕ, List, [], ◌∷◌, ◌++◌, drop, length, map, Bool, ◌&&◌, not, nat_lt, if◌then◌else◌, Option, Some, None, option_map, Result, Ok, Err}
 use Rattle.std.specs.List.{flat_map, list_any}
 use Rattle.std.specs.Option.{option_map_or}
@@ -15,31 +15,31 @@ use Rattle.apply_plan.specs.declared.script.script_error.ScriptError.TheVariants
 use Rattle.apply_plan.specs.Script.NeverBeginning.{never_beginning_of}
 use Rattle.apply_plan.specs.Script.OutcomeMap.{script_of}
 use Rattle.input_validate.specs.declared.findings.finding.Finding.{Finding}
-use Rattle.input_validate.specs.declared.findings.what.What.{What}
-use Rattle.input_validate.specs.declared.findings.what.What.TheVariants.{ForPlan, NotJson, TooManyBytes, Waits}
+use Rattle.input_validate.specs.declared.findings.problem.Problem.{Problem}
+use Rattle.input_validate.specs.declared.findings.problem.Problem.TheVariants.{ForPlan, NotJson, TooManyBytes, Waits}
 use Rattle.input_validate.specs.declared.findings.name.Name.TheVariants.{Changes}
-use Rattle.input_validate.specs.declared.findings.part.Part.{Part}
-use Rattle.input_validate.specs.declared.findings.part.Part.TheVariants.{Item, Member}
-use Rattle.input_validate.specs.Beside.{place_of_waits, waits_told}
+use Rattle.input_validate.specs.declared.findings.path.Segment.{Segment}
+use Rattle.input_validate.specs.declared.findings.path.Segment.TheVariants.{Item, Member}
+use Rattle.input_validate.specs.AgainstPlan.{place_of_waits, waits_findings}
 use Rattle.input_validate.specs.Findings.{finding_here, is_refusal, under}
 use Rattle.input_validate.specs.PlanFindings.{in_plan}
 use Rattle.input_validate.specs.ScriptFindings.{in_script}
 
--- what is found in the tree of the bytes, which may be too many or no JSON
+-- the findings of an input; an input that is too large or not JSON has only that finding
 abbrev pub in_bytes : (Data → List Finding) → List ℕ → List Finding
-in_bytes found bytes =
+in_bytes findings bytes =
     if nat_lt max_bytes (length bytes) then finding_here TooManyBytes ∷ []
-    else option_map_or found (tree_of bytes) (finding_here NotJson ∷ [])
+    else option_map_or findings (tree_of bytes) (finding_here NotJson ∷ [])
 
--- what is found in a plan
+-- the findings of a plan
 abbrev pub plan_findings : List ℕ → List Finding
 plan_findings bytes = in_bytes in_plan bytes
 
--- the changes of a plan, where there is one
+-- the changes of a plan, if there is one
 abbrev pub changes_in : Option SavedPlan → Option (List ResourceChange)
-changes_in plan = option_map (λ found. found.changes) plan
+changes_in plan = option_map (λ saved. saved.changes) plan
 
--- what is found in a script, beside the changes of a plan where there are some
+-- the findings of a script; with `changes`, the script is compared with them
 abbrev pub script_findings : Option (List ResourceChange) → List ℕ → List Finding
 script_findings changes bytes = in_bytes (in_script changes) bytes
 
@@ -62,54 +62,56 @@ entry_of_refusal (error.NoSuchStep n) = Some n
 entry_of_refusal (error.NeverBegins n) = Some n
 entry_of_refusal _ = None
 
--- what a run refuses a script for, beside the plan, where it stands
-abbrev pub placed : Option ℕ → What → List Finding
-placed None what = finding_here what ∷ []
-placed (Some n) what = map (under (Member Changes)) (map (under (Item n)) (finding_here what ∷ []))
+-- a finding at the entry that a refusal names, or at the top
+abbrev pub placed : Option ℕ → Problem → List Finding
+placed None problem = finding_here problem ∷ []
+placed (Some n) problem = map (under (Member Changes)) (map (under (Item n)) (finding_here problem ∷ []))
 
+-- the finding of a refusal
 abbrev pub refused_for : ScriptError → List Finding
 refused_for refusal = placed (entry_of_refusal refusal) (ForPlan refusal)
 
--- where the first step stands that waits, beside the changes of a plan where there are some
-abbrev pub waits_at : Option (List ResourceChange) → List ℕ → List Part
+-- the path to the `after` of the first waiting step
+abbrev pub waits_at : Option (List ResourceChange) → List ℕ → List Segment
 waits_at changes bytes = if nat_lt max_bytes (length bytes) then [] else option_map_or (place_of_waits changes) (tree_of bytes) []
 
--- waits take lanes; of a script that a run reads
+-- without lanes, the finding that steps of a script wait; a run reads the script
 abbrev pub unless_waits : (lanes : Bool) → List ResourceChange → List ℕ → OutcomeMap → List Finding
 unless_waits lanes changes bytes script =
-    if not lanes && has_waits script then record { path = waits_at (Some changes) bytes; what = Waits } ∷ [] else []
+    if not lanes && has_waits script then record { path = waits_at (Some changes) bytes; problem = Waits } ∷ [] else []
 
--- the same of the tree of the bytes, whatever else is found there; nothing where they are too many or no JSON
-abbrev pub waits_said : (lanes : Bool) → Option (List ResourceChange) → List ℕ → List Finding
-waits_said lanes changes bytes =
-    if lanes then [] else if nat_lt max_bytes (length bytes) then [] else option_map_or (waits_told changes) (tree_of bytes) []
+-- without lanes, the finding that steps wait, whatever other errors the script has
+abbrev pub waits_without_lanes : (lanes : Bool) → Option (List ResourceChange) → List ℕ → List Finding
+waits_without_lanes lanes changes bytes =
+    if lanes then [] else if nat_lt max_bytes (length bytes) then [] else option_map_or (waits_findings changes) (tree_of bytes) []
 
--- each of these entries has a step that could never begin
+-- each of these entries has a step that can never start
 abbrev pub stuck_entries : List ℕ → List Finding
 stuck_entries numbers = flat_map (λ n. refused_for (error.NeverBegins n)) numbers
 
--- those behind the first, for which a run refuses the script
-abbrev pub behind_first : Result (List ℕ) ScriptError → List ℕ
-behind_first (Ok numbers) = drop 1 numbers
-behind_first (Err refusal) = []
+-- the entries after the first, which is the one that a run refuses
+abbrev pub after_first : Result (List ℕ) ScriptError → List ℕ
+after_first (Ok numbers) = drop 1 numbers
+after_first (Err refusal) = []
 
--- what a run refuses a script for, then each further entry that has a step which could never begin, and that steps wait
+-- what a run refuses a script for, then each further entry with a step that can never start, then
+-- waits without lanes
 abbrev pub refusals_of : (lanes : Bool) → List ResourceChange → List ℕ → Result OutcomeMap ScriptError → (stuck : Result (List ℕ) ScriptError) → List Finding
 refusals_of lanes changes bytes (Ok script) stuck = unless_waits lanes changes bytes script
-refusals_of lanes changes bytes (Err refusal) stuck = refused_for refusal ++ stuck_entries (behind_first stuck) ++ waits_said lanes (Some changes) bytes
+refusals_of lanes changes bytes (Err refusal) stuck = refused_for refusal ++ stuck_entries (after_first stuck) ++ waits_without_lanes lanes (Some changes) bytes
 
--- what a run refuses a script for; where something else is found for which it is refused, only that steps wait
-abbrev pub beside_plan : (lanes : Bool) → SavedPlan → List ℕ → List Finding
-beside_plan lanes plan bytes =
-    if list_any is_refusal (script_findings (Some plan.changes) bytes) then waits_said lanes (Some plan.changes) bytes
+-- what a run refuses a script for; if the script has an error already, only waits without lanes
+abbrev pub refusals_against_plan : (lanes : Bool) → SavedPlan → List ℕ → List Finding
+refusals_against_plan lanes plan bytes =
+    if list_any is_refusal (script_findings (Some plan.changes) bytes) then waits_without_lanes lanes (Some plan.changes) bytes
     else refusals_of lanes plan.changes bytes (script_of plan bytes) (never_beginning_of plan bytes)
 
--- what is found in a script for a plan that may be refused
+-- the findings of a script for a plan that a run may refuse
 abbrev pub script_findings_for : (lanes : Bool) → Result SavedPlan PlanError → List ℕ → List Finding
-script_findings_for lanes (Ok plan) bytes = script_findings (Some plan.changes) bytes ++ beside_plan lanes plan bytes
-script_findings_for lanes (Err refusal) bytes = script_findings None bytes ++ waits_said lanes None bytes
+script_findings_for lanes (Ok plan) bytes = script_findings (Some plan.changes) bytes ++ refusals_against_plan lanes plan bytes
+script_findings_for lanes (Err refusal) bytes = script_findings None bytes ++ waits_without_lanes lanes None bytes
 
--- what is found in a script that may not be given
+-- the findings of a script, if one is given
 abbrev pub given_findings : (lanes : Bool) → Result SavedPlan PlanError → Option (List ℕ) → List Finding
 given_findings lanes plan None = []
 given_findings lanes plan (Some bytes) = script_findings_for lanes plan bytes

@@ -1,4 +1,4 @@
-//! What is found in what a script says for Terraform's form alone.
+//! Checks the members of a script that only a run in Terraform's form reads.
 
 pub mod bytes;
 pub mod note;

@@ -1,9 +1,8 @@
-//! What is found: where, and what is wrong there.
+//! A finding: its place, and what is wrong there.
 
+pub mod expected;
 pub mod finding;
 pub mod list;
 pub mod name;
-pub mod part;
 pub mod path;
-pub mod want;
-pub mod what;
+pub mod problem;

@@ -1,10 +1,10 @@
-//! In which form a run writes its stream.
+//! The form of the stream that a run writes.
 
-/// In which form a run writes its stream, and with it what of a script the run reads.
+/// The form of the stream that a run writes. It decides which members of a script the run reads.
 #[derive(Clone, Copy, Debug, PartialEq, Eq)]
 pub enum Form {
-    /// This program's own.
+    /// This program's own form.
     Applystream,
-    /// Terraform's: the run reads `outputs` and `diagnostics` at the top of the script too.
+    /// Terraform's form: the run also reads `outputs` and `diagnostics` at the top of the script.
     Terraform,
 }

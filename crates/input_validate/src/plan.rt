@@ -1,4 +1,4 @@
-//! What is found in a plan.
+//! Checks a plan.
 
 pub mod element;
 pub mod elements;

@@ -1,4 +1,4 @@
-//! What is found in a script.
+//! Checks a script.
 
 pub mod diagnostic;
 pub mod entry;

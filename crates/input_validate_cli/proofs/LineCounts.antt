@@ -1,4 +1,4 @@
--- How many lines texts have.
+-- The number of lines of a text.
 use Rattle.std.proofs.Common.{◌≡◌, ◌≢◌, ◌∙◌, ◌+◌, ◌-◌, ◌<◌, ◌≤◌, ◌^◌, ◌++◌, ℕ, suc, List, [], ◌∷◌, length, get_or, Bool, true, false, cond, Result, Ok, Err, String, Global, ap, arith, refl, subst, sym, string_bytes, ltb, ⊎_elim}
 use Rattle.std.specs.Prelude.{◌==◌, IfOk, OnOk, if◌then◌else◌, is_ok, min, nat_lt}
 use Rattle.std.specs.declared.alloc.AllocError.{AllocError}
@@ -9,7 +9,7 @@ use Rattle.std.proofs.lemmas.List.{length-take}
 use Rattle.std.proofs.lemmas.List.Sums.{sum_by-append}
 use Rattle.std.proofs.lemmas.Str.{NoCharPasses-byte}
 use Rattle.term_text.specs.Shown.{is_hidden}
-use Rattle.input_validate.specs.Findings.{Told, told}
+use Rattle.input_validate.specs.Findings.{Reported, reported}
 use Rattle.input_validate.specs.declared.findings.finding.Finding.{Finding}
 use Rattle.input_validate_cli.specs.Lines.{line_count, lines_for, lines_of}
 use Rattle.input_validate_cli.specs.Validated.{accepted, nothing}
@@ -52,10 +52,10 @@ one_more_on_ok (Err refused) before shown mid coded after plain is_mid is_coded 
 
 -- ---- as many lines as findings
 
--- what is kept of two lists, each of which keeps its first 1,000, and whether there are more
-as_numbers : (a b kept others count more : ℕ) → kept ≡ min 1000 a → others ≡ min 1000 b → count ≡ min a (2 ^ 64 - 1) → more ≡ min b (2 ^ 64 - 1)
-    → min 1000 kept + min (1000 - kept) others + cond (nat_lt 1000 (count + more)) 1 0 ≡ min (a + b) 1001
-as_numbers a b kept others count more is_kept is_others is_count is_more =
+-- the printed part of two lists, each of which stores its first 1,000, and whether there are more
+as_numbers : (a b stored others count more : ℕ) → stored ≡ min 1000 a → others ≡ min 1000 b → count ≡ min a (2 ^ 64 - 1) → more ≡ min b (2 ^ 64 - 1)
+    → min 1000 stored + min (1000 - stored) others + cond (nat_lt 1000 (count + more)) 1 0 ≡ min (a + b) 1001
+as_numbers a b stored others count more is_kept is_others is_count is_more =
     ⊎_elim
     (λ (many : 1000 < a + b). let over : 1000 < count + more = omega arith in
     let test : ltb 1000 (count + more) ≡ true = lt-ltb _ _ over in
@@ -65,17 +65,17 @@ as_numbers a b kept others count more is_kept is_others is_count is_more =
     rw test (omega arith))
     (cases_lt 1000 (a + b))
 
-lines_as_told : (all more : List Finding) (has_script : Bool) → (has_script ≡ false → more ≡ []) → lines_of (told all) (told more) has_script ≡ min (length all + length more) 1001
-unfolding told
-lines_as_told all more true absent =
+lines_as_printed : (all more : List Finding) (has_script : Bool) → (has_script ≡ false → more ≡ []) → lines_of (reported all) (reported more) has_script ≡ min (length all + length more) 1001
+unfolding reported
+lines_as_printed all more true absent =
     as_numbers (length all) (length more) _ _ _ _ (length-take 1000 all) (length-take 1000 more) refl refl
-lines_as_told all more false absent =
+lines_as_printed all more false absent =
     let none : length more ≡ 0 = ap length (absent refl) in
     let same = as_numbers (length all) (length more) _ _ _ _ (length-take 1000 all) (length-take 1000 more) refl refl in
     omega (arith, none, same, length-take 1000 all, length-take 1000 more)
 
-some_found : (all more : List Finding) (text : List ℕ) → (told all ≡ nothing → told more ≡ nothing → text ≡ []) → text ≢ [] → 1 ≤ length all + length more
-unfolding told
+some_found : (all more : List Finding) (text : List ℕ) → (reported all ≡ nothing → reported more ≡ nothing → text ≡ []) → text ≢ [] → 1 ≤ length all + length more
+unfolding reported
 some_found [] [] text none some = absurd (some (none refl refl))
 some_found [] (finding ∷ more) text none some = omega arith
 some_found (finding ∷ all) more text none some = omega arith
@@ -85,21 +85,21 @@ accepted_counted true = refl
 accepted_counted false = refl
 
 -- the text with all lines, or where it is empty the one that all is accepted
-pub as_many_lines : (of_plan of_script : Told) (has_script : Bool) (text : List ℕ) (made : Result (String Global) AllocError)
+pub as_many_lines : (of_plan of_script : Reported) (has_script : Bool) (text : List ℕ) (made : Result (String Global) AllocError)
     → line_count text ≡ lines_of of_plan of_script has_script → (of_plan ≡ nothing → of_script ≡ nothing → text ≡ [])
     → (text ≡ [] → IfOk made (λ all. string_bytes all ≡ accepted has_script)) → (text ≢ [] → IfOk made (λ all. string_bytes all ≡ text))
-    → (all more : List Finding) → of_plan ≡ told all → of_script ≡ told more → (has_script ≡ false → more ≡ [])
+    → (all more : List Finding) → of_plan ≡ reported all → of_script ≡ reported more → (has_script ≡ false → more ≡ [])
     → IfOk made (λ whole. line_count (string_bytes whole) ≡ lines_for (length all + length more))
 as_many_lines of_plan of_script has_script text (Err refused) counted none empty same all more is_plan is_script absent = tt
 as_many_lines of_plan of_script has_script [] (Ok whole) counted none empty same all more is_plan is_script absent =
-    let kept : lines_of of_plan of_script has_script ≡ lines_of (told all) (told more) has_script = ap (λ (p : Told). lines_of p of_script has_script) is_plan ∙ ap (λ (s : Told). lines_of (told all) s has_script) is_script in
-    let few = lines_as_told all more has_script absent in
-    let none_told : min (length all + length more) 1001 ≡ 0 = sym (counted ∙ kept ∙ few) in
+    let stored : lines_of of_plan of_script has_script ≡ lines_of (reported all) (reported more) has_script = ap (λ (p : Reported). lines_of p of_script has_script) is_plan ∙ ap (λ (s : Reported). lines_of (reported all) s has_script) is_script in
+    let few = lines_as_printed all more has_script absent in
+    let none_printed : min (length all + length more) 1001 ≡ 0 = sym (counted ∙ stored ∙ few) in
     let one = accepted_counted has_script in
-    ap line_count (empty refl) ∙ one ∙ omega (arith, none_told)
+    ap line_count (empty refl) ∙ one ∙ omega (arith, none_printed)
 as_many_lines of_plan of_script has_script (byte ∷ text) (Ok whole) counted none empty same all more is_plan is_script absent =
-    let kept : lines_of of_plan of_script has_script ≡ lines_of (told all) (told more) has_script = ap (λ (p : Told). lines_of p of_script has_script) is_plan ∙ ap (λ (s : Told). lines_of (told all) s has_script) is_script in
+    let stored : lines_of of_plan of_script has_script ≡ lines_of (reported all) (reported more) has_script = ap (λ (p : Reported). lines_of p of_script has_script) is_plan ∙ ap (λ (s : Reported). lines_of (reported all) s has_script) is_script in
     let some_text : byte ∷ text ≢ [] = λ bad. cc in
     let some = some_found all more (byte ∷ text) (λ p s. none (is_plan ∙ p) (is_script ∙ s)) some_text in
-    let told_count : line_count (byte ∷ text) ≡ min (length all + length more) 1001 = counted ∙ kept ∙ lines_as_told all more has_script absent in
-    ap line_count (same some_text) ∙ told_count ∙ omega (arith, some)
+    let printed_count : line_count (byte ∷ text) ≡ min (length all + length more) 1001 = counted ∙ stored ∙ lines_as_printed all more has_script absent in
+    ap line_count (same some_text) ∙ printed_count ∙ omega (arith, some)

@@ -1,4 +1,4 @@
--- What is written, with one write more.
+-- What is written after one more write.
 use Rattle.std.proofs.Common.{ℕ, ◌+◌, ◌-◌, List, Option, length, take, take-add, drop, subst, sym}
 use Rattle.std.specs.Io.KnownBytes.{Appends}
 use Rattle.std.proofs.KnownBytes.{Appends-trans}

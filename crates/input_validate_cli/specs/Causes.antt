@@ -1,4 +1,4 @@
--- Why what is found was not told.
+-- Why findings were not written.
 use Rattle.std.specs.Prelude.{⊤, ℕ}
 use Rattle.input_validate_cli.specs.declared.command.inputs.ReadFault.{ReadFault}
 use Rattle.input_validate_cli.specs.declared.command.inputs.ReadFault.TheVariants as read
@@ -23,7 +23,7 @@ IsWriteFault fault.Memory = ⊥
 IsWriteFault fault.Gone = ⊤
 IsWriteFault fault.Unwritten = ⊤
 
--- the exit status
+-- the exit status for this cause
 abbrev pub fault_status_of : ValidateFault → ℕ
 fault_status_of (fault.Plan failed) = 2
 fault_status_of (fault.Script failed) = 2

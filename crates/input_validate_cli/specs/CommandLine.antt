@@ -1,4 +1,5 @@
--- What the words behind `validate` say: the options that there are, as `clap` takes them, and which of them gives which setting.
+-- What the words after `validate` state: the options as `clap` takes them, and the setting that
+-- each option gives.
 use Rattle.std.specs.Prelude.{◌≡◌, ◌⊎◌, List, [], ◌∷◌, Some, true, codes, if◌then◌else◌, IsSome, is_some, option_map, pos, string_bytes}
 use Rattle.std.specs.Borrow.{Bor}
 use Rattle.std.specs.Option.{option_map_or}
@@ -13,7 +14,7 @@ use Rattle.stream_tool.specs.declared.usage.Usage.{Usage}
 use Rattle.stream_tool.specs.declared.usage.Usage.TheVariants as usage
 use Rattle.input_validate.specs.declared.form.Form.{Form}
 use Rattle.input_validate.specs.declared.form.Form.TheVariants.{Applystream, Terraform}
-use Rattle.input_validate_cli.specs.declared.command.settings.Settings.{Settings}
+use Rattle.input_validate_cli.specs.declared.command.arguments.Settings.{Settings}
 
 -- ---- the options
 
@@ -29,15 +30,15 @@ parallelism_rule = record (new_rule (codes "parallelism")) {
   parser = Some (values.Signed (pos 1) (pos 64));
 }
 
--- the words for forms of a stream
+-- the values of `--form`
 abbrev pub form_words : List Text
 form_words = codes "applystream" ∷ codes "terraform" ∷ []
 
--- the value has to be one of these
+-- the value is one of these words
 abbrev pub TakesForms : ValueParser → Type 0
 TakesForms parser = (names : Bor (List (Bor Text))) × (texts names.now ≡ form_words) × (parser ≡ values.Names names)
 
--- `--form FORM`; the first of the words stands for none
+-- `--form FORM`; without it, the first word holds
 abbrev pub form_rule : (forms : ValueParser) → Rule
 form_rule forms = record (new_rule (codes "form")) {
   long = Some (codes "form");
@@ -46,7 +47,7 @@ form_rule forms = record (new_rule (codes "form")) {
   defaults = codes "applystream" ∷ [];
 }
 
--- the command, whose words are those behind `validate`
+-- the command, whose words are those after `validate`
 abbrev pub command_line : (forms : ValueParser) → App
 command_line forms = record {
   top = record (new_shape (codes "applystream validate")) {
@@ -56,44 +57,44 @@ command_line forms = record {
   subs = [];
 }
 
--- so it is by the command, whose option takes the words for forms
+-- this holds for the command; its option takes the words for forms
 abbrev pub ByCommand : (App → Type 0) → Type 0
 ByCommand IsSo = (forms : ValueParser) × TakesForms forms × IsSo (command_line forms)
 
--- so it is by the command, whatever holds the words for forms that its option takes
+-- this holds for the command, however its option holds the words for forms
 abbrev pub ByEachCommand : (App → Type 0) → Type 0
 ByEachCommand IsSo = (forms : ValueParser) → TakesForms forms → IsSo (command_line forms)
 
--- ---- what they say
+-- ---- what the words state
 
 abbrev pub form_of_word : Text → Form
 form_of_word word = if bytes_eq word (codes "terraform") then Terraform else Applystream
 
--- the form whose word the option has, and else the program's own
-abbrev pub form_said : List Row → Form
-form_said rows = option_map_or form_of_word (first_of (codes "form") rows) Applystream
+-- the form that the option names, or this program's own
+abbrev pub form_stated : List Row → Form
+form_stated rows = option_map_or form_of_word (first_of (codes "form") rows) Applystream
 
--- each setting is what its own option says
-pub record AreSaid (rows : List Row) (settings : Settings) : Type 0 where
+-- each setting is what its own option states
+pub record AreStated (rows : List Row) (settings : Settings) : Type 0 where
   pub script : option_map string_bytes settings.script ≡ first_of (codes "script") rows
   pub lanes : settings.lanes ≡ is_some (first_of (codes "parallelism") rows)
-  pub form : settings.form ≡ form_said rows
+  pub form : settings.form ≡ form_stated rows
 
--- the words were taken, and the settings are what they say
-pub record HaveSaid (words : List Text) (settings : Settings) : Type 0 where
+-- the words are valid, and state these settings
+pub record HaveStated (words : List Text) (settings : Settings) : Type 0 where
   pub forms : ValueParser
   pub are_forms : TakesForms forms
-  pub taken : fault_of (command_line forms) words ≡ []
-  pub said : AreSaid (matches_of (command_line forms) words) settings
+  pub valid : fault_of (command_line forms) words ≡ []
+  pub stated : AreStated (matches_of (command_line forms) words) settings
 
--- they name a script
+-- the words name a script
 pub record NameAScript (words : List Text) : Type 0 where
   pub settings : Settings
-  pub said : HaveSaid words settings
+  pub stated : HaveStated words settings
   pub named : IsSome settings.script
 
--- ---- why they are refused
+-- ---- why the words are refused
 
--- they are a call for help, or none of the options, or memory was refused
-abbrev pub SayNoSettings : (words : List Text) → Usage → Type 0
-SayNoSettings words why = (why ≡ usage.Memory) ⊎ ByCommand (λ app. WereRefused app words why)
+-- the words ask for help, or are not words of this command, or memory was refused
+abbrev pub StateNoSettings : (words : List Text) → Usage → Type 0
+StateNoSettings words why = (why ≡ usage.Memory) ⊎ ByCommand (λ app. WereRefused app words why)

@@ -2,15 +2,13 @@
 #![tactic(auto)]
 
 mod command;
-mod lens;
+mod input_sizes;
 mod texts;
 
-pub use command::arguments::read_words;
+pub use command::arguments::{Settings, read_words};
 pub use command::entry_points::{follow, validate};
 pub use command::failed_read::FailedRead;
-pub use command::followed::Followed;
-pub use command::outcome::Outcome;
-pub use command::settings::Settings;
-pub use command::telling::found_text;
+pub use command::followed::{Followed, Outcome};
+pub use command::report_text::report_text;
 pub use command::validate_fault::ValidateFault;
-pub use lens::Lens;
+pub use input_sizes::InputSizes;

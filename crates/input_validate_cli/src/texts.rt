@@ -1,11 +1,11 @@
-//! Findings as people are told of them.
+//! The texts of findings, for people.
 
-pub mod beside;
+pub mod against_plan;
 pub mod count;
+pub mod expected;
 pub mod finding;
-pub mod found;
-pub mod near;
-pub mod place;
+pub mod jq_path;
+pub mod nearest_names;
 pub mod plan_names;
 pub mod plan_outputs;
-pub mod wants;
+pub mod value;

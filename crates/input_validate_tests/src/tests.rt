@@ -1,5 +1,6 @@
-//! What no clause says: that each call answers, and which exit status follows; readers and writers that fail. Rows over the
-//! built program have the texts (`examples/findings`).
+//! Tests of what no clause states: that each call answers, and with which exit status. Readers and
+//! writers that fail are in `failing`. The texts are tested on the built program
+//! (`examples/findings`).
 
 mod failing;
 mod streams;
@@ -7,24 +8,24 @@ mod streams;
 use input_validate::{
     Form, Name, findings_of, findings_of_plan, findings_of_script, known_names, nearest,
 };
-use input_validate_cli::{Lens, found_text, validate};
+use input_validate_cli::{InputSizes, report_text, validate};
 use std::alloc::Global;
 use std::process::Abort;
 
-/// A plan with an update.
+/// A plan that updates one object.
 const PLAN: &str = r#"{"format_version":"1.2","resource_changes":[
 {"address":"a.b","mode":"managed","type":"a","name":"b","change":{"actions":["update"]}}]}"#;
 
-/// A script that a run refuses, and with a member that no run reads.
+/// A script that a run refuses, with a member that no run reads.
 const SCRIPT: &str = r#"{"changes":[{"address":"a.c","steps":[]}],"outputs":[],"more":1}"#;
 
 #[test]
-fn what_is_found_is_told(rt: HostRuntime) {
+fn findings_are_printed(rt: HostRuntime) {
     let alloc = rt.alloc();
     let (plan, script) = (PLAN.as_bytes(), Some(SCRIPT.as_bytes()));
-    let found = findings_of(alloc, plan, script, false, Form::Terraform).expect(&rt, "memory");
-    let lens = Lens::of(plan, script);
-    let text = found_text(alloc, &found, plan, script, lens).expect(&rt, "memory");
+    let findings = findings_of(alloc, plan, script, false, Form::Terraform).expect(&rt, "memory");
+    let sizes = InputSizes::of(plan, script);
+    let text = report_text(alloc, &findings, plan, script, sizes).expect(&rt, "memory");
     assert_eq!(rt;
         text.as_str(),
         "script .changes[0].address: is \"a.c\", which the plan does not change; is \"a.b\" meant?\n\
@@ -43,7 +44,7 @@ fn each_input_has_its_findings(rt: HostRuntime) {
 }
 
 #[test]
-fn names_that_are_near_are_found(rt: HostRuntime) {
+fn nearest_names_are_listed(rt: HostRuntime) {
     let alloc = rt.alloc();
     let mut names = Vec::new(alloc);
     for name in known_names(Some(Name::Changes), Some(Name::Steps)) {
@@ -53,7 +54,7 @@ fn names_that_are_near_are_found(rt: HostRuntime) {
     assert_eq!(rt; (near.len(), near.first().copied()), (1, Some(3)));
 }
 
-/// Fails where validating ends with another status, or something is said beside what is found.
+/// Fails if the validation ends with another status, or prints an error.
 fn ends_with(rt: &impl Abort, alloc: Global, plan: &str, script: Option<&str>, status: u8) {
     let script = match script {
         Some(text) => Some(text.as_bytes()),
@@ -68,7 +69,7 @@ fn ends_with(rt: &impl Abort, alloc: Global, plan: &str, script: Option<&str>, s
         false,
         plan,
         script,
-        Lens::of(plan, script),
+        InputSizes::of(plan, script),
         &mut out,
         &mut faults,
     );
@@ -77,14 +78,14 @@ fn ends_with(rt: &impl Abort, alloc: Global, plan: &str, script: Option<&str>, s
 }
 
 #[test]
-fn what_is_found_has_its_status(rt: HostRuntime) {
+fn findings_have_their_status(rt: HostRuntime) {
     let alloc = rt.alloc();
     ends_with(&rt, alloc, PLAN, None, 0);
     ends_with(&rt, alloc, PLAN, Some(r#"{"changes":[]}"#), 0);
-    let unread = r#"{"changes":[],"change":[]}"#;
-    ends_with(&rt, alloc, PLAN, Some(unread), 1);
+    let ignored = r#"{"changes":[],"change":[]}"#;
+    ends_with(&rt, alloc, PLAN, Some(ignored), 1);
     ends_with(&rt, alloc, "{", None, 2);
-    ends_with(&rt, alloc, "{", Some(unread), 2);
+    ends_with(&rt, alloc, "{", Some(ignored), 2);
     ends_with(&rt, alloc, PLAN, Some("7"), 2);
     let unknown = r#"{"changes":[{"address":"a.x","steps":[]}]}"#;
     ends_with(&rt, alloc, PLAN, Some(unknown), 2);

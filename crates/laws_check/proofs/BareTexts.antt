@@ -1,4 +1,4 @@
--- Numbers and moments stand in a string of JSON as they are.
+-- Numbers and timestamps stand in a JSON string as they are.
 use Rattle.std.proofs.Common.{◌≡◌, ℕ, zero, suc, ◌+◌, ◌/◌, ◌%◌, ◌<◌, ◌≤◌, ◌==◌, List, [], ◌∷◌, ◌++◌, codes, cond, decimal, IsUtf8, nat_lt, slice_get, Bool, true, false, refl, ap₂, ◌∙◌, arith, le-leb, leb-true, lt-ltb, ltb-true}
 use Rattle.std.specs.Prelude.{◌&&◌, nat_le}
 use Rattle.std.specs.Fmt.{digit_glyph, digits, digits_onto}
@@ -11,9 +11,9 @@ use Rattle.std.proofs.lemmas.Str.Ascii.{IsAscii-cons, IsAscii-nil}
 use Rattle.json.specs.Print.{escape}
 use Rattle.json.proofs.Printed.Strings.{escape_byte_plain}
 use Rattle.apply_text.specs.Calendar.{CivilDate, date_of_day, dates}
-use Rattle.apply_text.specs.Moment.{date_text, moment_text, time_text, two_digits}
+use Rattle.apply_text.specs.UtcTimestamp.{date_text, timestamp_text, time_text, two_digits}
 use Rattle.apply_text.proofs.ShortDates.{IsShort, dates_short}
-use Rattle.apply_text_terraform.specs.Moment.{fine_text}
+use Rattle.apply_text_terraform.specs.UtcTimestamp.{precise_timestamp_text}
 
 -- a dash, a dot, a digit, a colon or a capital letter
 abbrev pub is_bare : ℕ → Bool
@@ -73,9 +73,9 @@ decimal_escaped n = escaped_bare (decimal n) (decimal_bare n)
 pub decimal_utf8 : (n : ℕ) → IsUtf8 (decimal n)
 decimal_utf8 n = bare_utf8 (decimal n) (decimal_bare n)
 
--- ---- moments
+-- ---- times
 
--- two digits before others; a dash and a colon say nothing of themselves
+-- two digits before others; dashes and colons need no escape
 two_bare : (n : ℕ) → n < 100 → (rest : List ℕ) → IsBare rest → IsBare (two_digits n ++ rest)
 two_bare n few rest bare = one_bare (48 + n / 10) (omega arith) (omega arith) ((48 + n % 10) ∷ rest) (one_bare (48 + n % 10) (omega arith) (omega arith) rest bare)
 
@@ -105,14 +105,14 @@ second_bare seconds =
     let date = option_map_or date_text (date_of_day (seconds / 86400)) [] in
     both_bare (date ++ codes "T") (time_text (seconds % 86400)) (both_bare date (codes "T") (at_day dates (seconds / 86400) dates_short) refl) (time_bare (seconds % 86400) (omega arith))
 
-pub moment_bare : (seconds : ℕ) → IsBare (moment_text seconds)
-unfolding moment_text
+pub moment_bare : (seconds : ℕ) → IsBare (timestamp_text seconds)
+unfolding timestamp_text
 moment_bare seconds = both_bare (option_map_or date_text (date_of_day (seconds / 86400)) [] ++ codes "T" ++ time_text (seconds % 86400)) (codes "Z") (second_bare seconds) refl
 
--- a moment with its decimals
-pub fine_bare : (seconds : ℕ) → IsBare (fine_text seconds)
-unfolding fine_text
+-- a timestamp with its decimals
+pub fine_bare : (seconds : ℕ) → IsBare (precise_timestamp_text seconds)
+unfolding precise_timestamp_text
 fine_bare seconds = both_bare (option_map_or date_text (date_of_day (seconds / 86400)) [] ++ codes "T" ++ time_text (seconds % 86400)) (codes ".000000Z") (second_bare seconds) refl
 
-pub moment_escaped : (seconds : ℕ) → escape (fine_text seconds) ≡ fine_text seconds
-moment_escaped seconds = escaped_bare (fine_text seconds) (fine_bare seconds)
+pub moment_escaped : (seconds : ℕ) → escape (precise_timestamp_text seconds) ≡ precise_timestamp_text seconds
+moment_escaped seconds = escaped_bare (precise_timestamp_text seconds) (fine_bare seconds)

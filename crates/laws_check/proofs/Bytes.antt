@@ -18,7 +18,7 @@ use Rattle.stream_lines.specs.Cut as cut
 use Rattle.stream_lines.specs.Cut.{onto_first}
 use Rattle.apply_json.specs.Tree.{tree_of}
 use Rattle.stream_lines.specs.Limits.{max_bytes}
-use Rattle.stream_check.specs.Lines.{at_line, end_of, line_message, tree_message, next, read_line, read_tree, verdict_behind, verdict_of}
+use Rattle.stream_check.specs.Lines.{at_line, end_of, line_message, tree_message, next, read_line, read_tree, verdict_after, verdict_of}
 use Rattle.stream_check.specs.Message.{Message}
 use Rattle.stream_check.specs.Results.{◌>>=◌, or_refuse}
 use Rattle.apply_events.specs.declared.event.Event.{Event}
@@ -44,9 +44,9 @@ of_both : (ds es : List Data) → flat_map line_of (ds ++ es) ≡ flat_map line_
 of_both [] es = refl
 of_both (d ∷ ds) es = ap (λ (l : List ℕ). line_of d ++ l) (of_both ds es) ∙ sym (append_assoc (line_of d) (flat_map line_of ds) (flat_map line_of es))
 
-one_event : (script : OutcomeMap) (seconds : ℕ) (e : Event) (found : Option ResourceChange)
-    → flat_map line_of (option_map_or (λ (change : ResourceChange). option_map_or (λ step. object_of seconds (event_message change step (outcome_of script e.change e.step) e.what) ∷ []) (slice_get change.steps e.step) []) found [])
-    ≡ option_map_or (λ (change : ResourceChange). option_map_or (λ step. line_of (object_of seconds (event_message change step (outcome_of script e.change e.step) e.what))) (slice_get change.steps e.step) []) found []
+one_event : (script : OutcomeMap) (seconds : ℕ) (e : Event) (located : Option ResourceChange)
+    → flat_map line_of (option_map_or (λ (change : ResourceChange). option_map_or (λ step. object_of seconds (event_message change step (outcome_of script e.change e.step) e.what) ∷ []) (slice_get change.steps e.step) []) located [])
+    ≡ option_map_or (λ (change : ResourceChange). option_map_or (λ step. line_of (object_of seconds (event_message change step (outcome_of script e.change e.step) e.what))) (slice_get change.steps e.step) []) located []
 one_event script seconds e None = refl
 one_event script seconds e (Some change) = at (slice_get change.steps e.step)
   where
@@ -126,18 +126,18 @@ one_line d earlier back short =
     ∙ ap (λ (o : Option Data). or_refuse NotJson o >>= tree_message false) back)
 
 module _ (plans : Bool) where
-  -- what the lines of these objects lead to, behind what was read
+  -- what the lines of these objects lead to, after the lines that were read
   abbrev lead_to : List Data → Result (List Message) Finding → Result Whole Finding
-  lead_to ds read = read >>= λ messages. verdict_behind (plain plans) messages (map compact_text ds)
+  lead_to ds read = read >>= λ messages. verdict_after (plain plans) messages (map compact_text ds)
 
-  one_accepted : (ds : List Data) (earlier : List Message) (line : ℕ) (whole : Whole) (r : Result (List Message) Fault) → ((later : List Message) → (with_objects false later ds >>= end_of (plain plans)) ≡ Ok whole → verdict_behind (plain plans) later (map compact_text ds) ≡ Ok whole)
+  one_accepted : (ds : List Data) (earlier : List Message) (line : ℕ) (whole : Whole) (r : Result (List Message) Fault) → ((later : List Message) → (with_objects false later ds >>= end_of (plain plans)) ≡ Ok whole → verdict_after (plain plans) later (map compact_text ds) ≡ Ok whole)
       → ((r >>= λ later. with_objects false later ds) >>= end_of (plain plans)) ≡ Ok whole → lead_to ds (at_line (plain plans) earlier line r) ≡ Ok whole
   one_accepted ds earlier line whole (Ok later) rest e = rest later e
   one_accepted ds earlier line whole (Err fault) rest e = absurd cc
 
   lines_accepted : (ds : List Data) (earlier : List Message) (whole : Whole) → AllByRecursion IsBack ds → AllByRecursion (λ (d : Data). length (compact_text d) ≤ max_bytes) ds
-      → (with_objects false earlier ds >>= end_of (plain plans)) ≡ Ok whole → verdict_behind (plain plans) earlier (map compact_text ds) ≡ Ok whole
-  unfolding verdict_behind
+      → (with_objects false earlier ds >>= end_of (plain plans)) ≡ Ok whole → verdict_after (plain plans) earlier (map compact_text ds) ≡ Ok whole
+  unfolding verdict_after
   lines_accepted [] earlier whole back short is = ap (at_line (plain plans) earlier (length earlier)) is
   lines_accepted (d ∷ ds) earlier whole back short is =
       ap (λ (r : Result (List Message) Fault). lead_to ds (at_line (plain plans) earlier (length earlier + 1) r)) (one_line d earlier back.0 short.0)

@@ -1,4 +1,4 @@
--- What happens to the steps of a change, one after another.
+-- The events of a change's steps, one step after another.
 use Rattle.std.proofs.Common.{◌≡◌, ℕ, ◌+◌, suc, List, [], ◌∷◌, ◌++◌, map, Bool, true, false, cond, length, option_map, option_to_list, Option, None, Some, refl, sym, ap, ◌∙◌, subst, slice_get, arith, append-nil, inl, inr, ⊎_elim}
 use Rattle.std.specs.Prelude.{◌==◌, is_some, not}
 use Rattle.std.proofs.lemmas.Bool.{and_parts, not-true}
@@ -16,18 +16,18 @@ use Rattle.apply_events.specs.declared.event.Event.{Event}
 use Rattle.apply_events.specs.declared.what.What.TheVariants.{Halted}
 use Rattle.apply_events.specs.Diagnostics.{is_note}
 use Rattle.apply_events.specs.Step.{Step, Work, kinds_applied, kinds_of, step_of, steps_of}
-use Rattle.apply_events.specs.StepEvents.{event, goes_on, started, step_events, tells_end}
+use Rattle.apply_events.specs.StepEvents.{event, goes_on, start_events, step_events, emits_end}
 use Rattle.apply_text.specs.Order.{hook_messages_of, notes_of}
 use Rattle.laws_check.specs.Plans.{IsChange, IsOrdinary, ProvisionsCreates, WarnsOfReads}
-use Rattle.laws_check.specs.Told.{action_of}
+use Rattle.laws_check.specs.ReadBack.{action_of}
 use Rattle.laws_check.specs.WholeSteps.{AreOfSteps}
 use Rattle.laws_check.proofs.Phases.{IsAtRest, MayRun, Phase, between, under_way}
 use Rattle.laws_check.proofs.AppliedKinds.{applied_is_planned}
 use Rattle.laws_check.proofs.Deeds.{Leads, leads_on}
-use Rattle.laws_check.proofs.Ordinary.{Provides, deleted, found}
-use Rattle.laws_check.proofs.StepDeeds.{IsOfKind, MayProvision, goes_between, kept_both, left_hooks, left_notes, phase_then, step_hooks, step_notes, step_warns}
+use Rattle.laws_check.proofs.Ordinary.{Provides, deleted, located}
+use Rattle.laws_check.proofs.StepDeeds.{IsOfKind, MayProvision, goes_between, filtered_both, left_hooks, left_notes, phase_then, step_hooks, step_notes, step_warns}
 
--- a step that only warns is a read, with no step behind it
+-- a step that only warns is a read, with no step after it
 abbrev IsLastReadIfItOnlyWarns : StepKind → Step → List Step → Type 0
 IsLastReadIfItOnlyWarns kind s steps = s.only_warns ≡ true → (kind ≡ does.Read) × (steps ≡ [])
 
@@ -43,21 +43,21 @@ planned may work c n [] is runs warns = tt
 planned may work c n (kind ∷ kinds) is runs warns =
     let here : n + 0 ≡ n = omega arith in
     let lookup : slice_get (kinds_of work.plan c) n ≡ Some kind = subst (λ (x : ℕ). slice_get (kinds_of work.plan c) x ≡ Some kind) here (is 0 kind refl) in (
-      (kind, lookup, runs n kind lookup, λ only. let last = warns n kind lookup only in (last.0, ap (λ (l : List StepKind). map (λ p. step_of work c p.0 p.1) (enumerate_from (n + 1) l)) (none_behind kinds rest last.1))),
+      (kind, lookup, runs n kind lookup, λ only. let last = warns n kind lookup only in (last.0, ap (λ (l : List StepKind). map (λ p. step_of work c p.0 p.1) (enumerate_from (n + 1) l)) (none_after kinds rest last.1))),
       planned may work c (n + 1) kinds rest runs warns,
     )
   where
     rest : (i : ℕ) (k : StepKind) → slice_get kinds i ≡ Some k → slice_get (kinds_of work.plan c) (n + 1 + i) ≡ Some k
-    rest i k found = let next : n + suc i ≡ n + 1 + i = omega arith in subst (λ (x : ℕ). slice_get (kinds_of work.plan c) x ≡ Some k) next (is (suc i) k found)
+    rest i k located = let next : n + suc i ≡ n + 1 + i = omega arith in subst (λ (x : ℕ). slice_get (kinds_of work.plan c) x ≡ Some k) next (is (suc i) k located)
 
-    none_behind : (others : List StepKind) → ((i : ℕ) (k : StepKind) → slice_get others i ≡ Some k → slice_get (kinds_of work.plan c) (n + 1 + i) ≡ Some k) → length (kinds_of work.plan c) ≡ n + 1 → others ≡ []
-    none_behind [] there all = refl
-    none_behind (k ∷ others) there all = absurd (let within = slice_get_within (kinds_of work.plan c) (n + 1 + 0) k (there 0 k refl) in omega arith)
+    none_after : (others : List StepKind) → ((i : ℕ) (k : StepKind) → slice_get others i ≡ Some k → slice_get (kinds_of work.plan c) (n + 1 + i) ≡ Some k) → length (kinds_of work.plan c) ≡ n + 1 → others ≡ []
+    none_after [] there all = refl
+    none_after (k ∷ others) there all = absurd (let within = slice_get_within (kinds_of work.plan c) (n + 1 + 0) k (there 0 k refl) in omega arith)
 
 -- a step has provisioners only where it takes them
 may_run : (work : Work) → IsOrdinary work.plan → ProvisionsCreates work.plan work.script → (c i : ℕ) (kind : StepKind) → slice_get (kinds_of work.plan c) i ≡ Some kind → MayProvision (Provides work.plan c) kind (step_of work c i kind)
 may_run work ordinary none c i kind is =
-    let there = found (slice_get work.plan.changes c) i kind is in
+    let there = located (slice_get work.plan.changes c) i kind is in
     by_test there.0 there.1 there.2 (takes_provisioners (is_some there.0.deposed) (i, kind)) refl
   where
     not_deposed : (change : ResourceChange) → IsChange work.plan c change → slice_get change.steps i ≡ Some kind → (kind ≡ does.Delete → ⊥) → (b : Bool) → is_some change.deposed ≡ b → is_some change.deposed ≡ false
@@ -79,11 +79,12 @@ may_run work ordinary none c i kind is =
 warns_last : (work : Work) → WarnsOfReads work.plan work.script → (c i : ℕ) (kind : StepKind) → slice_get (kinds_of work.plan c) i ≡ Some kind → (step_of work c i kind).only_warns ≡ true
     → (kind ≡ does.Read) × (length (kinds_of work.plan c) ≡ i + 1)
 warns_last work reads c i kind is only =
-    let there = found (slice_get work.plan.changes c) i kind is in
+    let there = located (slice_get work.plan.changes c) i kind is in
     let last = reads c i there.0 kind there.1 there.2 only in
     (last.0, ap (λ (o : Option ResourceChange). length (option_map_or (λ (change : ResourceChange). change.steps) o [])) there.1 ∙ last.1)
 
--- where the hook messages of these events leave a change, from where their notes take it to where it is at rest
+-- where the hook messages of these events leave a change, if their diagnostics lead it from there
+-- to rest
 pub record Written (may : Type 0) (plan : SavedPlan) (es : List Event) : Type 0 where
   pub phase : Phase
   pub last : Phase
@@ -94,8 +95,8 @@ pub record Written (may : Type 0) (plan : SavedPlan) (es : List Event) : Type 0 
 nothing_written : (may : Type 0) (plan : SavedPlan) → Written may plan []
 nothing_written may plan = record { phase = between; last = between; rests = tt; hooks = refl; notes = refl }
 
--- which steps are told no end of
-leaves_open : (fails only : Bool) → tells_end fails only ≡ false → only ≡ true
+-- which steps have no message of their end
+leaves_open : (fails only : Bool) → emits_end fails only ≡ false → only ≡ true
 leaves_open true only e = absurd cc
 leaves_open false true e = refl
 leaves_open false false e = absurd cc
@@ -106,15 +107,15 @@ steps_written may plan (s ∷ steps) es h are =
     ⊎_elim
     (λ (none : es ≡ []). subst (Written may plan) (sym none) (nothing_written may plan))
     (λ (some : (w : ℕ) × (at : ℕ) × (rest : List Event) × (es ≡ step_events w s at ++ rest) × (goes_on s ≡ true → AreOfSteps steps rest) × (goes_on s ≡ false → rest ≡ [])).
-    subst (Written may plan) (sym some.3) (either some.0 some.1 some.2 (λ on. steps_written may plan steps some.2 h.1 (some.4 on)) some.4 some.5 (goes_on s) refl (tells_end s.fails s.only_warns) refl))
+    subst (Written may plan) (sym some.3) (either some.0 some.1 some.2 (λ on. steps_written may plan steps some.2 h.1 (some.4 on)) some.4 some.5 (goes_on s) refl (emits_end s.fails s.only_warns) refl))
     are
   where
-    -- such a step stays under way, and nothing is behind it
-    left_open : (w at : ℕ) (rest : List Event) → rest ≡ [] → tells_end s.fails s.only_warns ≡ false → Written may plan (step_events w s at ++ rest)
+    -- such a step stays under way, and nothing comes after it
+    left_open : (w at : ℕ) (rest : List Event) → rest ≡ [] → emits_end s.fails s.only_warns ≡ false → Written may plan (step_events w s at ++ rest)
     left_open w at others none leaves =
         subst (Written may plan) (sym (ap (λ (l : List Event). step_events w s at ++ l) none ∙ append-nil (step_events w s at))) (of_halt (s.halts Pre))
       where
-        of_halt : (found : Option ℕ) → Written may plan (cond (is_some found) (option_to_list (option_map (λ hook. event w s at (Halted Pre hook)) found)) (started w s at))
+        of_halt : (located : Option ℕ) → Written may plan (cond (is_some located) (option_to_list (option_map (λ hook. event w s at (Halted Pre hook)) located)) (start_events w s at))
         of_halt (Some hook) = record { phase = between; last = between; rests = tt; hooks = refl; notes = (between, (h.0.0, h.0.1, refl), refl) }
         of_halt None =
             let hooks = left_hooks may plan h.0.0 w s h.0.1 h.0.2 leaves at in
@@ -127,7 +128,7 @@ steps_written may plan (s ∷ steps) es h are =
             }
 
     either : (w at : ℕ) (rest : List Event) → (goes_on s ≡ true → Written may plan rest) → (goes_on s ≡ true → AreOfSteps steps rest) → (goes_on s ≡ false → rest ≡ []) → (on : Bool) → goes_on s ≡ on
-        → (told : Bool) → tells_end s.fails s.only_warns ≡ told → Written may plan (step_events w s at ++ rest)
+        → (emitted : Bool) → emits_end s.fails s.only_warns ≡ emitted → Written may plan (step_events w s at ++ rest)
     either w at others then of none true on false leaves =
         left_open w at others (subst (λ (l : List Step). AreOfSteps l others) (h.0.3 (leaves_open s.fails s.only_warns leaves)).1 (of on)) leaves
     either w at others then of none false off false leaves = left_open w at others (none off) leaves
@@ -137,10 +138,10 @@ steps_written may plan (s ∷ steps) es h are =
           phase = rest.phase;
           last = rest.last;
           rests = rest.rests;
-          hooks = subst (λ (es : List Event). Leads may plan between es rest.phase) (sym (kept_both (λ e. not (is_note e.what)) (step_events w s at) others))
+          hooks = subst (λ (es : List Event). Leads may plan between es rest.phase) (sym (filtered_both (λ e. not (is_note e.what)) (step_events w s at) others))
               (leads_on may plan between between rest.phase (hook_messages_of (step_events w s at)) (hook_messages_of others)
               (subst (Leads may plan between (hook_messages_of (step_events w s at))) (goes_between may plan h.0.0 w s h.0.1 h.0.2 on) (step_hooks may plan h.0.0 w s h.0.1 h.0.2 ends at)) rest.hooks);
-          notes = subst (λ (es : List Event). Leads may plan rest.phase es rest.last) (sym (kept_both (λ e. is_note e.what) (step_events w s at) others))
+          notes = subst (λ (es : List Event). Leads may plan rest.phase es rest.last) (sym (filtered_both (λ e. is_note e.what) (step_events w s at) others))
               (leads_on may plan rest.phase rest.phase rest.last (notes_of (step_events w s at)) (notes_of others) (step_warns may plan h.0.0 w s h.0.1 h.0.2 ends on at rest.phase) rest.notes);
         }
     either w at others then of none false off true ends =
@@ -153,8 +154,8 @@ steps_written may plan (s ∷ steps) es h are =
           notes = subst (λ (es : List Event). Leads may plan (phase_then may plan h.0.0 w s h.0.1 h.0.2 (is_some (s.halts Pre)) s.fails) (notes_of es) between) (sym whole) (step_notes may plan h.0.0 w s h.0.1 h.0.2 ends at);
         }
 
--- the hook messages of a change lead it from between two steps to its end, a failure or a read that only warns, and the notes
--- from there to the end
+-- The hook messages of a change lead it from between two steps to its end, a failure, or a read
+-- that only warns. Its diagnostics lead it from there to the end.
 pub change_written : (work : Work) → IsOrdinary work.plan → ProvisionsCreates work.plan work.script → WarnsOfReads work.plan work.script → (c : ℕ) (es : List Event) → AreOfSteps (steps_of work c) es → Written (Provides work.plan c) work.plan es
 change_written work ordinary none reads c es are =
     steps_written (Provides work.plan c) work.plan (steps_of work c) es

@@ -8,7 +8,7 @@ use Rattle.apply_events.specs.declared.event.Event.{Event}
 use Rattle.laws_check.specs.WholeSteps.{events_of_change}
 use Rattle.laws_check.proofs.Parts.{Each}
 
--- the sum of so many, the first of which has that number
+-- the sum of so many numbers from this one on
 abbrev pub total : (low n : ℕ) → (ℕ → ℕ) → ℕ
 total low zero g = 0
 total low (suc n) g = g low + total (low + 1) n g
@@ -34,7 +34,7 @@ next_above zero (suc low) above apart = absurd (omega arith)
 next_above (suc b) zero above apart = omega arith
 next_above (suc b) (suc low) above apart = let rest = next_above b low (omega arith) (λ e. apart (ap suc e)) in omega arith
 
--- one of them has more
+-- the sum grows by x if one of the numbers grows by x
 one_more : (low n b x : ℕ) (g h : ℕ → ℕ) → ((c : ℕ) → h c ≡ cond (b == c) x 0 + g c) → (b < low → total low n h ≡ total low n g) × (low ≤ b → b < low + n → total low n h ≡ x + total low n g)
 one_more low zero b x g h is = (λ below. refl, λ above below. absurd (omega arith))
 one_more low (suc n) b x g h is =
@@ -62,7 +62,7 @@ count_here p c e es = either (e.change == c)
     either true = sum_by-cons (λ x. cond (p x) 1 0) e (events_of_change c es)
     either false = omega arith
 
--- the events are those of the changes
+-- the events are the events of the changes
 pub by_changes : (p : Event → Bool) (limit : ℕ) (es : List Event) → Each (λ e. e.change < limit) es → count_by p es ≡ total 0 limit (λ c. count_by p (events_of_change c es))
 by_changes p limit [] within = sym (none_at_all 0 limit (λ c. count_by p (events_of_change c [])) (λ c. refl))
 by_changes p limit (e ∷ es) within =
@@ -74,15 +74,15 @@ by_changes p limit (e ∷ es) within =
 
 -- a test of the change keeps all events of a change, or none
 module _ (keep : ℕ → Bool) (c : ℕ) (p : Event → Bool) where
-  kept_or_none : (es : List Event) → count_by (λ e. keep e.change && p e) (events_of_change c es) ≡ cond (keep c) (count_by p (events_of_change c es)) 0
-  kept_or_none [] = none (keep c)
+  verbatim_or_none : (es : List Event) → count_by (λ e. keep e.change && p e) (events_of_change c es) ≡ cond (keep c) (count_by p (events_of_change c es)) 0
+  verbatim_or_none [] = none (keep c)
     where
       none : (b : Bool) → 0 ≡ cond {A = ℕ} b 0 0
       none true = refl
       none false = refl
-  kept_or_none (e ∷ es) =
-      ⊎_elim (λ (same : ((e.change == c) ≡ true) × (e.change ≡ c)). of_this (kept_or_none es) (e.change == c) (λ yes. same.1))
-      (λ (apart : ((e.change == c) ≡ false) × (e.change ≢ c)). of_this (kept_or_none es) (e.change == c) (λ yes. absurd (let both : true ≡ false = sym yes ∙ apart.0 in cc)))
+  verbatim_or_none (e ∷ es) =
+      ⊎_elim (λ (same : ((e.change == c) ≡ true) × (e.change ≡ c)). of_this (verbatim_or_none es) (e.change == c) (λ yes. same.1))
+      (λ (apart : ((e.change == c) ≡ false) × (e.change ≢ c)). of_this (verbatim_or_none es) (e.change == c) (λ yes. absurd (let both : true ≡ false = sym yes ∙ apart.0 in cc)))
       (eqb_tells e.change c)
     where
       of_one : (k b : Bool) (x y : ℕ) → x ≡ cond k y 0 → cond {A = ℕ} (k && b) 1 0 + x ≡ cond k (cond b 1 0 + y) 0
@@ -100,14 +100,15 @@ module _ (keep : ℕ → Bool) (c : ℕ) (p : Event → Bool) where
           first ∙ ap (λ (n : ℕ). cond (keep c) n 0) (sym right)
       of_this rest false same = rest
 
--- where of each change as many events pass one test as the other, so it is of the events of some changes
-pub as_many_kept : (keep : ℕ → Bool) (p q : Event → Bool) (limit : ℕ) (es : List Event) → Each (λ e. e.change < limit) es → ((c : ℕ) → c < limit → count_by p (events_of_change c es) ≡ count_by q (events_of_change c es))
+-- if as many events of each change pass one test as the other, then as many events of some changes
+-- do
+pub as_many_filtered : (keep : ℕ → Bool) (p q : Event → Bool) (limit : ℕ) (es : List Event) → Each (λ e. e.change < limit) es → ((c : ℕ) → c < limit → count_by p (events_of_change c es) ≡ count_by q (events_of_change c es))
     → count_by (λ e. keep e.change && p e) es ≡ count_by (λ e. keep e.change && q e) es
-as_many_kept keep p q limit es within same =
+as_many_filtered keep p q limit es within same =
     let one = by_changes (λ e. keep e.change && p e) limit es within in
     let other = by_changes (λ e. keep e.change && q e) limit es within in
     let alike : (c : ℕ) → c < 0 + limit → count_by (λ e. keep e.change && p e) (events_of_change c es) ≡ count_by (λ e. keep e.change && q e) (events_of_change c es) =
-    λ c less. kept_or_none keep c p es ∙ ap (λ (n : ℕ). cond (keep c) n 0) (same c (omega arith)) ∙ sym (kept_or_none keep c q es) in
+    λ c less. verbatim_or_none keep c p es ∙ ap (λ (n : ℕ). cond (keep c) n 0) (same c (omega arith)) ∙ sym (verbatim_or_none keep c q es) in
     let most = total_most 0 limit (λ c. count_by (λ e. keep e.change && p e) (events_of_change c es)) (λ c. count_by (λ e. keep e.change && q e) (events_of_change c es)) (λ c above below. let e = alike c below in omega arith) in
     let least = total_most 0 limit (λ c. count_by (λ e. keep e.change && q e) (events_of_change c es)) (λ c. count_by (λ e. keep e.change && p e) (events_of_change c es)) (λ c above below. let e = alike c below in omega arith) in
     omega arith

@@ -8,15 +8,15 @@ use Rattle.std.proofs.lemmas.Option.{same_Some}
 use Rattle.std.proofs.lemmas.Str.{IsUtf8-append, IsUtf8-encode, IsUtf8-from_ascii}
 use Rattle.std.proofs.lemmas.Str.Ascii.{IsAscii-cons, IsAscii-nil}
 use Rattle.json.specs.Text.{Within, plain, after_backslash, after_u, after_high, code_unit, content, is_high_surrogate, is_low_surrogate, prepend, short_escape, surrogate_pair}
-use Rattle.laws_check.proofs.Cuts.{before, behind}
+use Rattle.laws_check.proofs.Cuts.{before, after}
 
 -- one byte of ASCII is a text
 one_utf8 : (x : ℕ) → x < 128 → IsUtf8 (x ∷ [])
 one_utf8 x low = IsUtf8-from_ascii (x ∷ []) (IsAscii-cons x [] low IsAscii-nil)
 
--- a text goes on behind an ASCII byte
+-- the rest of a text after an ASCII byte
 pub rest_utf8 : (x : ℕ) (xs : List ℕ) → x < 128 → IsUtf8 (x ∷ xs) → IsUtf8 xs
-rest_utf8 x xs low text = behind [] x xs text low
+rest_utf8 x xs low text = after [] x xs text low
 
 -- ---- escapes
 
@@ -84,7 +84,8 @@ pair_utf8 h l high low =
 
 -- ---- from one byte to the next
 
--- where reading goes on: p is the content so far, or the part of it that the text cut here would end in
+-- where reading goes on: p is the content so far, or the part of it at which the text would be cut
+-- here
 abbrev JoinsUtf8 : Within → (p xs : List ℕ) → Type 0
 JoinsUtf8 plain p xs = IsUtf8 (p ++ xs)
 JoinsUtf8 after_backslash p xs = IsUtf8 p × IsUtf8 xs
@@ -95,7 +96,7 @@ prepended : (p q s : List ℕ) (rest : Option (List ℕ)) → ((t : List ℕ) �
 prepended p q s None more e = absurd cc
 prepended p q s (Some t) more e = subst (λ (l : List ℕ). IsUtf8 (p ++ l)) (same_Some (q ++ t) s e) (subst IsUtf8 (append_assoc p q t) (more t refl))
 
--- what goes on behind whole characters: the content q, and the rest of the text
+-- the rest after whole characters: the content q, and the rest of the text
 abbrev GoesOn : (xs : List ℕ) → Type 0
 GoesOn xs = (q t : List ℕ) → IsUtf8 q → IsUtf8 xs → content plain xs ≡ Some t → IsUtf8 (q ++ t)
 
@@ -103,19 +104,19 @@ module _ (p s : List ℕ) where
   plain_step : (x : ℕ) (xs : List ℕ) → IsUtf8 (p ++ x ∷ xs) → (is_quote is_slash is_control : Bool) → (x == 34) ≡ is_quote → (x == 92) ≡ is_slash → (escaped rest : Option (List ℕ))
       → (IsUtf8 p → IsUtf8 xs → escaped ≡ Some s → IsUtf8 (p ++ s)) → ((t : List ℕ) → IsUtf8 ((p ++ x ∷ []) ++ xs) → rest ≡ Some t → IsUtf8 ((p ++ x ∷ []) ++ t))
       → cond is_quote (Some []) (cond is_slash escaped (cond is_control None (prepend (x ∷ []) rest))) ≡ Some s → IsUtf8 (p ++ s)
-  plain_step x xs text true is_slash is_control quote slash escaped rest behind_slash more e =
+  plain_step x xs text true is_slash is_control quote slash escaped rest after_slash more e =
       let low : x < 128 = (let is : x ≡ 34 = eqb-true x 34 quote in omega arith) in
       subst (λ (l : List ℕ). IsUtf8 (p ++ l)) (same_Some [] s e) (subst IsUtf8 (sym (append-nil p)) (before p x xs text low))
-  plain_step x xs text false true is_control quote slash escaped rest behind_slash more e =
+  plain_step x xs text false true is_control quote slash escaped rest after_slash more e =
       let low : x < 128 = (let is : x ≡ 92 = eqb-true x 92 slash in omega arith) in
-      behind_slash (before p x xs text low) (behind p x xs text low) e
-  plain_step x xs text false false true quote slash escaped rest behind_slash more e = absurd cc
-  plain_step x xs text false false false quote slash escaped rest behind_slash more e =
+      after_slash (before p x xs text low) (after p x xs text low) e
+  plain_step x xs text false false true quote slash escaped rest after_slash more e = absurd cc
+  plain_step x xs text false false false quote slash escaped rest after_slash more e =
       prepended p (x ∷ []) s rest (λ t is. more t (subst IsUtf8 (sym (append_assoc p (x ∷ []) xs)) text) is) e
 
   -- a backslash, and one more byte
-  short_step : (x : ℕ) (xs : List ℕ) → IsUtf8 p → IsUtf8 (x ∷ xs) → GoesOn xs → (found : Option ℕ) → short_escape x ≡ found
-      → option_and_then (λ c. prepend (c ∷ []) (content plain xs)) found ≡ Some s → IsUtf8 (p ++ s)
+  short_step : (x : ℕ) (xs : List ℕ) → IsUtf8 p → IsUtf8 (x ∷ xs) → GoesOn xs → (located : Option ℕ) → short_escape x ≡ located
+      → option_and_then (λ c. prepend (c ∷ []) (content plain xs)) located ≡ Some s → IsUtf8 (p ++ s)
   short_step x xs front text more None is e = absurd cc
   short_step x xs front text more (Some c) is e =
       let low = short_low x c is in
@@ -128,14 +129,14 @@ module _ (p s : List ℕ) where
   escape_step x xs front text more false is behind_u unit e = short_step x xs front text more (short_escape x) refl e
 
   -- what follows four hex digits
-  behind_hex : (a b c d u : ℕ) (xs : List ℕ) → IsUtf8 (a ∷ b ∷ c ∷ d ∷ xs) → AreHex a b c d u → IsUtf8 xs
-  behind_hex a b c d u xs text hex =
+  after_hex : (a b c d u : ℕ) (xs : List ℕ) → IsUtf8 (a ∷ b ∷ c ∷ d ∷ xs) → AreHex a b c d u → IsUtf8 xs
+  after_hex a b c d u xs text hex =
       rest_utf8 d xs hex.fourth (rest_utf8 c (d ∷ xs) hex.third (rest_utf8 b (c ∷ d ∷ xs) hex.second (rest_utf8 a (b ∷ c ∷ d ∷ xs) hex.first text)))
 
   -- a backslash, `u` and four digits
   unit_step : (a b c d : ℕ) (xs : List ℕ) → IsUtf8 p → IsUtf8 (a ∷ b ∷ c ∷ d ∷ xs) → GoesOn xs → ((h : ℕ) → IsUtf8 xs → IsHigh h → content (after_high h) xs ≡ Some s → IsUtf8 (p ++ s))
-      → (found : Option ℕ) → code_unit a b c d ≡ found
-      → option_and_then (λ u. cond (is_high_surrogate u) (content (after_high u) xs) (cond (is_low_surrogate u) None (prepend (encode_utf8 u) (content plain xs)))) found ≡ Some s → IsUtf8 (p ++ s)
+      → (located : Option ℕ) → code_unit a b c d ≡ located
+      → option_and_then (λ u. cond (is_high_surrogate u) (content (after_high u) xs) (cond (is_low_surrogate u) None (prepend (encode_utf8 u) (content plain xs)))) located ≡ Some s → IsUtf8 (p ++ s)
   unit_step a b c d xs front text more paired None is e = absurd cc
   unit_step a b c d xs front text more paired (Some u) is e = of_unit (is_high_surrogate u) refl (is_low_surrogate u) refl e
     where
@@ -146,16 +147,16 @@ module _ (p s : List ℕ) where
           → cond high (content (after_high u) xs) (cond low None (prepend (encode_utf8 u) (content plain xs))) ≡ Some s → IsUtf8 (p ++ s)
       of_unit true in_high low other e =
           let parts = and_parts (nat_le 0xd800 u) (nat_lt u 0xdc00) in_high in
-          paired u (behind_hex a b c d u xs text hex) (record { from = leb-true 0xd800 u parts.0; to = ltb-true u 0xdc00 parts.1 }) e
+          paired u (after_hex a b c d u xs text hex) (record { from = leb-true 0xd800 u parts.0; to = ltb-true u 0xdc00 parts.1 }) e
       of_unit false not_high true in_low e = absurd cc
       of_unit false not_high false not_low e =
           prepended p (encode_utf8 u) s (content plain xs)
-          (λ t same. more (p ++ encode_utf8 u) t (IsUtf8-append p (encode_utf8 u) front (IsUtf8-encode u (unit_scalar u hex.small not_high not_low))) (behind_hex a b c d u xs text hex) same) e
+          (λ t same. more (p ++ encode_utf8 u) t (IsUtf8-append p (encode_utf8 u) front (IsUtf8-encode u (unit_scalar u hex.small not_high not_low))) (after_hex a b c d u xs text hex) same) e
 
   -- the second half of a pair
-  pair_step : (h y z a b c d : ℕ) (xs : List ℕ) → IsUtf8 p → IsUtf8 (y ∷ z ∷ a ∷ b ∷ c ∷ d ∷ xs) → IsHigh h → GoesOn xs → (test : Bool) → ((y == 92) && (z == 117)) ≡ test → (found : Option ℕ) → code_unit a b c d ≡ found
-      → cond test (option_and_then (λ l. cond (is_low_surrogate l) (prepend (encode_utf8 (surrogate_pair h l)) (content plain xs)) None) found) None ≡ Some s → IsUtf8 (p ++ s)
-  pair_step h y z a b c d xs front text high more false is found unit e = absurd cc
+  pair_step : (h y z a b c d : ℕ) (xs : List ℕ) → IsUtf8 p → IsUtf8 (y ∷ z ∷ a ∷ b ∷ c ∷ d ∷ xs) → IsHigh h → GoesOn xs → (test : Bool) → ((y == 92) && (z == 117)) ≡ test → (located : Option ℕ) → code_unit a b c d ≡ located
+      → cond test (option_and_then (λ l. cond (is_low_surrogate l) (prepend (encode_utf8 (surrogate_pair h l)) (content plain xs)) None) located) None ≡ Some s → IsUtf8 (p ++ s)
+  pair_step h y z a b c d xs front text high more false is located unit e = absurd cc
   pair_step h y z a b c d xs front text high more true is None unit e = absurd cc
   pair_step h y z a b c d xs front text high more true is (Some l) unit e = of_low (is_low_surrogate l) refl e
     where
@@ -164,7 +165,7 @@ module _ (p s : List ℕ) where
           let both = and_parts (y == 92) (z == 117) is in
           let first : y < 128 = (let same : y ≡ 92 = eqb-true y 92 both.0 in omega arith) in
           let second : z < 128 = (let same : z ≡ 117 = eqb-true z 117 both.1 in omega arith) in
-          behind_hex a b c d l xs (rest_utf8 z (a ∷ b ∷ c ∷ d ∷ xs) second (rest_utf8 y (z ∷ a ∷ b ∷ c ∷ d ∷ xs) first text)) (unit_low a b c d l unit)
+          after_hex a b c d l xs (rest_utf8 z (a ∷ b ∷ c ∷ d ∷ xs) second (rest_utf8 y (z ∷ a ∷ b ∷ c ∷ d ∷ xs) first text)) (unit_low a b c d l unit)
 
       of_low : (low : Bool) → is_low_surrogate l ≡ low → cond low (prepend (encode_utf8 (surrogate_pair h l)) (content plain xs)) None ≡ Some s → IsUtf8 (p ++ s)
       of_low false other e = absurd cc

@@ -7,9 +7,9 @@ use Rattle.std.proofs.lemmas.List.Sums.{sum_by-cons}
 
 -- 1 where there is something
 abbrev pub weight : Option ℕ → ℕ
-weight found = cond (is_some found) 1 0
+weight located = cond (is_some located) 1 0
 
--- how many of n numbers have something, the first of which is low
+-- how many of n numbers from `low` on have something
 abbrev pub counted : (ℕ → Option ℕ) → (low n : ℕ) → ℕ
 counted h low n = count_by (λ c. is_some (h c)) (range_with_len low n)
 
@@ -59,7 +59,7 @@ at_most h low (suc n) =
     small None = omega arith
     small (Some x) = omega arith
 
--- none has something, or there is one that has
+-- no number has something, or some number has
 pub none_or_some : (h : ℕ → Option ℕ) (low n : ℕ)
     → (counted h low n ≡ 0) ⊎ ((c : ℕ) × (x : ℕ) × (c < low + n) × (h c ≡ Some x))
 none_or_some h low zero = inl refl

@@ -1,4 +1,4 @@
--- What happens to the steps of a plan, by its events.
+-- The events of a plan's steps, and their messages.
 use Rattle.std.proofs.Common.{append_assoc, ◌≡◌, ℕ, ◌==◌, List, [], ◌∷◌, ◌++◌, map, flat_map, Bool, true, false, cond, Option, Some, None, refl, sym, ap, ◌∙◌, subst, slice_get}
 use Rattle.std.specs.Option.{option_map_or}
 use Rattle.apply_model.specs.declared.plan.step_kind.StepKind.{StepKind}
@@ -6,10 +6,10 @@ use Rattle.apply_plan.specs.Plan.SavedPlan.{SavedPlan}
 use Rattle.stream_check.specs.Message.{Message}
 use Rattle.apply_events.specs.declared.event.Event.{Event}
 use Rattle.apply_events.specs.Step.{address_of, kinds_of}
-use Rattle.laws_check.specs.Told.{action_of, all_told, told, told_of}
+use Rattle.laws_check.specs.ReadBack.{action_of, events_read_back, read_back, event_read_back}
 use Rattle.laws_check.specs.WholeSteps.{events_of_change}
 use Rattle.laws_check.proofs.Phases.{Deed, Follows, Phase, Turns, of_change}
-use Rattle.laws_check.proofs.Turning.{said}
+use Rattle.laws_check.proofs.Turning.{message_of_deed}
 
 -- what happens to a step of that kind
 abbrev pub deed : Event → StepKind → Deed
@@ -24,24 +24,24 @@ all_deeds plan es = flat_map (deeds_of plan) es
 
 -- ---- the messages
 
-one_told : (addresses : ℕ → List ℕ) (e : Event) (found : Option StepKind) (ds : List Deed) (ms : List Message) → ms ≡ map (said addresses) ds
-    → option_map_or (λ kind. told (addresses e.change) (action_of kind) e.what ∷ []) found [] ++ ms ≡ map (said addresses) (option_map_or (λ kind. deed e kind ∷ []) found [] ++ ds)
+one_told : (addresses : ℕ → List ℕ) (e : Event) (located : Option StepKind) (ds : List Deed) (ms : List Message) → ms ≡ map (message_of_deed addresses) ds
+    → option_map_or (λ kind. read_back (addresses e.change) (action_of kind) e.what ∷ []) located [] ++ ms ≡ map (message_of_deed addresses) (option_map_or (λ kind. deed e kind ∷ []) located [] ++ ds)
 one_told addresses e None ds ms is = is
-one_told addresses e (Some kind) ds ms is = ap (λ (l : List Message). told (addresses e.change) (action_of kind) e.what ∷ l) is
+one_told addresses e (Some kind) ds ms is = ap (λ (l : List Message). read_back (addresses e.change) (action_of kind) e.what ∷ l) is
 
-pub told_is : (plan : SavedPlan) (es : List Event) → all_told plan es ≡ map (said (address_of plan)) (all_deeds plan es)
+pub told_is : (plan : SavedPlan) (es : List Event) → events_read_back plan es ≡ map (message_of_deed (address_of plan)) (all_deeds plan es)
 told_is plan [] = refl
-told_is plan (e ∷ es) = one_told (address_of plan) e (slice_get (kinds_of plan e.change) e.step) (all_deeds plan es) (all_told plan es) (told_is plan es)
+told_is plan (e ∷ es) = one_told (address_of plan) e (slice_get (kinds_of plan e.change) e.step) (all_deeds plan es) (events_read_back plan es) (told_is plan es)
 
-pub all_told_both : (plan : SavedPlan) (es fs : List Event) → all_told plan (es ++ fs) ≡ all_told plan es ++ all_told plan fs
-all_told_both plan [] fs = refl
-all_told_both plan (e ∷ es) fs = ap (λ (l : List Message). told_of plan e ++ l) (all_told_both plan es fs) ∙ sym (append_assoc (told_of plan e) (all_told plan es) (all_told plan fs))
+pub all_read_back_append : (plan : SavedPlan) (es fs : List Event) → events_read_back plan (es ++ fs) ≡ events_read_back plan es ++ events_read_back plan fs
+all_read_back_append plan [] fs = refl
+all_read_back_append plan (e ∷ es) fs = ap (λ (l : List Message). event_read_back plan e ++ l) (all_read_back_append plan es fs) ∙ sym (append_assoc (event_read_back plan e) (events_read_back plan es) (events_read_back plan fs))
 
 -- ---- the events of one change
 
-one_of_change : (plan : SavedPlan) (c : ℕ) (e : Event) (same : Bool) (found : Option StepKind) (es : List Event) (ds : List Deed) → (e.change == c) ≡ same → slice_get (kinds_of plan e.change) e.step ≡ found
+one_of_change : (plan : SavedPlan) (c : ℕ) (e : Event) (same : Bool) (located : Option StepKind) (es : List Event) (ds : List Deed) → (e.change == c) ≡ same → slice_get (kinds_of plan e.change) e.step ≡ located
     → of_change c ds ≡ all_deeds plan es
-    → of_change c (option_map_or (λ kind. deed e kind ∷ []) found [] ++ ds) ≡ all_deeds plan (cond same (e ∷ es) es)
+    → of_change c (option_map_or (λ kind. deed e kind ∷ []) located [] ++ ds) ≡ all_deeds plan (cond same (e ∷ es) es)
 one_of_change plan c e true None es ds is lookup rest = rest ∙ ap (λ (o : Option StepKind). option_map_or (λ kind. deed e kind ∷ []) o [] ++ all_deeds plan es) (sym lookup)
 one_of_change plan c e false None es ds is lookup rest = rest
 one_of_change plan c e true (Some kind) es ds is lookup rest =
@@ -60,7 +60,7 @@ of_change_is plan c (e ∷ es) = one_of_change plan c e (e.change == c) (slice_g
 abbrev pub EventTurns : (may : Type 0) → SavedPlan → Phase → Event → Phase → Type 0
 EventTurns may plan p e q = (kind : StepKind) × (slice_get (kinds_of plan e.change) e.step ≡ Some kind) × Turns may p (action_of kind) e.what q
 
--- so do the events, one after another
+-- the events lead a change from the first phase to the last, one after another
 abbrev pub Leads : (may : Type 0) → SavedPlan → Phase → List Event → Phase → Type 0
 Leads may plan p [] r = p ≡ r
 Leads may plan p (e ∷ es) r = (q : Phase) × EventTurns may plan p e q × Leads may plan q es r

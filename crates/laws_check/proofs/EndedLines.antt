@@ -1,4 +1,4 @@
--- What stands before the end of a stream in Terraform's form is one line after another.
+-- Before its end, a stream in Terraform's form is one line after another.
 use Rattle.std.proofs.Common.{ℕ, ◌+◌, List, [], ◌∷◌, ◌++◌, codes, length, map, Bool, true, false, cond, Option, Some, None, refl, inl, inr, slice_get}
 use Rattle.std.specs.List.{AllByRecursion, enumerate_from}
 use Rattle.std.specs.Option.{option_map_or}
@@ -16,13 +16,13 @@ use Rattle.apply_text.specs.Message.{Message}
 use Rattle.apply_model.specs.declared.details.change_details.ChangeDetails.{ChangeDetails}
 use Rattle.apply_model.specs.declared.details.note.Note.{Note}
 use Rattle.apply_text_terraform.specs.Details.{planned_word}
-use Rattle.apply_text_terraform.specs.Kept.{kept_members}
-use Rattle.apply_text_terraform.specs.Lines.{event_line, message_line, note_text, planned_text, told_line, version_members, version_text}
-use Rattle.apply_text_terraform.specs.Message.{event_message, is_silent, kept_of, note_message, planned_message}
-use Rattle.apply_text_terraform.specs.Moment.{fine_text}
+use Rattle.apply_text_terraform.specs.Verbatim.{verbatim_members}
+use Rattle.apply_text_terraform.specs.Lines.{event_line, message_line, note_text, planned_text, line_with_verbatim, version_members, version_text}
+use Rattle.apply_text_terraform.specs.Message.{event_message, is_silent, verbatim_of, note_message, planned_message}
+use Rattle.apply_text_terraform.specs.UtcTimestamp.{precise_timestamp_text}
 use Rattle.apply_run.specs.InForm.{form_of}
-use Rattle.apply_run.specs.Read.{Told, applied_plan, applied_script, besides_of}
-use Rattle.apply_writer.specs.Stream.Terraform.{head_pieces, planned_at, planned_id_of}
+use Rattle.apply_run.specs.Read.{StatedInputs, applied_plan, applied_script, extras_of}
+use Rattle.apply_writer.specs.Stream.Terraform.{terraform_head_chunks, planned_at, planned_id_of}
 use Rattle.laws_check.specs.Levels.{IsLineOrNothing, event_lines, lines_before_end}
 
 abbrev AreLines : List (List ℕ) → Type 0
@@ -37,14 +37,14 @@ all_mapped f is [] = tt
 all_mapped f is (x ∷ xs) = (is x, all_mapped f is xs)
 
 of_message : (seconds : ℕ) (message : Message) → IsLineOrNothing (message_line seconds message)
-of_message seconds message = inr (inl (message_object message.level message.text (fine_text seconds) (typed message.name message.body message.type_name), refl))
+of_message seconds message = inr (inl (message_object message.level message.text (precise_timestamp_text seconds) (typed message.name message.body message.type_name), refl))
 
-of_told : (seconds : ℕ) (message : Message) (kept : List ℕ) → IsLineOrNothing (told_line seconds message kept)
-of_told seconds message [] = of_message seconds message
-of_told seconds message (byte ∷ bytes) = inr (inr (seconds, message, byte ∷ bytes, refl))
+of_stated_inputs : (seconds : ℕ) (message : Message) (raw_texts : List ℕ) → IsLineOrNothing (line_with_verbatim seconds message raw_texts)
+of_stated_inputs seconds message [] = of_message seconds message
+of_stated_inputs seconds message (byte ∷ bytes) = inr (inr (seconds, message, byte ∷ bytes, refl))
 
 of_version : (plan : SavedPlan) (start : ℕ) → IsLineOrNothing (version_text plan start)
-of_version plan start = inr (inl (message_object (codes "info") (codes "Terraform " ++ plan.version) (fine_text start) (version_members plan.version), refl))
+of_version plan start = inr (inl (message_object (codes "info") (codes "Terraform " ++ plan.version) (precise_timestamp_text start) (version_members plan.version), refl))
 
 of_planned : (start : ℕ) (change : ResourceChange) (details : Option ChangeDetails) → IsLineOrNothing (option_map_or (planned_text start change) details [])
 of_planned start change None = inl refl
@@ -66,7 +66,7 @@ module _ (seconds : ℕ) (outcome : Outcome) (planned : Option (List ℕ)) (what
     where
       of_test : (silent : Bool) → IsLineOrNothing (cond silent [] (event_line seconds change step outcome planned what))
       of_test true = inl refl
-      of_test false = of_told seconds (event_message change step outcome planned what) (kept_of outcome what)
+      of_test false = of_stated_inputs seconds (event_message change step outcome planned what) (verbatim_of outcome what)
 
   of_change : (k : ℕ) (change : Option ResourceChange) → IsLineOrNothing (option_map_or (λ change. option_map_or (λ step. line change step) (slice_get change.steps k) []) change [])
   of_change k None = inl refl
@@ -75,17 +75,17 @@ module _ (seconds : ℕ) (outcome : Outcome) (planned : Option (List ℕ)) (what
 -- ---- all of them
 
 of_note : (start latest : ℕ) (note : Note) → IsLineOrNothing (note_text start latest note)
-of_note start latest note = of_told (start + latest) (note_message note) (kept_members note.diag)
+of_note start latest note = of_stated_inputs (start + latest) (note_message note) (verbatim_members note.diag)
 
-pub all_lines : (told : Told) (start : ℕ) (operation : Operation) (written : List Event) → AreLines (lines_before_end told start operation written)
-all_lines told start operation written =
-    let plan = applied_plan told in
-    let notes = (besides_of told).notes in
+pub all_lines : (stated : StatedInputs) (start : ℕ) (operation : Operation) (written : List Event) → AreLines (lines_before_end stated start operation written)
+all_lines stated start operation written =
+    let plan = applied_plan stated in
+    let notes = (extras_of stated).notes in
     let latest = latest_of written (length written) in
-    all_both (head_pieces plan told.details.changes start) (event_lines (form_of told start operation) written ++ map (note_text start latest) notes)
-    (of_version plan start, all_mapped (planned_at start told.details.changes) (λ p. of_planned start p.1 (slice_get told.details.changes p.0)) (enumerate_from 0 plan.changes))
-    (all_both (event_lines (form_of told start operation) written) (map (note_text start latest) notes)
-    (all_mapped (λ (p : ℕ × Event). (form_of told start operation).line (latest_of written (p.0 + 1)) p.1)
-    (λ p. of_change (start + latest_of written (p.0 + 1)) (outcome_of (applied_script told) p.1.change p.1.step) (planned_id_of told.details.changes p.1.change) p.1.what p.1.step (slice_get plan.changes p.1.change))
+    all_both (terraform_head_chunks plan stated.details.changes start) (event_lines (form_of stated start operation) written ++ map (note_text start latest) notes)
+    (of_version plan start, all_mapped (planned_at start stated.details.changes) (λ p. of_planned start p.1 (slice_get stated.details.changes p.0)) (enumerate_from 0 plan.changes))
+    (all_both (event_lines (form_of stated start operation) written) (map (note_text start latest) notes)
+    (all_mapped (λ (p : ℕ × Event). (form_of stated start operation).line (latest_of written (p.0 + 1)) p.1)
+    (λ p. of_change (start + latest_of written (p.0 + 1)) (outcome_of (applied_script stated) p.1.change p.1.step) (planned_id_of stated.details.changes p.1.change) p.1.what p.1.step (slice_get plan.changes p.1.change))
     (enumerate_from 0 written))
     (all_mapped (note_text start latest) (of_note start latest) notes))

@@ -1,4 +1,5 @@
--- A line of a stream in Terraform's form has the level `error` exactly where the stream has no summary.
+-- A line of a stream in Terraform's form has the level `error` if and only if the stream has no
+-- summary.
 use Rattle.std.proofs.Common.{◌≡◌, ℕ, ◌+◌, ◌<◌, List, [], ◌∷◌, ◌++◌, append_assoc, length, map, Bool, true, false, cond, Option, Some, None, refl, sym, ap, ap₂, ◌∙◌, slice_get}
 use Rattle.std.specs.Prelude.{◌||◌, flat_map}
 use Rattle.std.specs.List.{concat, enumerate_from, list_any}
@@ -27,23 +28,23 @@ use Rattle.apply_text.specs.Order.{as_written}
 use Rattle.apply_model.specs.declared.details.change_details.ChangeDetails.{ChangeDetails}
 use Rattle.apply_model.specs.declared.details.output.Output.{Output}
 use Rattle.apply_model.specs.declared.details.note.Note.{Note}
-use Rattle.apply_model.specs.declared.details.severity.Severity.{Severity}
-use Rattle.apply_model.specs.declared.details.severity.Severity.TheVariants.{Error, Warning}
+use Rattle.apply_model.specs.declared.details.note.Severity.{Severity}
+use Rattle.apply_model.specs.declared.details.note.Severity.TheVariants.{Error, Warning}
 use Rattle.apply_model.specs.declared.script.diag.Diag.{Diag}
 use Rattle.apply_text_terraform.specs.Details.{planned_word}
-use Rattle.apply_text_terraform.specs.Kept.{kept_members, note_with}
-use Rattle.apply_text_terraform.specs.Lines.{event_line, event_text, line_of_text, message_line, note_text, outputs_text, planned_text, summary_text, told_line, version_text}
-use Rattle.apply_text_terraform.specs.Message.{event_message, is_silent, kept_of, note_message, planned_message}
-use Rattle.apply_text_terraform.specs.Moment.{fine_text}
+use Rattle.apply_text_terraform.specs.Verbatim.{verbatim_members, diagnostic_with}
+use Rattle.apply_text_terraform.specs.Lines.{event_line, event_text, line_of_text, message_line, note_text, outputs_text, planned_text, summary_text, line_with_verbatim, version_text}
+use Rattle.apply_text_terraform.specs.Message.{event_message, is_silent, verbatim_of, note_message, planned_message}
+use Rattle.apply_text_terraform.specs.UtcTimestamp.{precise_timestamp_text}
 use Rattle.apply_run.specs.InForm.{form_of}
-use Rattle.apply_run.specs.Read.{Told, applied_plan, applied_script, besides_of}
+use Rattle.apply_run.specs.Read.{StatedInputs, applied_plan, applied_script, extras_of}
 use Rattle.apply_writer.specs.Stream.Form.{lines_in}
-use Rattle.apply_writer.specs.Stream.Terraform.{head_pieces, is_error, is_severe, planned_at, planned_id_of, tells_error}
+use Rattle.apply_writer.specs.Stream.Terraform.{terraform_head_chunks, is_error, is_severe, planned_at, planned_id_of, contains_error}
 use Rattle.laws_check.specs.Levels.{HasAnEndOrAnError, end_of, event_lines, has_error_line, is_error_line, lines_before_end}
 use Rattle.laws_check.specs.WholeSteps.{IsOfWholeSteps}
 use Rattle.laws_check.proofs.EndedLines.{all_lines}
 use Rattle.laws_check.proofs.Errors.{IsPlanned, any_both, any_written, errors_counted, is_error_note}
-use Rattle.laws_check.proofs.Ordinary.{found}
+use Rattle.laws_check.proofs.Ordinary.{located}
 use Rattle.laws_check.proofs.Parts.{Each, each_weaker, each_written}
 use Rattle.laws_check.proofs.Tallies.{are_planned, is_within}
 
@@ -73,25 +74,25 @@ none_of_planned : (start : ℕ) (details : List ChangeDetails) (ps : List (ℕ �
 none_of_planned start details [] = refl
 none_of_planned start details (p ∷ ps) = ap₂ (λ (a b : Bool). a || b) (planned_is_fine start p.1 (slice_get details p.0)) (none_of_planned start details ps)
 
-none_of_head : (plan : SavedPlan) (details : List ChangeDetails) (start : ℕ) → list_any is_error_line (head_pieces plan details start) ≡ false
+none_of_head : (plan : SavedPlan) (details : List ChangeDetails) (start : ℕ) → list_any is_error_line (terraform_head_chunks plan details start) ≡ false
 none_of_head plan details start = ap₂ (λ (a b : Bool). a || b) (version_is_fine plan start) (none_of_planned start details (enumerate_from 0 plan.changes))
 
 -- ---- diagnostics of no step
 
--- a line with what is kept, or without
-either_kept : (seconds : ℕ) (message : Message) (kept : List ℕ) (is : Bool) → is_error_line (message_line seconds message) ≡ is
-    → ((byte : ℕ) (bytes : List ℕ) → is_error_line (line_of_text (note_with (fine_text seconds) message (byte ∷ bytes))) ≡ is)
-    → is_error_line (told_line seconds message kept) ≡ is
-either_kept seconds message [] is plain more = plain
-either_kept seconds message (byte ∷ bytes) is plain more = more byte bytes
+-- a line with verbatim texts, or without
+either_verbatim : (seconds : ℕ) (message : Message) (raw_texts : List ℕ) (is : Bool) → is_error_line (message_line seconds message) ≡ is
+    → ((byte : ℕ) (bytes : List ℕ) → is_error_line (line_of_text (diagnostic_with (precise_timestamp_text seconds) message (byte ∷ bytes))) ≡ is)
+    → is_error_line (line_with_verbatim seconds message raw_texts) ≡ is
+either_verbatim seconds message [] is plain more = plain
+either_verbatim seconds message (byte ∷ bytes) is plain more = more byte bytes
 
 of_severity : (start latest : ℕ) (severity : Severity) (diag : Diag) (address : Option (List ℕ))
     → is_error_line (note_text start latest (record { severity = severity; diag = diag; address = address })) ≡ is_severe severity
 unfolding message_object escape_byte
 of_severity start latest Error diag address =
-    either_kept (start + latest) (note_message (record { severity = Error; diag = diag; address = address })) (kept_members diag) true refl (λ byte bytes. refl)
+    either_verbatim (start + latest) (note_message (record { severity = Error; diag = diag; address = address })) (verbatim_members diag) true refl (λ byte bytes. refl)
 of_severity start latest Warning diag address =
-    either_kept (start + latest) (note_message (record { severity = Warning; diag = diag; address = address })) (kept_members diag) false refl (λ byte bytes. refl)
+    either_verbatim (start + latest) (note_message (record { severity = Warning; diag = diag; address = address })) (verbatim_members diag) false refl (λ byte bytes. refl)
 
 of_notes : (start latest : ℕ) (notes : List Note) → list_any is_error_line (map (note_text start latest) notes) ≡ list_any is_error notes
 of_notes start latest [] = refl
@@ -102,7 +103,7 @@ of_notes start latest (note ∷ notes) = ap₂ (λ (a b : Bool). a || b) (of_sev
 abbrev line_or_none : (seconds : ℕ) → ResourceChange → StepKind → Outcome → (planned : Option (List ℕ)) → What → List ℕ
 line_or_none seconds change step outcome planned what = cond (is_silent step what) [] (event_line seconds change step outcome planned what)
 
--- a line that is written or is not
+-- a line that may be left out
 either : (silent : Bool) (line : List ℕ) → is_error_line line ≡ false → is_error_line (cond silent [] line) ≡ false
 either true line is = refl
 either false line is = is
@@ -128,9 +129,9 @@ of_what seconds change step outcome planned (Complete n) = either (is_silent ste
 of_what seconds change step outcome planned (Errored n) = either (is_silent step (Errored n)) _ refl
 of_what seconds change step outcome planned ErrorNote =
     ap (λ (b : Bool). is_error_line (cond b [] (event_line seconds change step outcome planned ErrorNote))) (noted step)
-    ∙ either_kept seconds (event_message change step outcome planned ErrorNote) (kept_of outcome ErrorNote) true refl (λ byte bytes. refl)
+    ∙ either_verbatim seconds (event_message change step outcome planned ErrorNote) (verbatim_of outcome ErrorNote) true refl (λ byte bytes. refl)
 of_what seconds change step outcome planned WarnNote =
-    either (is_silent step WarnNote) _ (either_kept seconds (event_message change step outcome planned WarnNote) (kept_of outcome WarnNote) false refl (λ byte bytes. refl))
+    either (is_silent step WarnNote) _ (either_verbatim seconds (event_message change step outcome planned WarnNote) (verbatim_of outcome WarnNote) false refl (λ byte bytes. refl))
 of_what seconds change step outcome planned (Halted phase hook) =
     ap (λ (b : Bool). is_error_line (cond b [] (message_line seconds (event_message change step outcome planned (Halted phase hook))))) (halted step phase hook)
 of_what seconds change step outcome planned (ProvisionStart i) = either (is_silent step (ProvisionStart i)) _ refl
@@ -143,7 +144,7 @@ tells e = is_error_note e.what || is_halted e.what
 
 of_event : (plan : SavedPlan) (script : OutcomeMap) (start latest : ℕ) (planned : Option (List ℕ)) (e : Event) → IsPlanned plan e → is_error_line (event_text plan script start latest planned e) ≡ tells e
 of_event plan script start latest planned e is =
-    let step = found (slice_get plan.changes e.change) e.step is.0 is.1 in
+    let step = located (slice_get plan.changes e.change) e.step is.0 is.1 in
     let outcome = outcome_of script e.change e.step in
     ap (λ (o : Option ResourceChange). is_error_line (option_map_or (λ change. option_map_or (λ kind. line_or_none (start + latest) change kind outcome planned e.what) (slice_get change.steps e.step) []) o [])) step.1
     ∙ ap (λ (o : Option StepKind). is_error_line (option_map_or (λ kind. line_or_none (start + latest) step.0 kind outcome planned e.what) o [])) step.2
@@ -151,36 +152,36 @@ of_event plan script start latest planned e is =
 
 -- ---- the events of a run
 
-module _ (told : Told) (start : ℕ) (operation : Operation) where
-  of_events : (latest : ℕ → ℕ) (n : ℕ) (es : List Event) → Each (IsPlanned (applied_plan told)) es
-      → list_any is_error_line (map (λ p. (form_of told start operation).line (latest (p.0 + 1)) p.1) (enumerate_from n es)) ≡ list_any tells es
+module _ (stated : StatedInputs) (start : ℕ) (operation : Operation) where
+  of_events : (latest : ℕ → ℕ) (n : ℕ) (es : List Event) → Each (IsPlanned (applied_plan stated)) es
+      → list_any is_error_line (map (λ p. (form_of stated start operation).line (latest (p.0 + 1)) p.1) (enumerate_from n es)) ≡ list_any tells es
   of_events latest n [] planned = refl
   of_events latest n (e ∷ es) planned =
       ap₂ (λ (a b : Bool). a || b)
-      (of_event (applied_plan told) (applied_script told) start (latest (n + 1)) (planned_id_of told.details.changes e.change) e planned.0)
+      (of_event (applied_plan stated) (applied_script stated) start (latest (n + 1)) (planned_id_of stated.details.changes e.change) e planned.0)
       (of_events latest (n + 1) es planned.1)
 
   module _ (hooks : List (List Rule)) where
     abbrev work : Work
-    work = record { plan = applied_plan told; script = applied_script told; hooks = hooks }
+    work = record { plan = applied_plan stated; script = applied_script stated; hooks = hooks }
 
-    -- a line has the level exactly where the run says that the stream tells of an error
+    -- a line has the level if and only if the run reports an error
     of_run : (events : List Event) → IsOfWholeSteps work events
-        → has_error_line told start operation (as_written events) ≡ tells_error (besides_of told).notes (totals_of (applied_plan told) events)
+        → has_error_line stated start operation (as_written events) ≡ contains_error (extras_of stated).notes (totals_of (applied_plan stated) events)
     of_run events steps =
-        let plan = applied_plan told in
+        let plan = applied_plan stated in
         let limit = length plan.changes in
         let written = as_written events in
-        let head = head_pieces plan told.details.changes start in
-        let lines = event_lines (form_of told start operation) written in
-        let last = map (note_text start (latest_of written (length written))) (besides_of told).notes in
+        let head = terraform_head_chunks plan stated.details.changes start in
+        let lines = event_lines (form_of stated start operation) written in
+        let last = map (note_text start (latest_of written (length written))) (extras_of stated).notes in
         let planned : Each (IsPlanned plan) events = are_planned plan events steps.planned in
         let counted = errors_counted work limit events (each_weaker (IsPlanned plan) (λ e. e.change < limit) (is_within plan) events planned) steps.whole in
         any_both is_error_line head (lines ++ last)
-        ∙ ap₂ (λ (a b : Bool). a || b) (none_of_head plan told.details.changes start) (any_both is_error_line lines last)
+        ∙ ap₂ (λ (a b : Bool). a || b) (none_of_head plan stated.details.changes start) (any_both is_error_line lines last)
         ∙ ap₂ (λ (a b : Bool). a || b)
         (of_events (latest_of written) 0 written (each_written (IsPlanned plan) events planned) ∙ any_written tells events ∙ counted)
-        (of_notes start (latest_of written (length written)) (besides_of told).notes)
+        (of_notes start (latest_of written (length written)) (extras_of stated).notes)
 
 -- ---- the stream
 
@@ -189,14 +190,14 @@ joined f [] = refl
 joined f (x ∷ xs) = ap (λ (l : List ℕ). f x ++ l) (joined f xs)
 
 -- the lines, joined
-all_joined : (told : Told) (start : ℕ) (operation : Operation) (written : List Event)
-    → concat (lines_before_end told start operation written) ≡ lines_in (form_of told start operation) written ++ flat_map (note_text start (latest_of written (length written))) (besides_of told).notes
-all_joined told start operation written =
-    let form = form_of told start operation in
-    let head = head_pieces (applied_plan told) told.details.changes start in
+all_joined : (stated : StatedInputs) (start : ℕ) (operation : Operation) (written : List Event)
+    → concat (lines_before_end stated start operation written) ≡ lines_in (form_of stated start operation) written ++ flat_map (note_text start (latest_of written (length written))) (extras_of stated).notes
+all_joined stated start operation written =
+    let form = form_of stated start operation in
+    let head = terraform_head_chunks (applied_plan stated) stated.details.changes start in
     let lines = event_lines form written in
     let latest = latest_of written (length written) in
-    let notes = (besides_of told).notes in
+    let notes = (extras_of stated).notes in
     let last = map (note_text start latest) notes in
     concat-append head (lines ++ last)
     ∙ ap (λ (l : List ℕ). concat head ++ l)
@@ -204,17 +205,17 @@ all_joined told start operation written =
     ∙ ap₂ (λ (a b : List ℕ). a ++ b) (joined (λ p. form.line (latest_of written (p.0 + 1)) p.1) (enumerate_from 0 written)) (joined (note_text start latest) notes))
     ∙ sym (append_assoc (concat head) (flat_map (λ p. form.line (latest_of written (p.0 + 1)) p.1) (enumerate_from 0 written)) (flat_map (note_text start latest) notes))
 
-pub an_end_or_an_error : (told : Told) (start : ℕ) (operation : Operation) (hooks : List (List Rule)) (events : List Event) (counts : Counts) (said : Bool)
-    → IsOfWholeSteps (record { plan = applied_plan told; script = applied_script told; hooks = hooks }) events → counts ≡ totals_of (applied_plan told) events → said ≡ tells_error (besides_of told).notes counts
-    → HasAnEndOrAnError told start operation events said
-an_end_or_an_error told start operation hooks events counts said steps counted reported =
+pub an_end_or_an_error : (stated : StatedInputs) (start : ℕ) (operation : Operation) (hooks : List (List Rule)) (events : List Event) (counts : Counts) (reported_error : Bool)
+    → IsOfWholeSteps (record { plan = applied_plan stated; script = applied_script stated; hooks = hooks }) events → counts ≡ totals_of (applied_plan stated) events → reported_error ≡ contains_error (extras_of stated).notes counts
+    → HasAnEndOrAnError stated start operation events reported_error
+an_end_or_an_error stated start operation hooks events counts reported_error steps counted reported =
     let written = as_written events in
     let latest = latest_of written (length written) in
-    let same = of_run told start operation hooks events steps in
-    let notes = flat_map (note_text start latest) (besides_of told).notes in
+    let same = of_run stated start operation hooks events steps in
+    let notes = flat_map (note_text start latest) (extras_of stated).notes in
     record {
-      lines = all_lines told start operation written;
-      stream = sym (append_assoc (lines_in (form_of told start operation) written) notes (cond (tells_error (besides_of told).notes (totals_of (applied_plan told) events)) [] (end_of told start operation events)))
-          ∙ ap₂ (λ (a : List ℕ) (b : Bool). a ++ cond b [] (end_of told start operation events)) (sym (all_joined told start operation written)) (sym same);
-      error = reported ∙ ap (tells_error (besides_of told).notes) counted ∙ sym same;
+      lines = all_lines stated start operation written;
+      stream = sym (append_assoc (lines_in (form_of stated start operation) written) notes (cond (contains_error (extras_of stated).notes (totals_of (applied_plan stated) events)) [] (end_of stated start operation events)))
+          ∙ ap₂ (λ (a : List ℕ) (b : Bool). a ++ cond b [] (end_of stated start operation events)) (sym (all_joined stated start operation written)) (sym same);
+      error = reported ∙ ap (contains_error (extras_of stated).notes) counted ∙ sym same;
     }

@@ -1,4 +1,4 @@
--- An error is told exactly where a step failed or was halted.
+-- A stream has an error if and only if a step failed or was halted.
 use Rattle.std.proofs.Common.{All, ◌≡◌, ⊎_elim, ℕ, zero, suc, ◌+◌, ◌<◌, ◌≤◌, List, [], ◌∷◌, ◌++◌, map, filter, Bool, true, false, cond, not, Option, Some, None, refl, sym, ap, ap₂, ◌∙◌, subst, slice_get, count_by, option_map, option_to_list, arith, lt-ltb}
 use Rattle.std.specs.Prelude.{◌&&◌, ◌||◌, is_none, is_some, nat_lt}
 use Rattle.std.specs.List.{list_any}
@@ -18,13 +18,13 @@ use Rattle.apply_events.specs.declared.what.What.{What}
 use Rattle.apply_events.specs.declared.what.What.TheVariants.{Start, Progress, Complete, Errored, ErrorNote, WarnNote, Halted, ProvisionStart, ProvisionOutput, ProvisionComplete, ProvisionErrored}
 use Rattle.apply_events.specs.Diagnostics.{is_note}
 use Rattle.apply_events.specs.Step.{Step, Work, address_of, kinds_of, steps_of}
-use Rattle.apply_events.specs.StepEvents.{between, end_of, endings, event, goes_on, halts, notes, phase_after, seconds_of, started, step_events, tells_end}
+use Rattle.apply_events.specs.StepEvents.{between, end_of, endings, event, goes_on, halts, notes, phase_after, seconds_of, start_events, step_events, emits_end}
 use Rattle.apply_events.specs.Totals.{is_errored, is_halted, totals_of}
 use Rattle.apply_events.proofs.Provisions.{all_along}
 use Rattle.apply_text.specs.Order.{as_written, hook_messages_of, notes_of}
-use Rattle.laws_check.specs.Told.{action_of, all_told, told}
+use Rattle.laws_check.specs.ReadBack.{action_of, events_read_back, read_back}
 use Rattle.laws_check.specs.WholeSteps.{AreOfSteps, events_of_change}
-use Rattle.laws_check.proofs.ChangeSums.{as_many_kept, by_changes, ones, total_most}
+use Rattle.laws_check.proofs.ChangeSums.{as_many_filtered, by_changes, ones, total_most}
 use Rattle.laws_check.proofs.Parts.{Each}
 
 abbrev pub is_error_note : What → Bool
@@ -79,9 +79,9 @@ any_counted p (x ∷ xs) = at (p x) refl (any_counted p xs)
         let same : count_by p xs ≡ count_by p (x ∷ xs) = omega arith in
         ap (λ (b : Bool). b || list_any p xs) is ∙ rest ∙ ap (nat_lt 0) same
 
-any_kept : {X : Type 0} (p t : X → Bool) (xs : List X) → (list_any p (filter (λ x. not (t x)) xs) || list_any p (filter t xs)) ≡ list_any p xs
-any_kept p t [] = refl
-any_kept p t (x ∷ xs) = at (t x) (any_kept p t xs)
+any_filtered : {X : Type 0} (p t : X → Bool) (xs : List X) → (list_any p (filter (λ x. not (t x)) xs) || list_any p (filter t xs)) ≡ list_any p xs
+any_filtered p t [] = refl
+any_filtered p t (x ∷ xs) = at (t x) (any_filtered p t xs)
   where
     at : (b : Bool) → (list_any p (filter (λ y. not (t y)) xs) || list_any p (filter t xs)) ≡ list_any p xs
         → (list_any p (cond (not b) (x ∷ filter (λ y. not (t y)) xs) (filter (λ y. not (t y)) xs)) || list_any p (cond b (x ∷ filter t xs) (filter t xs))) ≡ (p x || list_any p xs)
@@ -94,7 +94,7 @@ any_kept p t (x ∷ xs) = at (t x) (any_kept p t xs)
     at false rest = sym (or_assoc (p x) (list_any p (filter (λ y. not (t y)) xs)) (list_any p (filter t xs))) ∙ ap (λ (b : Bool). p x || b) rest
 
 pub any_written : (p : Event → Bool) (es : List Event) → list_any p (as_written es) ≡ list_any p es
-any_written p es = any_both p (hook_messages_of es) (notes_of es) ∙ any_kept p (λ (e : Event). is_note e.what) es
+any_written p es = any_both p (hook_messages_of es) (notes_of es) ∙ any_filtered p (λ (e : Event). is_note e.what) es
 
 -- ---- a change
 
@@ -117,7 +117,7 @@ module _ (w : ℕ) (s : Step) where
       let last = alone p at other in
       omega arith
 
-  -- how often something happens that is neither the start nor a halt, nor anything between the start and the end
+  -- how many events are neither the start, nor a halt, nor between the start and the end
   module _ (p : What → Bool) (start : p Start ≡ false) (halted : (phase : asked.Phase) (hook : ℕ) → p (Halted phase hook) ≡ false) where
     not_between : (at : ℕ) (xs : List (ℕ × What)) → All (λ x. p x.1 ≡ false) xs → count_by (λ (e : Event). p e.what) (map (λ (x : ℕ × What). event w s (at + x.0) x.1) xs) ≡ 0
     not_between at [] none = refl
@@ -127,7 +127,7 @@ module _ (w : ℕ) (s : Step) where
         let all = sum_by-cons (λ (e : Event). cond (p e.what) 1 0) (event w s (at + x.0) x.1) (map (λ (y : ℕ × What). event w s (at + y.0) y.1) xs) in
         omega arith
 
-    no_halt : (phase : asked.Phase) (at : ℕ) (found : Option ℕ) → count_by (λ (e : Event). p e.what) (option_to_list (option_map (λ hook. event w s at (Halted phase hook)) found)) ≡ 0
+    no_halt : (phase : asked.Phase) (at : ℕ) (located : Option ℕ) → count_by (λ (e : Event). p e.what) (option_to_list (option_map (λ hook. event w s at (Halted phase hook)) located)) ≡ 0
     no_halt phase at None = refl
     no_halt phase at (Some hook) = alone p at (Halted phase hook) ∙ ap (λ (b : Bool). cond b 1 0) (halted phase hook)
 
@@ -135,8 +135,8 @@ module _ (w : ℕ) (s : Step) where
         → count_by (λ (e : Event). p e.what) (step_events w s at) ≡ cond (is_some (s.halts Pre)) 0 (count_by (λ (e : Event). p e.what) (map (λ what. event w s (at + seconds_of s) what) (endings s)))
     at_the_end along at = either (s.halts Pre)
       where
-        either : (found : Option ℕ) → count_by (λ (e : Event). p e.what) (cond (is_some found) (option_to_list (option_map (λ hook. event w s at (Halted Pre hook)) found)) (started w s at))
-            ≡ cond (is_some found) 0 (count_by (λ (e : Event). p e.what) (map (λ what. event w s (at + seconds_of s) what) (endings s)))
+        either : (located : Option ℕ) → count_by (λ (e : Event). p e.what) (cond (is_some located) (option_to_list (option_map (λ hook. event w s at (Halted Pre hook)) located)) (start_events w s at))
+            ≡ cond (is_some located) 0 (count_by (λ (e : Event). p e.what) (map (λ what. event w s (at + seconds_of s) what) (endings s)))
         either (Some hook) = no_halt Pre at (Some hook)
         either None =
             let first = event w s at Start ∷ [] in
@@ -151,13 +151,13 @@ module _ (w : ℕ) (s : Step) where
             let three = sum_by-append (λ (e : Event). cond (p e.what) 1 0) ((first ++ middle) ++ last) halt in
             omega arith
 
-  -- where it fails, an end and a note tell of it
-  ends_told : (fails warns only : Bool) (at end : ℕ) (p : What → Bool) → p (Complete end) ≡ false → p WarnNote ≡ false → cond {A = ℕ} (p (Errored end)) 1 0 + cond (p ErrorNote) 1 0 ≡ 1
-      → count_by (λ (e : Event). p e.what) (map (λ what. event w s at what) (cond (tells_end fails only) (end_of fails end ∷ notes fails warns) (WarnNote ∷ []))) ≡ cond fails 1 0
-  ends_told true warns only at end p done warned once = two p at (Errored end) ErrorNote ∙ once
-  ends_told false warns true at end p done warned once = alone p at WarnNote ∙ ap (λ (b : Bool). cond b 1 0) warned
-  ends_told false true false at end p done warned once = two p at (Complete end) WarnNote ∙ ap₂ (λ (b c : Bool). cond {A = ℕ} b 1 0 + cond c 1 0) done warned
-  ends_told false false false at end p done warned once = alone p at (Complete end) ∙ ap (λ (b : Bool). cond b 1 0) done
+  -- a failure has an end and a diagnostic
+  ends_read_back : (fails warns only : Bool) (at end : ℕ) (p : What → Bool) → p (Complete end) ≡ false → p WarnNote ≡ false → cond {A = ℕ} (p (Errored end)) 1 0 + cond (p ErrorNote) 1 0 ≡ 1
+      → count_by (λ (e : Event). p e.what) (map (λ what. event w s at what) (cond (emits_end fails only) (end_of fails end ∷ notes fails warns) (WarnNote ∷ []))) ≡ cond fails 1 0
+  ends_read_back true warns only at end p done warned once = two p at (Errored end) ErrorNote ∙ once
+  ends_read_back false warns true at end p done warned once = alone p at WarnNote ∙ ap (λ (b : Bool). cond b 1 0) warned
+  ends_read_back false true false at end p done warned once = two p at (Complete end) WarnNote ∙ ap₂ (λ (b c : Bool). cond {A = ℕ} b 1 0 + cond c 1 0) done warned
+  ends_read_back false false false at end p done warned once = alone p at (Complete end) ∙ ap (λ (b : Bool). cond b 1 0) done
 
   step_told : (p : What → Bool) → p Start ≡ false → ((phase : asked.Phase) (hook : ℕ) → p (Halted phase hook) ≡ false) → ((t : ℕ) → p (Progress t) ≡ false)
       → ((i : ℕ) → p (ProvisionStart i) ≡ false) → ((i j : ℕ) → p (ProvisionOutput i j) ≡ false) → ((i : ℕ) → p (ProvisionComplete i) ≡ false) → ((i : ℕ) → p (ProvisionErrored i) ≡ false)
@@ -167,7 +167,7 @@ module _ (w : ℕ) (s : Step) where
       at_the_end p start halted
       (all_along (λ x. p x.1 ≡ false) (seconds_of s) 0 0 s.seconds_before s.ran goes (λ i q since. begins i) (λ i q j since. puts_out i j)
       (λ i q since. elim (has_failed q) as (λ f. p (cond f (ProvisionErrored i) (ProvisionComplete i)) ≡ false) [ true ↦ errs i | false ↦ completes i ])) at
-      ∙ ap (λ (n : ℕ). cond (is_some (s.halts Pre)) 0 n) (ends_told s.fails s.warns s.only_warns (at + seconds_of s) (seconds_of s) p done warned once)
+      ∙ ap (λ (n : ℕ). cond (is_some (s.halts Pre)) 0 n) (ends_read_back s.fails s.warns s.only_warns (at + seconds_of s) (seconds_of s) p done warned once)
 
   step_noted : (at : ℕ) → count_by noted (step_events w s at) ≡ cond (is_some (s.halts Pre)) 0 (cond s.fails 1 0)
   step_noted = step_told is_error_note refl (λ phase hook. refl) (λ t. refl) (λ i. refl) (λ i j. refl) (λ i. refl) (λ i. refl) refl refl refl
@@ -175,7 +175,7 @@ module _ (w : ℕ) (s : Step) where
   step_failed : (at : ℕ) → count_by failed (step_events w s at) ≡ cond (is_some (s.halts Pre)) 0 (cond s.fails 1 0)
   step_failed = step_told is_errored refl (λ phase hook. refl) (λ t. refl) (λ i. refl) (λ i j. refl) (λ i. refl) (λ i. refl) refl refl refl
 
--- of each failure there is one note, and behind one nothing begins
+-- each failure has one diagnostic, and nothing begins after it
 record AreNoted (es : List Event) : Type 0 where
   same : count_by noted es ≡ count_by failed es
   once : count_by failed es ≤ 1
@@ -207,9 +207,9 @@ steps_noted (s ∷ steps) es are =
     others : (w at : ℕ) (rest : List Event) → (goes_on s ≡ true → AreNoted rest) → (goes_on s ≡ false → rest ≡ []) → (on : Bool) → goes_on s ≡ on → AreNoted (step_events w s at ++ rest)
     others w at rest then none on is =
         let later = of_rest on is in
-        let told = step_noted w s at in
+        let noted_here = step_noted w s at in
         let fails = step_failed w s at in
-        let all_told = sum_by-append (λ e. cond (noted e) 1 0) (step_events w s at) rest in
+        let all_noted = sum_by-append (λ e. cond (noted e) 1 0) (step_events w s at) rest in
         let all_fail = sum_by-append (λ e. cond (failed e) 1 0) (step_events w s at) rest in
         let no_more = at_most (is_some (s.halts Pre)) (cond s.fails 1 0) in
         let same = later.0.same in
@@ -237,9 +237,9 @@ module _ (work : Work) (limit : ℕ) (es : List Event) (within : Each (λ e. e.c
   noted_so : (c : ℕ) → c < limit → AreNoted (events_of_change c es)
   noted_so c less = steps_noted (steps_of work c) (events_of_change c es) (parts c less)
 
-  -- as many notes as failures, of the changes that pass a test
+  -- as many error diagnostics as failures, in the changes that pass a test
   pub as_many_noted : (keep : ℕ → Bool) → count_by (λ (e : Event). keep e.change && is_error_note e.what) es ≡ count_by (λ (e : Event). keep e.change && is_errored e.what) es
-  as_many_noted keep = as_many_kept keep noted failed limit es within (λ c less. (noted_so c less).same)
+  as_many_noted keep = as_many_filtered keep noted failed limit es within (λ c less. (noted_so c less).same)
 
   -- no more fail than there are changes
   pub few_fail : count_by (λ (e : Event). is_errored e.what) es ≤ limit
@@ -249,33 +249,33 @@ module _ (work : Work) (limit : ℕ) (es : List Event) (within : Each (λ e. e.c
       let all = ones 0 limit in
       omega arith
 
--- ---- what is told
+-- ---- what is read back
 
-told_error : (a : List ℕ) (k : Action) (what : What) → is_error (told a k what) ≡ (is_error_note what || is_halted what)
-told_error a k Start = refl
-told_error a k (Progress seconds) = refl
-told_error a k (Complete seconds) = refl
-told_error a k (Errored seconds) = refl
-told_error a k ErrorNote = refl
-told_error a k WarnNote = refl
-told_error a k (Halted phase hook) = refl
-told_error a k (ProvisionStart i) = refl
-told_error a k (ProvisionOutput i line) = refl
-told_error a k (ProvisionComplete i) = refl
-told_error a k (ProvisionErrored i) = refl
+error_read_back : (a : List ℕ) (k : Action) (what : What) → is_error (read_back a k what) ≡ (is_error_note what || is_halted what)
+error_read_back a k Start = refl
+error_read_back a k (Progress seconds) = refl
+error_read_back a k (Complete seconds) = refl
+error_read_back a k (Errored seconds) = refl
+error_read_back a k ErrorNote = refl
+error_read_back a k WarnNote = refl
+error_read_back a k (Halted phase hook) = refl
+error_read_back a k (ProvisionStart i) = refl
+error_read_back a k (ProvisionOutput i line) = refl
+error_read_back a k (ProvisionComplete i) = refl
+error_read_back a k (ProvisionErrored i) = refl
 
 one_told : (plan : SavedPlan) (e : Event) (ms : List Message) (kind : StepKind) → slice_get (kinds_of plan e.change) e.step ≡ Some kind
-    → list_any is_error (option_map_or (λ step. told (address_of plan e.change) (action_of step) e.what ∷ []) (slice_get (kinds_of plan e.change) e.step) [] ++ ms) ≡ ((is_error_note e.what || is_halted e.what) || list_any is_error ms)
+    → list_any is_error (option_map_or (λ step. read_back (address_of plan e.change) (action_of step) e.what ∷ []) (slice_get (kinds_of plan e.change) e.step) [] ++ ms) ≡ ((is_error_note e.what || is_halted e.what) || list_any is_error ms)
 one_told plan e ms kind lookup =
-    ap (λ (o : Option StepKind). list_any is_error (option_map_or (λ step. told (address_of plan e.change) (action_of step) e.what ∷ []) o [] ++ ms)) lookup
-    ∙ ap (λ (b : Bool). b || list_any is_error ms) (told_error (address_of plan e.change) (action_of kind) e.what)
+    ap (λ (o : Option StepKind). list_any is_error (option_map_or (λ step. read_back (address_of plan e.change) (action_of step) e.what ∷ []) o [] ++ ms)) lookup
+    ∙ ap (λ (b : Bool). b || list_any is_error ms) (error_read_back (address_of plan e.change) (action_of kind) e.what)
 
 abbrev pub IsPlanned : SavedPlan → Event → Type 0
 IsPlanned plan e = (kind : StepKind) × (slice_get (kinds_of plan e.change) e.step ≡ Some kind)
 
-any_told : (plan : SavedPlan) (es : List Event) → Each (IsPlanned plan) es → list_any is_error (all_told plan es) ≡ list_any (λ (e : Event). is_error_note e.what || is_halted e.what) es
-any_told plan [] h = refl
-any_told plan (e ∷ es) h = one_told plan e (all_told plan es) h.0.0 h.0.1 ∙ ap (λ (b : Bool). (is_error_note e.what || is_halted e.what) || b) (any_told plan es h.1)
+any_error_read_back : (plan : SavedPlan) (es : List Event) → Each (IsPlanned plan) es → list_any is_error (events_read_back plan es) ≡ list_any (λ (e : Event). is_error_note e.what || is_halted e.what) es
+any_error_read_back plan [] h = refl
+any_error_read_back plan (e ∷ es) h = one_told plan e (events_read_back plan es) h.0.0 h.0.1 ∙ ap (λ (b : Bool). (is_error_note e.what || is_halted e.what) || b) (any_error_read_back plan es h.1)
 
 positive : (m n : ℕ) → (nat_lt 0 m || nat_lt 0 n) ≡ nat_lt 0 (m + n)
 positive zero n = ap (nat_lt 0) (let e : n ≡ 0 + n = omega arith in e)
@@ -290,9 +290,9 @@ errors_counted work limit es within parts =
     ∙ ap (λ (b : Bool). nat_lt 0 (count_by failed es) || b) (any_counted (λ (e : Event). is_halted e.what) es)
     ∙ positive (count_by failed es) (count_by (λ (e : Event). is_halted e.what) es)
 
-pub errors_told : (work : Work) (limit : ℕ) (es : List Event) → Each (IsPlanned work.plan) (as_written es) → Each (λ e. e.change < limit) es → AreParts work limit es
-    → list_any is_error (all_told work.plan (as_written es)) ≡ nat_lt 0 ((totals_of work.plan es).failed + (totals_of work.plan es).halted)
-errors_told work limit es planned within parts =
-    any_told work.plan (as_written es) planned
+pub errors_read_back : (work : Work) (limit : ℕ) (es : List Event) → Each (IsPlanned work.plan) (as_written es) → Each (λ e. e.change < limit) es → AreParts work limit es
+    → list_any is_error (events_read_back work.plan (as_written es)) ≡ nat_lt 0 ((totals_of work.plan es).failed + (totals_of work.plan es).halted)
+errors_read_back work limit es planned within parts =
+    any_error_read_back work.plan (as_written es) planned
     ∙ any_written (λ (e : Event). is_error_note e.what || is_halted e.what) es
     ∙ errors_counted work limit es within parts

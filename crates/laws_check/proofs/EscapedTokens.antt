@@ -18,7 +18,8 @@ use Rattle.laws_check.proofs.PlainNumbers.{number_plain}
 
 -- ---- a byte that has an escape of JSON
 
--- what the reader of strings and the lexer make of the escape of x, before any text; and no byte of it has an escape again
+-- How the string reader and the lexer read the escape of x, before any text. No byte of the escape
+-- has an escape itself.
 record Passes (x : ℕ) : Type 0 where
   read : (r : List ℕ) → content plain (escape_byte x ++ r) ≡ prepend (x ∷ []) (content plain r)
   lexed : (r : List ℕ) → lex in_string (escape_byte x ++ r) ≡ lex in_string r
@@ -148,7 +149,7 @@ backslash_passes = record { read = λ r. refl; lexed = λ r. refl; stays = refl 
 -- ---- a byte that stands for itself
 
 -- a text up to its quote that the reader and the lexer take for s
-record Tells (t s : List ℕ) : Type 0 where
+record DecodesTo (t s : List ℕ) : Type 0 where
   read : (r : List ℕ) → content plain (t ++ 34 ∷ r) ≡ Some s
   lexed : (r : List ℕ) → lex in_string (t ++ 34 ∷ r) ≡ lex between r
 
@@ -173,74 +174,74 @@ begun second (x ∷ y ∷ rest) some e =
     let both = and_parts (x == 128) (y == second) e in
     (rest, ap₂ (λ (a b : ℕ). a ∷ b ∷ rest) (eqb-true x 128 both.0) (eqb-true y second both.1))
 
-plain_tells : (x : ℕ) (t s : List ℕ) → (x ≡ 34 → ⊥) → (x ≡ 92 → ⊥) → 32 ≤ x → Tells t s → Tells (x ∷ t) (x ∷ s)
+plain_decodes : (x : ℕ) (t s : List ℕ) → (x ≡ 34 → ⊥) → (x ≡ 92 → ⊥) → 32 ≤ x → DecodesTo t s → DecodesTo (x ∷ t) (x ∷ s)
 unfolding content lex
-plain_tells x t s q b low tells = record {
+plain_decodes x t s q b low tells = record {
   read = λ r. rw (ne_eqb x 34 q, ne_eqb x 92 b, le-ltb x 32 low) (ap (prepend (x ∷ [])) (tells.read r));
   lexed = λ r. rw (ne_eqb x 34 q, ne_eqb x 92 b) (stays_inside (is_operator x) (is_space x) x (t ++ 34 ∷ r) (λ m. lex m (t ++ 34 ∷ r)) ∙ tells.lexed r);
 }
 
-unit_tells : (t s : List ℕ) → Tells t s → Tells (codes "\\u003c" ++ t) (60 ∷ s) × Tells (codes "\\u003e" ++ t) (62 ∷ s) × Tells (codes "\\u0026" ++ t) (38 ∷ s)
+unit_decodes : (t s : List ℕ) → DecodesTo t s → DecodesTo (codes "\\u003c" ++ t) (60 ∷ s) × DecodesTo (codes "\\u003e" ++ t) (62 ∷ s) × DecodesTo (codes "\\u0026" ++ t) (38 ∷ s)
 unfolding content lex code_unit encode
-unit_tells t s tells = (
+unit_decodes t s tells = (
   record { read = λ r. ap (prepend (60 ∷ [])) (tells.read r); lexed = λ r. tells.lexed r },
   record { read = λ r. ap (prepend (62 ∷ [])) (tells.read r); lexed = λ r. tells.lexed r },
   record { read = λ r. ap (prepend (38 ∷ [])) (tells.read r); lexed = λ r. tells.lexed r },
 )
 
-line_tells : (t s : List ℕ) → Tells (128 ∷ 168 ∷ t) s → Tells (codes "\\u2028" ++ t) (226 ∷ s)
+line_decodes : (t s : List ℕ) → DecodesTo (128 ∷ 168 ∷ t) s → DecodesTo (codes "\\u2028" ++ t) (226 ∷ s)
 unfolding content lex code_unit encode
-line_tells t s tells = record { read = λ r. in_three 226 128 168 (content plain (t ++ 34 ∷ r)) s (tells.read r); lexed = λ r. tells.lexed r }
+line_decodes t s tells = record { read = λ r. in_three 226 128 168 (content plain (t ++ 34 ∷ r)) s (tells.read r); lexed = λ r. tells.lexed r }
 
-paragraph_tells : (t s : List ℕ) → Tells (128 ∷ 169 ∷ t) s → Tells (codes "\\u2029" ++ t) (226 ∷ s)
+paragraph_decodes : (t s : List ℕ) → DecodesTo (128 ∷ 169 ∷ t) s → DecodesTo (codes "\\u2029" ++ t) (226 ∷ s)
 unfolding content lex code_unit encode
-paragraph_tells t s tells = record { read = λ r. in_three 226 128 169 (content plain (t ++ 34 ∷ r)) s (tells.read r); lexed = λ r. tells.lexed r }
+paragraph_decodes t s tells = record { read = λ r. in_three 226 128 169 (content plain (t ++ 34 ∷ r)) s (tells.read r); lexed = λ r. tells.lexed r }
 
-onto_tells : (x : ℕ) (t s : List ℕ) → (x ≡ 34 → ⊥) → (x ≡ 92 → ⊥) → 32 ≤ x → Tells t s → Tells (escaped_onto x t) (x ∷ s)
-onto_tells x t s q b low tells =
+onto_decodes : (x : ℕ) (t s : List ℕ) → (x ≡ 34 → ⊥) → (x ≡ 92 → ⊥) → 32 ≤ x → DecodesTo t s → DecodesTo (escaped_onto x t) (x ∷ s)
+onto_decodes x t s q b low tells =
     of_tests (x == 60) (x == 62) (x == 38) (x == 226) (begins_with 128 168 t) (begins_with 128 169 t) refl refl refl refl refl refl
   where
     of_tests : (one two three four line paragraph : Bool) → (x == 60) ≡ one → (x == 62) ≡ two → (x == 38) ≡ three → (x == 226) ≡ four → begins_with 128 168 t ≡ line → begins_with 128 169 t ≡ paragraph
-        → Tells (cond one (codes "\\u003c" ++ t) (cond two (codes "\\u003e" ++ t) (cond three (codes "\\u0026" ++ t) (cond (four && line) (codes "\\u2028" ++ drop 2 t) (cond (four && paragraph) (codes "\\u2029" ++ drop 2 t) (x ∷ t)))))) (x ∷ s)
-    of_tests true two three four line paragraph e f g h i j = subst (λ (y : ℕ). Tells (codes "\\u003c" ++ t) (y ∷ s)) (sym (eqb-true x 60 e)) (unit_tells t s tells).0
-    of_tests false true three four line paragraph e f g h i j = subst (λ (y : ℕ). Tells (codes "\\u003e" ++ t) (y ∷ s)) (sym (eqb-true x 62 f)) (unit_tells t s tells).1
-    of_tests false false true four line paragraph e f g h i j = subst (λ (y : ℕ). Tells (codes "\\u0026" ++ t) (y ∷ s)) (sym (eqb-true x 38 g)) (unit_tells t s tells).2
+        → DecodesTo (cond one (codes "\\u003c" ++ t) (cond two (codes "\\u003e" ++ t) (cond three (codes "\\u0026" ++ t) (cond (four && line) (codes "\\u2028" ++ drop 2 t) (cond (four && paragraph) (codes "\\u2029" ++ drop 2 t) (x ∷ t)))))) (x ∷ s)
+    of_tests true two three four line paragraph e f g h i j = subst (λ (y : ℕ). DecodesTo (codes "\\u003c" ++ t) (y ∷ s)) (sym (eqb-true x 60 e)) (unit_decodes t s tells).0
+    of_tests false true three four line paragraph e f g h i j = subst (λ (y : ℕ). DecodesTo (codes "\\u003e" ++ t) (y ∷ s)) (sym (eqb-true x 62 f)) (unit_decodes t s tells).1
+    of_tests false false true four line paragraph e f g h i j = subst (λ (y : ℕ). DecodesTo (codes "\\u0026" ++ t) (y ∷ s)) (sym (eqb-true x 38 g)) (unit_decodes t s tells).2
     of_tests false false false true true paragraph e f g h i j =
-        let found = begun 168 t (omega arith) i in
-        subst (λ (y : ℕ). Tells (codes "\\u2028" ++ drop 2 t) (y ∷ s)) (sym (eqb-true x 226 h))
-        (subst (λ (u : List ℕ). Tells (codes "\\u2028" ++ drop 2 u) (226 ∷ s)) (sym found.1) (line_tells found.0 s (subst (λ (u : List ℕ). Tells u s) found.1 tells)))
+        let located = begun 168 t (omega arith) i in
+        subst (λ (y : ℕ). DecodesTo (codes "\\u2028" ++ drop 2 t) (y ∷ s)) (sym (eqb-true x 226 h))
+        (subst (λ (u : List ℕ). DecodesTo (codes "\\u2028" ++ drop 2 u) (226 ∷ s)) (sym located.1) (line_decodes located.0 s (subst (λ (u : List ℕ). DecodesTo u s) located.1 tells)))
     of_tests false false false true false true e f g h i j =
-        let found = begun 169 t (omega arith) j in
-        subst (λ (y : ℕ). Tells (codes "\\u2029" ++ drop 2 t) (y ∷ s)) (sym (eqb-true x 226 h))
-        (subst (λ (u : List ℕ). Tells (codes "\\u2029" ++ drop 2 u) (226 ∷ s)) (sym found.1) (paragraph_tells found.0 s (subst (λ (u : List ℕ). Tells u s) found.1 tells)))
-    of_tests false false false true false false e f g h i j = plain_tells x t s q b low tells
-    of_tests false false false false line paragraph e f g h i j = plain_tells x t s q b low tells
+        let located = begun 169 t (omega arith) j in
+        subst (λ (y : ℕ). DecodesTo (codes "\\u2029" ++ drop 2 t) (y ∷ s)) (sym (eqb-true x 226 h))
+        (subst (λ (u : List ℕ). DecodesTo (codes "\\u2029" ++ drop 2 u) (226 ∷ s)) (sym located.1) (paragraph_decodes located.0 s (subst (λ (u : List ℕ). DecodesTo u s) located.1 tells)))
+    of_tests false false false true false false e f g h i j = plain_decodes x t s q b low tells
+    of_tests false false false false line paragraph e f g h i j = plain_decodes x t s q b low tells
 
 -- ---- a string
 
-passed_tells : (x : ℕ) (t s : List ℕ) → Passes x → Tells t s → Tells (escape_byte x ++ t) (x ∷ s)
-passed_tells x t s passes tells = record {
+passed_decodes : (x : ℕ) (t s : List ℕ) → Passes x → DecodesTo t s → DecodesTo (escape_byte x ++ t) (x ∷ s)
+passed_decodes x t s passes tells = record {
   read = λ r. ap (content plain) (append_assoc (escape_byte x) t (34 ∷ r)) ∙ passes.read (t ++ 34 ∷ r) ∙ ap (prepend (x ∷ [])) (tells.read r);
   lexed = λ r. ap (lex in_string) (append_assoc (escape_byte x) t (34 ∷ r)) ∙ passes.lexed (t ++ 34 ∷ r) ∙ tells.lexed r;
 }
 
-byte_tells : (x : ℕ) (s : List ℕ) → Tells (escaped (escape s)) s → Tells (escaped (escape_byte x ++ escape s)) (x ∷ s)
-byte_tells x s tells = go (cases_eq x 34) (cases_eq x 92) (cases_lt x 32)
+byte_decodes : (x : ℕ) (s : List ℕ) → DecodesTo (escaped (escape s)) s → DecodesTo (escaped (escape_byte x ++ escape s)) (x ∷ s)
+byte_decodes x s tells = go (cases_eq x 34) (cases_eq x 92) (cases_lt x 32)
   where
-    other_way : Passes x → Tells (escaped (escape_byte x ++ escape s)) (x ∷ s)
-    other_way passes = subst (λ (u : List ℕ). Tells u (x ∷ s)) (sym (plain_then (escape_byte x) (escape s) passes.stays)) (passed_tells x (escaped (escape s)) s passes tells)
+    other_way : Passes x → DecodesTo (escaped (escape_byte x ++ escape s)) (x ∷ s)
+    other_way passes = subst (λ (u : List ℕ). DecodesTo u (x ∷ s)) (sym (plain_then (escape_byte x) (escape s) passes.stays)) (passed_decodes x (escaped (escape s)) s passes tells)
 
-    go : (x ≡ 34) ⊎ (x ≡ 34 → ⊥) → (x ≡ 92) ⊎ (x ≡ 92 → ⊥) → (x < 32) ⊎ (32 ≤ x) → Tells (escaped (escape_byte x ++ escape s)) (x ∷ s)
+    go : (x ≡ 34) ⊎ (x ≡ 34 → ⊥) → (x ≡ 92) ⊎ (x ≡ 92 → ⊥) → (x < 32) ⊎ (32 ≤ x) → DecodesTo (escaped (escape_byte x ++ escape s)) (x ∷ s)
     go (inl e) b c = other_way (subst Passes (sym e) quote_passes)
     go (inr q) (inl e) c = other_way (subst Passes (sym e) backslash_passes)
     go (inr q) (inr b) (inl c) = other_way (each_sound Passes 32 controls x c)
     go (inr q) (inr b) (inr low) =
-        subst (λ (u : List ℕ). Tells (escaped (u ++ escape s)) (x ∷ s)) (sym (escape_byte_plain x q b low)) (onto_tells x (escaped (escape s)) s q b low tells)
+        subst (λ (u : List ℕ). DecodesTo (escaped (u ++ escape s)) (x ∷ s)) (sym (escape_byte_plain x q b low)) (onto_decodes x (escaped (escape s)) s q b low tells)
 
-string_tells : (s : List ℕ) → Tells (escaped (escape s)) s
+string_decodes : (s : List ℕ) → DecodesTo (escaped (escape s)) s
 unfolding content lex
-string_tells [] = record { read = λ r. refl; lexed = λ r. refl }
-string_tells (x ∷ s) = byte_tells x s (string_tells s)
+string_decodes [] = record { read = λ r. refl; lexed = λ r. refl }
+string_decodes (x ∷ s) = byte_decodes x s (string_decodes s)
 
 -- ---- a token
 
@@ -251,7 +252,7 @@ quoted_same : (s r : List ℕ) → Same r → Same (quoted s ++ r)
 unfolding lex
 quoted_same s r rest =
     let e = append_assoc (escape s) (34 ∷ []) r in
-    let tells = string_tells s in
+    let tells = string_decodes s in
     ap (λ l. lex between (escaped (34 ∷ l))) e
     ∙ ap (λ l. lex between (34 ∷ l)) (cut (escape s) (34 ∷ r) (inl (omega arith)))
     ∙ ap₂ (λ o l. token (string_token o) ∷ l) (tells.read (escaped r)) (tells.lexed (escaped r) ∙ rest)
@@ -276,7 +277,7 @@ after_value_ends (boolean b ∷ ts) = (refl, refl)
 after_value_ends (null ∷ ts) = (refl, refl)
 after_value_ends (bad ∷ ts) = (refl, refl)
 
--- what stands behind a word ends it
+-- what follows a word ends it
 abbrev EndsWords : List ℕ → Type 0
 EndsWords r = (ends_word r ≡ true) × (ends_word (escaped r) ≡ true)
 

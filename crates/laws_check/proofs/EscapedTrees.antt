@@ -12,13 +12,13 @@ use Rattle.serde_json.specs.Data.{Data}
 use Rattle.serde_json.specs.Read.{max_depth, of_json, read}
 use Rattle.serde_json.specs.Written.{compact_text, outline}
 use Rattle.serde_json.proofs.Texts.{print-outline}
-use Rattle.apply_json.specs.Keeping.{own_text}
+use Rattle.apply_json.specs.Verbatim.{verbatim}
 use Rattle.apply_json.specs.Tree.{tree_of}
 use Rattle.apply_text.specs.Laws.{line_feeds}
 use Rattle.apply_text_terraform.specs.Escapes.{escaped}
 use Rattle.apply_text_terraform.specs.Lines.{line_of}
 use Rattle.apply_text_terraform.proofs.Utf8.{still_utf8}
-use Rattle.laws_check.specs.Forms.{IsReadAs}
+use Rattle.laws_check.specs.Forms.{IsParsedAs}
 use Rattle.laws_check.specs.Sound.{IsSound}
 use Rattle.laws_check.proofs.EscapedTokens.{tokens_escaped}
 use Rattle.laws_check.proofs.FormFeeds.{escaped_feeds, own_feeds}
@@ -34,27 +34,27 @@ tree_of_read : (text : List ℕ) → IsUtf8 text → tree_of text ≡ read text
 tree_of_read text utf8 = ap (λ (b : Bool). cond b (read text) None) (is_utf8-from_IsUtf8 text utf8)
 
 -- a printed value is read as the value
-pub own_tree : (j : Json) → HasNumbers j → IsUtf8 (own_text j) → depth j ≤ max_depth → tree_of (own_text j) ≡ of_json j
+pub own_tree : (j : Json) → HasNumbers j → IsUtf8 (verbatim j) → depth j ≤ max_depth → tree_of (verbatim j) ≡ of_json j
 own_tree j numbers utf8 shallow =
-    tree_of_read (own_text j) utf8 ∙ read_of (own_text j) j (tokens-print (json_tokens j) (ArePrintable-json_tokens j numbers)) shallow
+    tree_of_read (verbatim j) utf8 ∙ read_of (verbatim j) j (tokens-print (json_tokens j) (ArePrintable-json_tokens j numbers)) shallow
 
--- so it is with its escapes
-pub escaped_tree : (j : Json) → HasNumbers j → IsUtf8 (own_text j) → depth j ≤ max_depth → tree_of (escaped (own_text j)) ≡ of_json j
+-- the text with its escapes
+pub escaped_tree : (j : Json) → HasNumbers j → IsUtf8 (verbatim j) → depth j ≤ max_depth → tree_of (escaped (verbatim j)) ≡ of_json j
 escaped_tree j numbers utf8 shallow =
-    tree_of_read (escaped (own_text j)) (still_utf8 (own_text j) utf8)
-    ∙ read_of (escaped (own_text j)) j (tokens_escaped (json_tokens j) (ArePrintable-json_tokens j numbers)) shallow
+    tree_of_read (escaped (verbatim j)) (still_utf8 (verbatim j) utf8)
+    ∙ read_of (escaped (verbatim j)) j (tokens_escaped (json_tokens j) (ArePrintable-json_tokens j numbers)) shallow
 
-pub same_tree : (j : Json) → HasNumbers j → IsUtf8 (own_text j) → tree_of (escaped (own_text j)) ≡ tree_of (own_text j)
+pub same_tree : (j : Json) → HasNumbers j → IsUtf8 (verbatim j) → tree_of (escaped (verbatim j)) ≡ tree_of (verbatim j)
 same_tree j numbers utf8 =
     let printable = ArePrintable-json_tokens j numbers in
-    tree_of_read (escaped (own_text j)) (still_utf8 (own_text j) utf8)
+    tree_of_read (escaped (verbatim j)) (still_utf8 (verbatim j) utf8)
     ∙ ap (λ ts. option_and_then of_json (option_and_then (λ p. json.if_last p.0 p.1) (json.value max_depth ts)))
     (tokens_escaped (json_tokens j) printable ∙ sym (tokens-print (json_tokens j) printable))
-    ∙ sym (tree_of_read (own_text j) utf8)
+    ∙ sym (tree_of_read (verbatim j) utf8)
 
 -- ---- a line of one object
 
--- the text of a sound object is read from its line as its members in their order, and has no line feed
+-- the line of a sound object is read as the members in their order, and its text has no line feed
 pub own_line : (d : Data) → IsSound d → depth (outline d) ≤ 3 → (tree_of (escaped (compact_text d)) ≡ of_json (outline d)) × (line_feeds (escaped (compact_text d)) ≡ 0)
 own_line d sound shallow =
     let same = print-outline d in (
@@ -62,7 +62,7 @@ own_line d sound shallow =
       escaped_feeds (compact_text d) (ap line_feeds (sym same) ∙ own_feeds (outline d) (has_numbers d sound)),
     )
 
-pub line_read : (d found : Data) → IsSound d → (of_json (outline d) ≡ Some found) × (depth (outline d) ≤ 3) → IsReadAs (line_of d) found
-line_read d found sound is =
+pub line_read : (d located : Data) → IsSound d → (of_json (outline d) ≡ Some located) × (depth (outline d) ≤ 3) → IsParsedAs (line_of d) located
+line_read d located sound is =
     let line = own_line d sound is.1 in
     record { text = escaped (compact_text d); line_is = refl; no_feed = line.1; tree_is = line.0 ∙ is.0 }

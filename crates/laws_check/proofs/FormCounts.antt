@@ -1,4 +1,4 @@
--- No more begins than is planned.
+-- No more steps begin in a run than are planned.
 use Rattle.std.proofs.Common.{All, ◌≡◌, ℕ, zero, suc, ◌+◌, ◌≤◌, List, [], ◌∷◌, ◌++◌, cond, count_by, flat_map, map, take, Bool, true, false, Option, Some, None, option_map, option_to_list, refl, ap, ◌∙◌, subst, ⊎_elim, slice_get, arith}
 use Rattle.std.specs.Prelude.{◌&&◌, is_some}
 use Rattle.std.specs.List.{enumerate_from}
@@ -20,11 +20,11 @@ use Rattle.apply_events.specs.declared.event.Event.{Event}
 use Rattle.apply_events.specs.declared.what.What.{What}
 use Rattle.apply_events.specs.declared.what.What.TheVariants.{Start, Progress, Complete, Errored, ErrorNote, WarnNote, Halted, ProvisionStart, ProvisionOutput, ProvisionComplete, ProvisionErrored}
 use Rattle.apply_events.specs.Step.{Step, Work, kinds_applied, kinds_of, step_of, steps_of}
-use Rattle.apply_events.specs.StepEvents.{between, end_of, endings, event, goes_on, halts, notes, phase_after, seconds_of, started, step_events, tells_end}
+use Rattle.apply_events.specs.StepEvents.{between, end_of, endings, event, goes_on, halts, notes, phase_after, seconds_of, start_events, step_events, emits_end}
 use Rattle.apply_events.proofs.Provisions.{all_along}
 use Rattle.apply_text_terraform.specs.Message.{is_silent}
-use Rattle.laws_check.specs.Told.{action_of}
-use Rattle.laws_check.specs.ToldInForm.{heard_in_form, told_of_event}
+use Rattle.laws_check.specs.ReadBack.{action_of}
+use Rattle.laws_check.specs.ReadBackInForm.{read_back_in_form, event_read_back_in_form}
 use Rattle.laws_check.specs.WholeSteps.{AreOfSteps}
 use Rattle.laws_check.proofs.AppliedKinds.{applied_is_planned}
 
@@ -47,13 +47,13 @@ starts (ProvisionErrored i) = false
 abbrev pub starts_as : SavedPlan → Action → Event → Bool
 starts_as plan k e = starts e.what && option_map_or (λ does. same_action (action_of does) k) (slice_get (kinds_of plan e.change) e.step) false
 
--- ---- what is told of starts
+-- ---- starts that are read back
 
-told_starts : (k : Action) (change : ResourceChange) (does : StepKind) (outcome : Outcome) (what : What)
-    → count_by (begins k) (cond (is_silent does what) [] (heard_in_form change does outcome what ∷ [])) ≤ cond (starts what && same_action (action_of does) k) 1 0
-told_starts k change does outcome what = of_test (is_silent does what) what
+starts_read_back : (k : Action) (change : ResourceChange) (does : StepKind) (outcome : Outcome) (what : What)
+    → count_by (begins k) (cond (is_silent does what) [] (read_back_in_form change does outcome what ∷ [])) ≤ cond (starts what && same_action (action_of does) k) 1 0
+starts_read_back k change does outcome what = of_test (is_silent does what) what
   where
-    of_test : (b : Bool) (what : What) → count_by (begins k) (cond b [] (heard_in_form change does outcome what ∷ [])) ≤ cond (starts what && same_action (action_of does) k) 1 0
+    of_test : (b : Bool) (what : What) → count_by (begins k) (cond b [] (read_back_in_form change does outcome what ∷ [])) ≤ cond (starts what && same_action (action_of does) k) 1 0
     of_test true what = omega arith
     of_test false Start = omega arith
     of_test false (Progress s) = omega arith
@@ -67,27 +67,27 @@ told_starts k change does outcome what = of_test (is_silent does what) what
     of_test false (ProvisionComplete i) = omega arith
     of_test false (ProvisionErrored i) = omega arith
 
-one_told : (plan : SavedPlan) (script : OutcomeMap) (k : Action) (e : Event) → count_by (begins k) (told_of_event plan script e) ≤ cond (starts_as plan k e) 1 0
+one_told : (plan : SavedPlan) (script : OutcomeMap) (k : Action) (e : Event) → count_by (begins k) (event_read_back_in_form plan script e) ≤ cond (starts_as plan k e) 1 0
 one_told plan script k e = of_change (slice_get plan.changes e.change)
   where
     of_step : (change : ResourceChange) (o : Option StepKind)
-        → count_by (begins k) (option_map_or (λ does. cond (is_silent does e.what) [] (heard_in_form change does (outcome_of script e.change e.step) e.what ∷ [])) o [])
+        → count_by (begins k) (option_map_or (λ does. cond (is_silent does e.what) [] (read_back_in_form change does (outcome_of script e.change e.step) e.what ∷ [])) o [])
         ≤ cond (starts e.what && option_map_or (λ does. same_action (action_of does) k) o false) 1 0
     of_step change None = omega arith
-    of_step change (Some does) = told_starts k change does (outcome_of script e.change e.step) e.what
+    of_step change (Some does) = starts_read_back k change does (outcome_of script e.change e.step) e.what
 
     of_change : (o : Option ResourceChange)
-        → count_by (begins k) (option_map_or (λ (change : ResourceChange). option_map_or (λ does. cond (is_silent does e.what) [] (heard_in_form change does (outcome_of script e.change e.step) e.what ∷ [])) (slice_get change.steps e.step) []) o [])
+        → count_by (begins k) (option_map_or (λ (change : ResourceChange). option_map_or (λ does. cond (is_silent does e.what) [] (read_back_in_form change does (outcome_of script e.change e.step) e.what ∷ [])) (slice_get change.steps e.step) []) o [])
         ≤ cond (starts e.what && option_map_or (λ does. same_action (action_of does) k) (slice_get (option_map_or (λ (change : ResourceChange). change.steps) o []) e.step) false) 1 0
     of_change None = omega arith
     of_change (Some change) = of_step change (slice_get change.steps e.step)
 
-pub all_told_starts : (plan : SavedPlan) (script : OutcomeMap) (k : Action) (es : List Event) → count_by (begins k) (flat_map (told_of_event plan script) es) ≤ count_by (starts_as plan k) es
-all_told_starts plan script k [] = omega arith
-all_told_starts plan script k (e ∷ es) =
-    let rest = all_told_starts plan script k es in
+pub all_starts_read_back : (plan : SavedPlan) (script : OutcomeMap) (k : Action) (es : List Event) → count_by (begins k) (flat_map (event_read_back_in_form plan script) es) ≤ count_by (starts_as plan k) es
+all_starts_read_back plan script k [] = omega arith
+all_starts_read_back plan script k (e ∷ es) =
+    let rest = all_starts_read_back plan script k es in
     let here = one_told plan script k e in
-    let both = sum_by-append (λ m. cond (begins k m) 1 0) (told_of_event plan script e) (flat_map (told_of_event plan script) es) in
+    let both = sum_by-append (λ m. cond (begins k m) 1 0) (event_read_back_in_form plan script e) (flat_map (event_read_back_in_form plan script) es) in
     let first = sum_by-cons (λ x. cond (starts_as plan k x) 1 0) e es in
     omega arith
 
@@ -120,13 +120,13 @@ module _ (plan : SavedPlan) (k : Action) where
     quiet_between at (x ∷ xs) none =
         quiet_before (event w s (at + x.0) x.1) (map (λ (y : ℕ × What). event w s (at + y.0) y.1) xs) (All-head StartsNot x xs none) (quiet_between at xs (All-tail StartsNot x xs none))
 
-    quiet_ends : (told fails warns : Bool) (at end : ℕ) → quiet (map (λ what. event w s at what) (cond told (end_of fails end ∷ notes fails warns) (WarnNote ∷ [])))
+    quiet_ends : (emitted fails warns : Bool) (at end : ℕ) → quiet (map (λ what. event w s at what) (cond emitted (end_of fails end ∷ notes fails warns) (WarnNote ∷ [])))
     quiet_ends false fails warns at end = refl
     quiet_ends true true warns at end = refl
     quiet_ends true false true at end = refl
     quiet_ends true false false at end = refl
 
-    quiet_halts : (phase : asked.Phase) (at : ℕ) (found : Option ℕ) → quiet (option_to_list (option_map (λ hook. event w s at (Halted phase hook)) found))
+    quiet_halts : (phase : asked.Phase) (at : ℕ) (located : Option ℕ) → quiet (option_to_list (option_map (λ hook. event w s at (Halted phase hook)) located))
     quiet_halts phase at None = refl
     quiet_halts phase at (Some hook) = refl
 
@@ -145,7 +145,7 @@ module _ (plan : SavedPlan) (k : Action) where
       pub step_starts : (at : ℕ) → count_by (starts_as plan k) (step_events w s at) ≤ cond (same_action (action_of does) k) 1 0
       step_starts at = either (s.halts Pre)
         where
-          either : (found : Option ℕ) → count_by (starts_as plan k) (cond (is_some found) (option_to_list (option_map (λ hook. event w s at (Halted Pre hook)) found)) (started w s at)) ≤ cond (same_action (action_of does) k) 1 0
+          either : (located : Option ℕ) → count_by (starts_as plan k) (cond (is_some located) (option_to_list (option_map (λ hook. event w s at (Halted Pre hook)) located)) (start_events w s at)) ≤ cond (same_action (action_of does) k) 1 0
           either (Some hook) = let none : quiet (option_to_list (option_map (λ hook. event w s at (Halted Pre hook)) (Some hook))) = quiet_halts Pre at (Some hook) in omega arith
           either None =
               let start = event w s at Start ∷ [] in
@@ -154,7 +154,7 @@ module _ (plan : SavedPlan) (k : Action) where
               let halt = halts w s (phase_after s.fails) (at + seconds_of s) in
               let a = first_starts at in
               let b = quiet_between at (between s) none_starts in
-              let c = quiet_ends (tells_end s.fails s.only_warns) s.fails s.warns (at + seconds_of s) (seconds_of s) in
+              let c = quiet_ends (emits_end s.fails s.only_warns) s.fails s.warns (at + seconds_of s) (seconds_of s) in
               let d = quiet_halts (phase_after s.fails) (at + seconds_of s) (s.halts (phase_after s.fails)) in
               let one_two = sum_by-append (λ e. cond (starts_as plan k e) 1 0) start middle in
               let three = sum_by-append (λ e. cond (starts_as plan k e) 1 0) (start ++ middle) last in
@@ -180,17 +180,17 @@ steps_start work k c n (does ∷ kinds) at es are =
     let first = step_starts work.plan k some.0 (step_of work c n does) does lookup some.1 in
     let split : count_by (starts_as work.plan k) es ≡ count_by (starts_as work.plan k) (step_events some.0 (step_of work c n does) some.1) + count_by (starts_as work.plan k) some.2 =
     ap (count_by (starts_as work.plan k)) some.3 ∙ sum_by-append (λ e. cond (starts_as work.plan k e) 1 0) (step_events some.0 (step_of work c n does) some.1) some.2 in
-    let others = behind (goes_on (step_of work c n does)) refl some.2 (λ on. steps_start work k c (n + 1) kinds next some.2 (some.4 on)) some.5 in
+    let others = after (goes_on (step_of work c n does)) refl some.2 (λ on. steps_start work k c (n + 1) kinds next some.2 (some.4 on)) some.5 in
     omega arith)
     are
   where
     next : (i : ℕ) (x : StepKind) → slice_get kinds i ≡ Some x → slice_get (kinds_of work.plan c) (n + 1 + i) ≡ Some x
     next i x is = subst (λ (m : ℕ). slice_get (kinds_of work.plan c) m ≡ Some x) (let e : n + suc i ≡ n + 1 + i = omega arith in e) (at (suc i) x is)
 
-    behind : (b : Bool) → goes_on (step_of work c n does) ≡ b → (rest : List Event) → (goes_on (step_of work c n does) ≡ true → count_by (starts_as work.plan k) rest ≤ count_by (does_so k) kinds)
+    after : (b : Bool) → goes_on (step_of work c n does) ≡ b → (rest : List Event) → (goes_on (step_of work c n does) ≡ true → count_by (starts_as work.plan k) rest ≤ count_by (does_so k) kinds)
         → (goes_on (step_of work c n does) ≡ false → rest ≡ []) → count_by (starts_as work.plan k) rest ≤ count_by (does_so k) kinds
-    behind true is rest on off = on is
-    behind false is rest on off = let none : count_by (starts_as work.plan k) rest ≡ 0 = ap (count_by (starts_as work.plan k)) (off is) in omega arith
+    after true is rest on off = on is
+    after false is rest on off = let none : count_by (starts_as work.plan k) rest ≡ 0 = ap (count_by (starts_as work.plan k)) (off is) in omega arith
 
 fewer : (p : StepKind → Bool) (m : ℕ) (kinds : List StepKind) → count_by p (take m kinds) ≤ count_by p kinds
 fewer p zero kinds = omega arith

@@ -7,7 +7,7 @@ use Rattle.json.specs.Print.{quoted}
 use Rattle.json.specs.Tree.{HasNumbers, ItemsHaveNumbers, MembersHaveNumbers}
 use Rattle.serde_json.specs.Data as tree
 use Rattle.serde_json.specs.Written.{comma_if, compact_text}
-use Rattle.apply_json.specs.Keeping.{own_text}
+use Rattle.apply_json.specs.Verbatim.{verbatim}
 use Rattle.apply_text.specs.Laws.{line_feeds}
 use Rattle.apply_text.proofs.Feeds.{in_line}
 use Rattle.apply_text_terraform.specs.Escapes.{begins_with, escaped}
@@ -52,15 +52,15 @@ mutual
       (none_in_both (quoted k) (58 ∷ (json_text j ++ members_text true ms)) (in_quoted k)
       (none_in_both (58 ∷ []) (json_text j ++ members_text true ms) refl (none_in_both (json_text j) (members_text true ms) (in_json j h.0) (in_members true ms h.1))))
 
-pub own_feeds : (j : Json) → HasNumbers j → line_feeds (own_text j) ≡ 0
+pub own_feeds : (j : Json) → HasNumbers j → line_feeds (verbatim j) ≡ 0
 own_feeds j h = ap line_feeds (own_is j) ∙ in_json j h
 
 -- ---- escapes
 
-behind_two : (text : List ℕ) → line_feeds text ≡ 0 → line_feeds (drop 2 text) ≡ 0
-behind_two [] none = refl
-behind_two (a ∷ []) none = refl
-behind_two (a ∷ b ∷ text) none = let rest : line_feeds text ≡ 0 = omega (arith, both_feeds (a ∷ b ∷ []) text, none) in rest
+after_two : (text : List ℕ) → line_feeds text ≡ 0 → line_feeds (drop 2 text) ≡ 0
+after_two [] none = refl
+after_two (a ∷ []) none = refl
+after_two (a ∷ b ∷ text) none = let rest : line_feeds text ≡ 0 = omega (arith, both_feeds (a ∷ b ∷ []) text, none) in rest
 
 pub escaped_feeds : (text : List ℕ) → line_feeds text ≡ 0 → line_feeds (escaped text) ≡ 0
 escaped_feeds [] none = refl
@@ -73,6 +73,6 @@ escaped_feeds (byte ∷ bytes) none =
     of_tests true b c d e plain rest = rest
     of_tests false true c d e plain rest = rest
     of_tests false false true d e plain rest = rest
-    of_tests false false false true e plain rest = behind_two (escaped bytes) rest
-    of_tests false false false false true plain rest = behind_two (escaped bytes) rest
+    of_tests false false false true e plain rest = after_two (escaped bytes) rest
+    of_tests false false false false true plain rest = after_two (escaped bytes) rest
     of_tests false false false false false plain rest = none_in_both (byte ∷ []) (escaped bytes) plain rest

@@ -1,4 +1,4 @@
--- What is read of a diagnostic with members that are kept as texts.
+-- What is read of a diagnostic with verbatim members.
 use Rattle.std.proofs.Common.{◌≡◌, ℕ, ◌≤◌, List, [], ◌∷◌, ◌++◌, codes, IsUtf8, Bool, true, false, Option, Some, None, refl, sym, ap, ◌∙◌, subst, append_assoc, append-nil, arith}
 use Rattle.std.specs.Prelude.{IfSome}
 use Rattle.std.proofs.lemmas.Str.{IsUtf8-append, IsUtf8-nil}
@@ -10,18 +10,18 @@ use Rattle.json.proofs.Printed.Utf8.{IsUtf8-are_ascii, IsUtf8-quoted}
 use Rattle.serde_json.specs.Data.{Data, Members, no_members, member, string}
 use Rattle.serde_json.specs.Read.{max_depth, of_json}
 use Rattle.serde_json.specs.Written.{comma_if, compact_text}
-use Rattle.apply_json.specs.Keeping.{own_text}
+use Rattle.apply_json.specs.Verbatim.{verbatim}
 use Rattle.apply_json.specs.Tree.{tree_of}
 use Rattle.apply_model.specs.declared.script.diag.Diag.{Diag}
 use Rattle.apply_text.specs.Laws.{line_feeds}
 use Rattle.apply_text.specs.Lines.{message_object}
 use Rattle.apply_text.specs.Message.{Message}
 use Rattle.apply_text_terraform.specs.Escapes.{escaped}
-use Rattle.apply_text_terraform.specs.Kept.{kept_member, kept_members, note_with, open_members}
-use Rattle.apply_text_terraform.specs.Lines.{line_of_text, told_line}
-use Rattle.apply_text_terraform.specs.Moment.{fine_text}
+use Rattle.apply_text_terraform.specs.Verbatim.{verbatim_member, verbatim_members, diagnostic_with, unclosed_members}
+use Rattle.apply_text_terraform.specs.Lines.{line_of_text, line_with_verbatim}
+use Rattle.apply_text_terraform.specs.UtcTimestamp.{precise_timestamp_text}
 use Rattle.apply_text_terraform.specs.Objects.{diagnostic_object, text_if}
-use Rattle.laws_check.specs.Forms.{AreKept, IsKept, IsReadAs, MayBeKept, diagnostic_tree, max_kept}
+use Rattle.laws_check.specs.Forms.{AreVerbatim, IsVerbatim, IsParsedAs, IsOptionalVerbatim, diagnostic_tree, max_verbatim_depth}
 use Rattle.laws_check.specs.Objects.{object_at}
 use Rattle.laws_check.specs.Sound.{AreSoundMembers, IsSound}
 use Rattle.laws_check.specs.Texts.{HasDiagTexts}
@@ -34,13 +34,13 @@ use Rattle.laws_check.proofs.Sounds.{fine_utf8}
 
 -- ---- UTF-8
 
-open_utf8 : (later : Bool) (ms : Members) → AreSoundMembers ms → IsUtf8 (open_members later ms)
+open_utf8 : (later : Bool) (ms : Members) → AreSoundMembers ms → IsUtf8 (unclosed_members later ms)
 open_utf8 later no_members h = IsUtf8-nil
 open_utf8 later (member k d ms) h =
-    IsUtf8-append (comma_if later) (quoted k ++ 58 ∷ (compact_text d ++ open_members true ms)) (comma_utf8 later)
-    (IsUtf8-append (quoted k) (58 ∷ (compact_text d ++ open_members true ms)) (IsUtf8-quoted k h.0)
-    (IsUtf8-append (58 ∷ []) (compact_text d ++ open_members true ms) (IsUtf8-are_ascii (58 ∷ []) refl)
-    (IsUtf8-append (compact_text d) (open_members true ms) (text_utf8 d h.1) (open_utf8 true ms h.2))))
+    IsUtf8-append (comma_if later) (quoted k ++ 58 ∷ (compact_text d ++ unclosed_members true ms)) (comma_utf8 later)
+    (IsUtf8-append (quoted k) (58 ∷ (compact_text d ++ unclosed_members true ms)) (IsUtf8-quoted k h.0)
+    (IsUtf8-append (58 ∷ []) (compact_text d ++ unclosed_members true ms) (IsUtf8-are_ascii (58 ∷ []) refl)
+    (IsUtf8-append (compact_text d) (unclosed_members true ms) (text_utf8 d h.1) (open_utf8 true ms h.2))))
 
 -- ---- the value of a message
 
@@ -68,29 +68,29 @@ note_json level text moment ms others =
 regroup : (a b d k e c : List ℕ) → a ++ (b ++ ((d ++ (k ++ e)) ++ c)) ≡ (a ++ (b ++ d)) ++ (k ++ (e ++ c))
 regroup a b d k e c = simp append_assoc
 
--- its text, where that of what is kept is the one
-note_text : (level text moment : List ℕ) (address : Option (List ℕ)) (severity : List ℕ) (diag : Diag) (others : json.Members) (kept : List ℕ) → members_text true others ≡ kept ++ codes "}"
-    → own_text (note_json level text moment (note_members address severity diag) others)
-    ≡ note_with moment (record { level = level; text = text; name = codes "diagnostic"; body = diagnostic_object address severity diag; type_name = codes "diagnostic" }) kept
+-- the text of the diagnostic, with this verbatim text
+note_text : (level text moment : List ℕ) (address : Option (List ℕ)) (severity : List ℕ) (diag : Diag) (others : json.Members) (raw_texts : List ℕ) → members_text true others ≡ raw_texts ++ codes "}"
+    → verbatim (note_json level text moment (note_members address severity diag) others)
+    ≡ diagnostic_with moment (record { level = level; text = text; name = codes "diagnostic"; body = diagnostic_object address severity diag; type_name = codes "diagnostic" }) raw_texts
 unfolding message_object diagnostic_object escape_byte
-note_text level text moment address severity diag others kept is =
+note_text level text moment address severity diag others raw_texts is =
     let ms = note_members address severity diag in
     let front = front_members level text moment in
     let last : json.Members = json.member (codes "type") (json.string (codes "diagnostic")) json.no_members in
     own_is (note_json level text moment ms others)
     ∙ ap (λ s. 123 ∷ s) (onto_text false front (json.member (codes "diagnostic") (json.object (onto ms others)) last))
-    ∙ ap (λ s. 123 ∷ (open_members false front ++ (codes ",\"diagnostic\":" ++ (s ++ codes ",\"type\":\"diagnostic\"}"))))
-    (ap (λ s. 123 ∷ s) (onto_text false ms others ∙ ap (λ s. open_members false ms ++ s) is))
-    ∙ regroup (123 ∷ open_members false front) (codes ",\"diagnostic\":") (123 ∷ open_members false ms) kept (codes "}") (codes ",\"type\":\"diagnostic\"}")
+    ∙ ap (λ s. 123 ∷ (unclosed_members false front ++ (codes ",\"diagnostic\":" ++ (s ++ codes ",\"type\":\"diagnostic\"}"))))
+    (ap (λ s. 123 ∷ s) (onto_text false ms others ∙ ap (λ s. unclosed_members false ms ++ s) is))
+    ∙ regroup (123 ∷ unclosed_members false front) (codes ",\"diagnostic\":") (123 ∷ unclosed_members false ms) raw_texts (codes "}") (codes ",\"type\":\"diagnostic\"}")
 
--- ---- what is kept
+-- ---- verbatim members
 
--- members that stand behind the others of a diagnostic: their text, and what is read of a diagnostic that has them
-record AreRead (others : json.Members) (kept : List ℕ) (range snippet : Option Data) : Type 0 where
-  text : members_text true others ≡ kept ++ codes "}"
-  utf8 : IsUtf8 kept
+-- members after the others of a diagnostic: their text, and what is read of such a diagnostic
+record AreRead (others : json.Members) (raw_texts : List ℕ) (range snippet : Option Data) : Type 0 where
+  text : members_text true others ≡ raw_texts ++ codes "}"
+  utf8 : IsUtf8 raw_texts
   numbers : tree.MembersHaveNumbers others
-  shallow : tree.members_depth others ≤ max_kept
+  shallow : tree.members_depth others ≤ max_verbatim_depth
   read : (address : Option (List ℕ)) (severity : List ℕ) (diag : Diag) → of_json (json.object (onto (note_members address severity diag) others)) ≡ Some (diagnostic_tree address severity diag range snippet)
 
 regroup_one : (a t e : List ℕ) → a ++ (t ++ e) ≡ ((a ++ t) ++ []) ++ e
@@ -99,17 +99,17 @@ regroup_one a t e = sym (append_assoc a t e) ∙ ap (λ s. s ++ e) (sym (append-
 regroup_two : (a t b u e : List ℕ) → a ++ (t ++ (b ++ (u ++ e))) ≡ ((a ++ t) ++ (b ++ u)) ++ e
 regroup_two a t b u e = simp append_assoc
 
-pub own_kept : (text : List ℕ) (value : Data) → (k : IsKept text value) → json_text k.json ≡ text
-own_kept text value k = sym (own_is k.json) ∙ sym k.text_is
+pub own_verbatim : (text : List ℕ) (value : Data) → (k : IsVerbatim text value) → json_text k.json ≡ text
+own_verbatim text value k = sym (own_is k.json) ∙ sym k.text_is
 
 named_utf8 : (name text : List ℕ) → IsUtf8 name → IsUtf8 text → IsUtf8 (name ++ text)
 named_utf8 name text first second = IsUtf8-append name text first second
 
-range_read : (text : List ℕ) (value : Data) → (k : IsKept text value)
-    → AreRead (json.member (codes "range") k.json json.no_members) (kept_member (codes ",\"range\":") (Some text) ++ kept_member (codes ",\"snippet\":") None) (Some value) None
+range_read : (text : List ℕ) (value : Data) → (k : IsVerbatim text value)
+    → AreRead (json.member (codes "range") k.json json.no_members) (verbatim_member (codes ",\"range\":") (Some text) ++ verbatim_member (codes ",\"snippet\":") None) (Some value) None
 unfolding escape_byte diagnostic_tree
 range_read text value k = record {
-  text = ap (λ s. codes ",\"range\":" ++ (s ++ codes "}")) (own_kept text value k) ∙ regroup_one (codes ",\"range\":") text (codes "}");
+  text = ap (λ s. codes ",\"range\":" ++ (s ++ codes "}")) (own_verbatim text value k) ∙ regroup_one (codes ",\"range\":") text (codes "}");
   utf8 = IsUtf8-append (codes ",\"range\":" ++ text) [] (named_utf8 (codes ",\"range\":") text (IsUtf8-are_ascii (codes ",\"range\":") refl) k.utf8) IsUtf8-nil;
   numbers = (k.numbers, tt);
   shallow = omega (arith, k.shallow);
@@ -121,11 +121,11 @@ range_read text value k = record {
     at None severity diag = rw k.value_is refl
     at (Some address) severity diag = rw k.value_is refl
 
-snippet_read : (text : List ℕ) (value : Data) → (k : IsKept text value)
-    → AreRead (json.member (codes "snippet") k.json json.no_members) (kept_member (codes ",\"range\":") None ++ kept_member (codes ",\"snippet\":") (Some text)) None (Some value)
+snippet_read : (text : List ℕ) (value : Data) → (k : IsVerbatim text value)
+    → AreRead (json.member (codes "snippet") k.json json.no_members) (verbatim_member (codes ",\"range\":") None ++ verbatim_member (codes ",\"snippet\":") (Some text)) None (Some value)
 unfolding escape_byte diagnostic_tree
 snippet_read text value k = record {
-  text = ap (λ s. codes ",\"snippet\":" ++ (s ++ codes "}")) (own_kept text value k) ∙ sym (append_assoc (codes ",\"snippet\":") text (codes "}"));
+  text = ap (λ s. codes ",\"snippet\":" ++ (s ++ codes "}")) (own_verbatim text value k) ∙ sym (append_assoc (codes ",\"snippet\":") text (codes "}"));
   utf8 = named_utf8 (codes ",\"snippet\":") text (IsUtf8-are_ascii (codes ",\"snippet\":") refl) k.utf8;
   numbers = (k.numbers, tt);
   shallow = omega (arith, k.shallow);
@@ -137,12 +137,12 @@ snippet_read text value k = record {
     at None severity diag = rw k.value_is refl
     at (Some address) severity diag = rw k.value_is refl
 
-both_read : (text more : List ℕ) (value other : Data) → (k : IsKept text value) (l : IsKept more other)
-    → AreRead (json.member (codes "range") k.json (json.member (codes "snippet") l.json json.no_members)) (kept_member (codes ",\"range\":") (Some text) ++ kept_member (codes ",\"snippet\":") (Some more)) (Some value) (Some other)
+both_read : (text more : List ℕ) (value other : Data) → (k : IsVerbatim text value) (l : IsVerbatim more other)
+    → AreRead (json.member (codes "range") k.json (json.member (codes "snippet") l.json json.no_members)) (verbatim_member (codes ",\"range\":") (Some text) ++ verbatim_member (codes ",\"snippet\":") (Some more)) (Some value) (Some other)
 unfolding escape_byte diagnostic_tree
 both_read text more value other k l = record {
-  text = ap (λ s. codes ",\"range\":" ++ (s ++ (codes ",\"snippet\":" ++ (json_text l.json ++ codes "}")))) (own_kept text value k)
-      ∙ ap (λ s. codes ",\"range\":" ++ (text ++ (codes ",\"snippet\":" ++ (s ++ codes "}")))) (own_kept more other l)
+  text = ap (λ s. codes ",\"range\":" ++ (s ++ (codes ",\"snippet\":" ++ (json_text l.json ++ codes "}")))) (own_verbatim text value k)
+      ∙ ap (λ s. codes ",\"range\":" ++ (text ++ (codes ",\"snippet\":" ++ (s ++ codes "}")))) (own_verbatim more other l)
       ∙ regroup_two (codes ",\"range\":") text (codes ",\"snippet\":") more (codes "}");
   utf8 = IsUtf8-append (codes ",\"range\":" ++ text) (codes ",\"snippet\":" ++ more) (named_utf8 (codes ",\"range\":") text (IsUtf8-are_ascii (codes ",\"range\":") refl) k.utf8)
       (named_utf8 (codes ",\"snippet\":") more (IsUtf8-are_ascii (codes ",\"snippet\":") refl) l.utf8);
@@ -165,7 +165,7 @@ module _ (seconds : ℕ) (level text : List ℕ) (address : Option (List ℕ)) (
   abbrev message : Data → Message
   message body = record { level = level; text = text; name = codes "diagnostic"; body = body; type_name = codes "diagnostic" }
 
-  front_sound : AreSoundMembers (front_members level text (fine_text seconds))
+  front_sound : AreSoundMembers (front_members level text (precise_timestamp_text seconds))
   front_sound = (
     IsUtf8-are_ascii (codes "@level") refl,
     how,
@@ -180,7 +180,7 @@ module _ (seconds : ℕ) (level text : List ℕ) (address : Option (List ℕ)) (
     ),
   )
 
-  message_sound : IsSound (object_at (fine_text seconds) (message (diagnostic_object address severity diag)))
+  message_sound : IsSound (object_at (precise_timestamp_text seconds) (message (diagnostic_object address severity diag)))
   unfolding message_object
   message_sound =
       let f = front_sound in (
@@ -205,47 +205,47 @@ module _ (seconds : ℕ) (level text : List ℕ) (address : Option (List ℕ)) (
         ),
       )
 
-  note_utf8 : (kept : List ℕ) → IsUtf8 kept → IsUtf8 (note_with (fine_text seconds) (message (diagnostic_object address severity diag)) kept)
+  note_utf8 : (raw_texts : List ℕ) → IsUtf8 raw_texts → IsUtf8 (diagnostic_with (precise_timestamp_text seconds) (message (diagnostic_object address severity diag)) raw_texts)
   unfolding message_object diagnostic_object
-  note_utf8 kept is =
-      let one = open_members false (front_members level text (fine_text seconds)) in
-      let two = open_members false (note_members address severity diag) in
-      IsUtf8-append ((123 ∷ one) ++ (codes ",\"diagnostic\":" ++ (123 ∷ two))) (kept ++ codes "},\"type\":\"diagnostic\"}")
-      (IsUtf8-append (123 ∷ one) (codes ",\"diagnostic\":" ++ (123 ∷ two)) (IsUtf8-append (123 ∷ []) one (IsUtf8-are_ascii (123 ∷ []) refl) (open_utf8 false (front_members level text (fine_text seconds)) front_sound))
+  note_utf8 raw_texts is =
+      let one = unclosed_members false (front_members level text (precise_timestamp_text seconds)) in
+      let two = unclosed_members false (note_members address severity diag) in
+      IsUtf8-append ((123 ∷ one) ++ (codes ",\"diagnostic\":" ++ (123 ∷ two))) (raw_texts ++ codes "},\"type\":\"diagnostic\"}")
+      (IsUtf8-append (123 ∷ one) (codes ",\"diagnostic\":" ++ (123 ∷ two)) (IsUtf8-append (123 ∷ []) one (IsUtf8-are_ascii (123 ∷ []) refl) (open_utf8 false (front_members level text (precise_timestamp_text seconds)) front_sound))
       (IsUtf8-append (codes ",\"diagnostic\":") (123 ∷ two) (IsUtf8-are_ascii (codes ",\"diagnostic\":") refl)
       (IsUtf8-append (123 ∷ []) two (IsUtf8-are_ascii (123 ∷ []) refl) (open_utf8 false (note_members address severity diag) (diagnostic_sound address severity diag where_is so has)))))
-      (IsUtf8-append kept (codes "},\"type\":\"diagnostic\"}") is (IsUtf8-are_ascii (codes "},\"type\":\"diagnostic\"}") refl))
+      (IsUtf8-append raw_texts (codes "},\"type\":\"diagnostic\"}") is (IsUtf8-are_ascii (codes "},\"type\":\"diagnostic\"}") refl))
 
-  numbers_of : (address : Option (List ℕ)) (others : json.Members) → tree.MembersHaveNumbers others → tree.HasNumbers (note_json level text (fine_text seconds) (note_members address severity diag) others)
+  numbers_of : (address : Option (List ℕ)) (others : json.Members) → tree.MembersHaveNumbers others → tree.HasNumbers (note_json level text (precise_timestamp_text seconds) (note_members address severity diag) others)
   numbers_of None others h = (tt, (tt, (tt, (tt, ((tt, (tt, (tt, h))), (tt, tt))))))
   numbers_of (Some address) others h = (tt, (tt, (tt, (tt, ((tt, (tt, (tt, (tt, h)))), (tt, tt))))))
 
-  depth_of : (address : Option (List ℕ)) (others : json.Members) → tree.members_depth others ≤ max_kept → tree.depth (note_json level text (fine_text seconds) (note_members address severity diag) others) ≤ max_depth
+  depth_of : (address : Option (List ℕ)) (others : json.Members) → tree.members_depth others ≤ max_verbatim_depth → tree.depth (note_json level text (precise_timestamp_text seconds) (note_members address severity diag) others) ≤ max_depth
   depth_of None others h = omega (arith, h)
   depth_of (Some address) others h = omega (arith, h)
 
-  kept_read : (others : json.Members) (kept : List ℕ) (range snippet : Option Data) → AreRead others kept range snippet
-      → IsReadAs (line_of_text (note_with (fine_text seconds) (message (diagnostic_object address severity diag)) kept)) (object_at (fine_text seconds) (message (diagnostic_tree address severity diag range snippet)))
+  kept_read : (others : json.Members) (raw_texts : List ℕ) (range snippet : Option Data) → AreRead others raw_texts range snippet
+      → IsParsedAs (line_of_text (diagnostic_with (precise_timestamp_text seconds) (message (diagnostic_object address severity diag)) raw_texts)) (object_at (precise_timestamp_text seconds) (message (diagnostic_tree address severity diag range snippet)))
   unfolding message_object
-  kept_read others kept range snippet are =
-      let told = note_with (fine_text seconds) (message (diagnostic_object address severity diag)) kept in
-      let same = note_text level text (fine_text seconds) address severity diag others kept are.text in
+  kept_read others raw_texts range snippet are =
+      let written = diagnostic_with (precise_timestamp_text seconds) (message (diagnostic_object address severity diag)) raw_texts in
+      let same = note_text level text (precise_timestamp_text seconds) address severity diag others raw_texts are.text in
       record {
-        text = escaped told;
+        text = escaped written;
         line_is = refl;
-        no_feed = escaped_feeds told
-            (ap line_feeds (sym same) ∙ own_feeds (note_json level text (fine_text seconds) (note_members address severity diag) others) (numbers_of address others are.numbers));
+        no_feed = escaped_feeds written
+            (ap line_feeds (sym same) ∙ own_feeds (note_json level text (precise_timestamp_text seconds) (note_members address severity diag) others) (numbers_of address others are.numbers));
         tree_is = ap (λ t. tree_of (escaped t)) (sym same)
-            ∙ escaped_tree (note_json level text (fine_text seconds) (note_members address severity diag) others) (numbers_of address others are.numbers) (subst IsUtf8 (sym same) (note_utf8 kept are.utf8)) (depth_of address others are.shallow)
+            ∙ escaped_tree (note_json level text (precise_timestamp_text seconds) (note_members address severity diag) others) (numbers_of address others are.numbers) (subst IsUtf8 (sym same) (note_utf8 raw_texts are.utf8)) (depth_of address others are.shallow)
             ∙ rw (are.read address severity diag) refl;
       }
 
-  either_read : (r s : Option (List ℕ)) (range snippet : Option Data) → MayBeKept r range → MayBeKept s snippet
-      → IsReadAs (told_line seconds (message (diagnostic_object address severity diag)) (kept_member (codes ",\"range\":") r ++ kept_member (codes ",\"snippet\":") s))
-      (object_at (fine_text seconds) (message (diagnostic_tree address severity diag range snippet)))
+  either_read : (r s : Option (List ℕ)) (range snippet : Option Data) → IsOptionalVerbatim r range → IsOptionalVerbatim s snippet
+      → IsParsedAs (line_with_verbatim seconds (message (diagnostic_object address severity diag)) (verbatim_member (codes ",\"range\":") r ++ verbatim_member (codes ",\"snippet\":") s))
+      (object_at (precise_timestamp_text seconds) (message (diagnostic_tree address severity diag range snippet)))
   either_read None None None None k l =
-      line_read (object_at (fine_text seconds) (message (diagnostic_object address severity diag))) (object_at (fine_text seconds) (message (diagnostic_tree address severity diag None None))) message_sound
-      (diagnostic_message_read level text (fine_text seconds) (codes "diagnostic") (diagnostic_object address severity diag) (diagnostic_tree address severity diag None None) (diagnostic_read address severity diag))
+      line_read (object_at (precise_timestamp_text seconds) (message (diagnostic_object address severity diag))) (object_at (precise_timestamp_text seconds) (message (diagnostic_tree address severity diag None None))) message_sound
+      (diagnostic_message_read level text (precise_timestamp_text seconds) (codes "diagnostic") (diagnostic_object address severity diag) (diagnostic_tree address severity diag None None) (diagnostic_read address severity diag))
   either_read (Some t) None (Some v) None k l = kept_read (json.member (codes "range") k.json json.no_members) _ (Some v) None (range_read t v k)
   either_read None (Some u) None (Some w) k l = kept_read (json.member (codes "snippet") l.json json.no_members) _ None (Some w) (snippet_read u w l)
   either_read (Some t) (Some u) (Some v) (Some w) k l =
@@ -257,7 +257,7 @@ module _ (seconds : ℕ) (level text : List ℕ) (address : Option (List ℕ)) (
   either_read (Some t) None (Some v) (Some w) k l = absurd l
   either_read (Some t) (Some u) (Some v) None k l = absurd l
 
-  -- with what is kept, or without
-  pub note_read : (range snippet : Option Data) → AreKept diag range snippet
-      → IsReadAs (told_line seconds (message (diagnostic_object address severity diag)) (kept_members diag)) (object_at (fine_text seconds) (message (diagnostic_tree address severity diag range snippet)))
+  -- with verbatim members, or without
+  pub note_read : (range snippet : Option Data) → AreVerbatim diag range snippet
+      → IsParsedAs (line_with_verbatim seconds (message (diagnostic_object address severity diag)) (verbatim_members diag)) (object_at (precise_timestamp_text seconds) (message (diagnostic_tree address severity diag range snippet)))
   note_read range snippet are = either_read diag.range diag.snippet range snippet are.range_is are.snippet_is

@@ -1,4 +1,5 @@
--- The objects of lines in Terraform's form are sound where those of the default form are, and are read as these.
+-- The objects of lines in Terraform's form are sound if the objects of the default form are, and
+-- are read back as these.
 use Rattle.std.proofs.Common.{◌≡◌, ℕ, ◌≤◌, List, codes, IsUtf8, Option, Some, None, refl, arith}
 use Rattle.std.specs.Prelude.{IfSome}
 use Rattle.json.specs.Tree as tree
@@ -63,7 +64,7 @@ diagnostic_sound (Some address) severity diag h how has = (
   ),
 )
 
--- a message at another moment, with another body
+-- a message at another time, with another body
 pub message_moved : (level text moment other name type_name : List ℕ) (body new : Data) → IsSound (message_object level text moment (typed name body type_name)) → IsUtf8 other → IsSound new
     → IsSound (message_object level text other (typed name new type_name))
 unfolding message_object
@@ -76,9 +77,9 @@ body_of level text moment name type_name body h = h.2.2.2.2.1
 
 -- ---- what is read of them
 
--- it is read as the other value, and is so deep at most
+-- the value is read as the other value, and is at most so deep
 abbrev pub IsReadOf : (deep : ℕ) → Data → Data → Type 0
-IsReadOf deep d found = (of_json (outline d) ≡ Some found) × (tree.depth (outline d) ≤ deep)
+IsReadOf deep d located = (of_json (outline d) ≡ Some located) × (tree.depth (outline d) ≤ deep)
 
 pub key_of : (change : ResourceChange) → IsSound (plain_resource change) → IsReadOf 1 (resource_object change) (plain_resource change)
 unfolding plain_resource resource_object
@@ -104,19 +105,19 @@ unfolding diagnostic_object diagnostic_tree
 diagnostic_read None severity diag = (refl, omega arith)
 diagnostic_read (Some address) severity diag = (refl, omega arith)
 
--- of an address and of nothing that is kept it is that of the default form
+-- with an address and without verbatim texts it is the message of the default form
 pub diagnostic_plain : (address severity : List ℕ) (diag : Diag) → diagnostic_tree (Some address) severity diag None None ≡ plain_diagnostic address severity diag
 unfolding diagnostic_tree plain_diagnostic
 diagnostic_plain address severity diag = refl
 
 -- ---- whole messages
 
-pub hook_message_read : (level text moment type_name : List ℕ) (body found : Data) → IsReadOf 2 body found
-    → IsReadOf 3 (message_object level text moment (typed (codes "hook") body type_name)) (message_object level text moment (typed (codes "hook") found type_name))
+pub hook_message_read : (level text moment type_name : List ℕ) (body located : Data) → IsReadOf 2 body located
+    → IsReadOf 3 (message_object level text moment (typed (codes "hook") body type_name)) (message_object level text moment (typed (codes "hook") located type_name))
 unfolding message_object
-hook_message_read level text moment type_name body found is = (rw is.0 refl, omega (arith, is.1))
+hook_message_read level text moment type_name body located is = (rw is.0 refl, omega (arith, is.1))
 
-pub diagnostic_message_read : (level text moment type_name : List ℕ) (body found : Data) → IsReadOf 1 body found
-    → IsReadOf 3 (message_object level text moment (typed (codes "diagnostic") body type_name)) (message_object level text moment (typed (codes "diagnostic") found type_name))
+pub diagnostic_message_read : (level text moment type_name : List ℕ) (body located : Data) → IsReadOf 1 body located
+    → IsReadOf 3 (message_object level text moment (typed (codes "diagnostic") body type_name)) (message_object level text moment (typed (codes "diagnostic") located type_name))
 unfolding message_object
-diagnostic_message_read level text moment type_name body found is = (rw is.0 refl, omega (arith, is.1))
+diagnostic_message_read level text moment type_name body located is = (rw is.0 refl, omega (arith, is.1))

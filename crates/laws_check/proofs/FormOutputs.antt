@@ -1,4 +1,4 @@
--- What a checker hears of the line of outputs, whose types and values stand in it as texts.
+-- What a checker reads back from the line of outputs, whose types and values are verbatim texts.
 use Rattle.std.proofs.Common.{◌≡◌, ℕ, suc, ◌+◌, ◌≤◌, List, [], ◌∷◌, ◌++◌, append_assoc, codes, cond, decimal, length, IsUtf8, Bool, true, false, Option, Some, Ok, refl, sym, ap, ap₂, ◌∙◌, subst, arith}
 use Rattle.std.specs.List.{AllByRecursion}
 use Rattle.std.proofs.lemmas.Str.{IsUtf8-append, IsUtf8-nil}
@@ -10,7 +10,7 @@ use Rattle.json.proofs.Printed.Utf8.{IsUtf8-are_ascii, IsUtf8-quoted}
 use Rattle.serde_json.specs.Data.{Data, boolean, object, Members, member, no_members, put}
 use Rattle.serde_json.specs.Read.{max_depth, of_json, of_members}
 use Rattle.serde_json.specs.Written.{comma_if}
-use Rattle.apply_json.specs.Keeping.{own_text}
+use Rattle.apply_json.specs.Verbatim.{verbatim}
 use Rattle.apply_json.specs.Tree.{tree_of}
 use Rattle.apply_model.specs.declared.details.output.Output.{Output}
 use Rattle.stream_check.specs.declared.rules.fault.Fault.TheVariants.{NotJson}
@@ -20,39 +20,39 @@ use Rattle.stream_check.specs.Results.{◌>>=◌, or_refuse}
 use Rattle.apply_text.specs.Laws.{line_feeds}
 use Rattle.apply_text_terraform.specs.Escapes.{escaped}
 use Rattle.apply_text_terraform.specs.Lines.{outputs_text}
-use Rattle.apply_text_terraform.specs.Moment.{fine_text}
+use Rattle.apply_text_terraform.specs.UtcTimestamp.{precise_timestamp_text}
 use Rattle.apply_text_terraform.specs.Outputs.{output_text, outputs_from, outputs_message}
-use Rattle.laws_check.specs.Forms.{max_kept}
-use Rattle.laws_check.specs.FormTexts.{HasOutputTexts, IsKeptText}
-use Rattle.laws_check.specs.ToldInForm.{SaysAlone}
+use Rattle.laws_check.specs.Forms.{max_verbatim_depth}
+use Rattle.laws_check.specs.FormTexts.{HasOutputTexts, IsValueText}
+use Rattle.laws_check.specs.ReadBackInForm.{IsReadBackAs}
 use Rattle.laws_check.proofs.BareTexts.{decimal_escaped, decimal_utf8, moment_escaped}
 use Rattle.laws_check.proofs.EscapedTrees.{escaped_tree}
 use Rattle.laws_check.proofs.FormFeeds.{escaped_feeds, own_feeds}
-use Rattle.laws_check.proofs.FormNotes.{own_kept}
+use Rattle.laws_check.proofs.FormNotes.{own_verbatim}
 use Rattle.laws_check.proofs.JsonTexts.{json_text, members_text, own_is}
 use Rattle.laws_check.proofs.ReadBack.{comma_utf8}
 use Rattle.laws_check.proofs.Sounds.{fine_utf8}
 
 -- ---- one output
 
--- its value, where it is told
+-- the value of an output, if it is written
 abbrev Told : (sensitive : Bool) → List ℕ → Type 0
-Told sensitive value = sensitive ≡ false → IsKeptText value
+Told sensitive value = sensitive ≡ false → IsValueText value
 
-abbrev told_members : (sensitive : Bool) (kind value : List ℕ) → IsKeptText kind → Told sensitive value → json.Members
+abbrev told_members : (sensitive : Bool) (kind value : List ℕ) → IsValueText kind → Told sensitive value → json.Members
 told_members true kind value k v = json.member (codes "sensitive") (json.boolean true) (json.member (codes "type") k.1.json json.no_members)
 told_members false kind value k v =
     json.member (codes "sensitive") (json.boolean false) (json.member (codes "type") k.1.json (json.member (codes "value") (v refl).1.json json.no_members))
 
-one_text : (sensitive : Bool) (kind value : List ℕ) (k : IsKeptText kind) (v : Told sensitive value)
+one_text : (sensitive : Bool) (kind value : List ℕ) (k : IsValueText kind) (v : Told sensitive value)
     → cond sensitive (codes ":{\"sensitive\":true,\"type\":" ++ (kind ++ codes "}")) (codes ":{\"sensitive\":false,\"type\":" ++ (kind ++ (codes ",\"value\":" ++ (value ++ codes "}"))))
     ≡ 58 ∷ json_text (json.object (told_members sensitive kind value k v))
 unfolding escape_byte
-one_text true kind value k v = ap (λ s. codes ":{\"sensitive\":true,\"type\":" ++ (s ++ codes "}")) (sym (own_kept kind k.0 k.1))
+one_text true kind value k v = ap (λ s. codes ":{\"sensitive\":true,\"type\":" ++ (s ++ codes "}")) (sym (own_verbatim kind k.0 k.1))
 one_text false kind value k v =
-    ap₂ (λ (s t : List ℕ). codes ":{\"sensitive\":false,\"type\":" ++ (s ++ (codes ",\"value\":" ++ (t ++ codes "}")))) (sym (own_kept kind k.0 k.1)) (sym (own_kept value (v refl).0 (v refl).1))
+    ap₂ (λ (s t : List ℕ). codes ":{\"sensitive\":false,\"type\":" ++ (s ++ (codes ",\"value\":" ++ (t ++ codes "}")))) (sym (own_verbatim kind k.0 k.1)) (sym (own_verbatim value (v refl).0 (v refl).1))
 
-one_utf8 : (sensitive : Bool) (kind value : List ℕ) → IsKeptText kind → Told sensitive value
+one_utf8 : (sensitive : Bool) (kind value : List ℕ) → IsValueText kind → Told sensitive value
     → IsUtf8 (cond sensitive (codes ":{\"sensitive\":true,\"type\":" ++ (kind ++ codes "}")) (codes ":{\"sensitive\":false,\"type\":" ++ (kind ++ (codes ",\"value\":" ++ (value ++ codes "}")))))
 one_utf8 true kind value k v =
     IsUtf8-append (codes ":{\"sensitive\":true,\"type\":") (kind ++ codes "}") (IsUtf8-are_ascii (codes ":{\"sensitive\":true,\"type\":") refl)
@@ -62,15 +62,15 @@ one_utf8 false kind value k v =
     (IsUtf8-append kind (codes ",\"value\":" ++ (value ++ codes "}")) k.1.utf8
     (IsUtf8-append (codes ",\"value\":") (value ++ codes "}") (IsUtf8-are_ascii (codes ",\"value\":") refl) (IsUtf8-append value (codes "}") (v refl).1.utf8 (IsUtf8-are_ascii (codes "}") refl))))
 
-one_numbers : (sensitive : Bool) (kind value : List ℕ) (k : IsKeptText kind) (v : Told sensitive value) → tree.MembersHaveNumbers (told_members sensitive kind value k v)
+one_numbers : (sensitive : Bool) (kind value : List ℕ) (k : IsValueText kind) (v : Told sensitive value) → tree.MembersHaveNumbers (told_members sensitive kind value k v)
 one_numbers true kind value k v = (tt, (k.1.numbers, tt))
 one_numbers false kind value k v = (tt, (k.1.numbers, ((v refl).1.numbers, tt)))
 
-one_depth : (sensitive : Bool) (kind value : List ℕ) (k : IsKeptText kind) (v : Told sensitive value) → tree.members_depth (told_members sensitive kind value k v) ≤ max_kept
+one_depth : (sensitive : Bool) (kind value : List ℕ) (k : IsValueText kind) (v : Told sensitive value) → tree.members_depth (told_members sensitive kind value k v) ≤ max_verbatim_depth
 one_depth true kind value k v = omega (arith, k.1.shallow)
 one_depth false kind value k v = omega (arith, k.1.shallow, (v refl).1.shallow)
 
-one_read : (sensitive : Bool) (kind value : List ℕ) (k : IsKeptText kind) (v : Told sensitive value) → (d : Data) × (of_json (json.object (told_members sensitive kind value k v)) ≡ Some d)
+one_read : (sensitive : Bool) (kind value : List ℕ) (k : IsValueText kind) (v : Told sensitive value) → (d : Data) × (of_json (json.object (told_members sensitive kind value k v)) ≡ Some d)
 one_read true kind value k v = (object (member (codes "sensitive") (boolean true) (member (codes "type") k.0 no_members)), rw k.1.value_is refl)
 one_read false kind value k v =
     (object (member (codes "sensitive") (boolean false) (member (codes "type") k.0 (member (codes "value") (v refl).0 no_members))), rw (k.1.value_is, (v refl).1.value_is) refl)
@@ -102,15 +102,15 @@ all_numbers : (all : List Output) (has : AllByRecursion HasOutputTexts all) → 
 all_numbers [] has = tt
 all_numbers (output ∷ others) has = (one_numbers output.sensitive output.kind output.value has.0.kind has.0.value, all_numbers others has.1)
 
-all_depth : (all : List Output) (has : AllByRecursion HasOutputTexts all) → tree.members_depth (output_members all has) ≤ suc max_kept
+all_depth : (all : List Output) (has : AllByRecursion HasOutputTexts all) → tree.members_depth (output_members all has) ≤ suc max_verbatim_depth
 all_depth [] has = omega arith
 all_depth (output ∷ others) has = omega (arith, one_depth output.sensitive output.kind output.value has.0.kind has.0.value, all_depth others has.1)
 
-all_read : (all : List Output) (has : AllByRecursion HasOutputTexts all) (found : Members) → (ms : Members) × (of_members (output_members all has) found ≡ Some ms)
-all_read [] has found = (found, refl)
-all_read (output ∷ others) has found =
+all_read : (all : List Output) (has : AllByRecursion HasOutputTexts all) (located : Members) → (ms : Members) × (of_members (output_members all has) located ≡ Some ms)
+all_read [] has located = (located, refl)
+all_read (output ∷ others) has located =
     let one = one_read output.sensitive output.kind output.value has.0.kind has.0.value in
-    let rest = all_read others has.1 (put output.name one.0 found) in
+    let rest = all_read others has.1 (put output.name one.0 located) in
     (rest.0, rw one.1 rest.1)
 
 -- ---- the message
@@ -124,7 +124,7 @@ message_json words moment ms =
     (json.member (codes "outputs") (json.object ms)
     (json.member (codes "type") (json.string (codes "outputs")) json.no_members))))))
 
--- its text, by the texts of its number, its moment and its outputs
+-- the text of the line, by the texts of its timestamp and its outputs
 abbrev as_printed : (words moment members : List ℕ) → List ℕ
 as_printed words moment members =
     codes "{\"@level\":\"info\",\"@message\":\"Outputs: " ++ ((words ++ codes "\"") ++ (codes ",\"@module\":\"terraform.ui\",\"@timestamp\":\"" ++ ((moment ++ codes "\"") ++ (codes ",\"outputs\":{" ++ (members ++ codes ",\"type\":\"outputs\"}")))))
@@ -138,7 +138,7 @@ in_a_row f d q s m t o e l = simp append_assoc
 
 module _ (all : List Output) (has : AllByRecursion HasOutputTexts all) (seconds : ℕ) where
   abbrev moment : List ℕ
-  moment = fine_text seconds
+  moment = precise_timestamp_text seconds
 
   abbrev words : List ℕ
   words = decimal (length all)
@@ -149,7 +149,7 @@ module _ (all : List Output) (has : AllByRecursion HasOutputTexts all) (seconds 
   abbrev whole : Json
   whole = message_json words moment ms
 
-  text_is : own_text whole ≡ outputs_message moment all
+  text_is : verbatim whole ≡ outputs_message moment all
   text_is =
       own_is whole ∙ printed words moment ms
       ∙ ap₂ (λ (d m : List ℕ). as_printed d m (members_text false ms)) (decimal_escaped (length all)) (moment_escaped seconds)
@@ -175,13 +175,13 @@ module _ (all : List Output) (has : AllByRecursion HasOutputTexts all) (seconds 
   shallow : tree.depth whole ≤ max_depth
   shallow = omega (arith, all_depth all has)
 
-  heard : (or_refuse NotJson (of_json whole) >>= tree_message false) ≡ Ok outputs
+  is_read_back : (or_refuse NotJson (of_json whole) >>= tree_message false) ≡ Ok outputs
   unfolding tree_message typed_message
-  heard = let found = all_read all has no_members in rw found.1 refl
+  is_read_back = let located = all_read all has no_members in rw located.1 refl
 
-pub outputs_say : (all : List Output) (start latest : ℕ) → AllByRecursion HasOutputTexts all → SaysAlone (outputs_text start latest all) outputs
-outputs_say all start latest has =
-    let message = outputs_message (fine_text (start + latest)) all in
+pub outputs_line_read_back : (all : List Output) (start latest : ℕ) → AllByRecursion HasOutputTexts all → IsReadBackAs (outputs_text start latest all) outputs
+outputs_line_read_back all start latest has =
+    let message = outputs_message (precise_timestamp_text (start + latest)) all in
     let j = whole all has (start + latest) in
     let same = text_is all has (start + latest) in
     record {
@@ -191,5 +191,5 @@ outputs_say all start latest has =
       says = ap (λ (o : Option Data). or_refuse NotJson o >>= tree_message false)
           (ap (λ t. tree_of (escaped t)) (sym same)
           ∙ escaped_tree j (numbers all has (start + latest)) (subst IsUtf8 (sym same) (message_utf8 all has (start + latest))) (shallow all has (start + latest)))
-          ∙ heard all has (start + latest);
+          ∙ is_read_back all has (start + latest);
     }

@@ -1,5 +1,6 @@
--- What stands open of one action behind messages in the default form, and behind those in Terraform's: the same, whatever lines
--- they name, but that more reads may stand open, as no end is told of one that failed.
+-- What a checker holds open of one action after messages in the default form and after messages in
+-- Terraform's form. It is the same, whatever lines it names, but for reads: a read that failed has
+-- no end in Terraform's form and stays open.
 use Rattle.std.proofs.Common.{◌≡◌, ℕ, ◌+◌, ◌-◌, ◌<◌, ◌≤◌, Bool, true, false, cond, Option, Some, None, Result, Ok, Err, refl, sym, subst, arith, nat_lt}
 use Rattle.std.proofs.lemmas.Bool.{lt-ltb, ltb-true}
 use Rattle.stream_check.specs.declared.messages.action.Action.{Action}
@@ -139,7 +140,7 @@ progressed_covered seconds line other (Some (Several b n)) None h = absurd h
 progressed_covered seconds line other (Some (Several b n)) (Some (One c u l)) h = absurd h
 progressed_covered seconds line other (Some (Several b n)) (Some (Several c m)) h = h
 
--- none is left of one, or of several one less
+-- of one open step none is left, and of several there is one less
 ended_covered : (seconds : ℕ) (p q : Option Pending) → IsCovered p q → BothOk IsCovered (ended seconds p) (ended seconds q)
 ended_covered seconds None q h = tt
 ended_covered seconds (Some (One b t l)) None h = absurd h
@@ -164,12 +165,12 @@ ended_covered seconds (Some (Several b n)) (Some (Several c m)) h = either (nat_
     either false true first second = tt
     either false false first second = tt
 
--- it covers what the answer leaves open, if it is one
+-- the open steps cover those that the answer leaves open, if the answer is no fault
 abbrev pub Covers : Option Pending → Result (Option Pending) Fault → Type 0
 Covers q (Ok p) = IsCovered p q
 Covers q (Err fault) = Unit {0}
 
--- a read whose end is not told
+-- a read whose end has no message
 pub left_covered : (seconds : ℕ) (p q : Option Pending) → IsCovered p q → Covers q (ended seconds p)
 left_covered seconds None q h = tt
 left_covered seconds (Some (One b t l)) q h = either (nat_lt seconds t)

@@ -1,4 +1,4 @@
--- What a checker hears of the lines of planned changes.
+-- What a checker reads back from the lines of planned changes.
 use Rattle.std.proofs.Common.{◌≡◌, ℕ, ◌≤◌, inl, inr, List, [], ◌∷◌, ◌++◌, codes, IsUtf8, Bool, true, false, Option, Some, None, Ok, refl, sym, ap, subst, option_map, arith}
 use Rattle.std.specs.Prelude.{IfSome}
 use Rattle.std.specs.Option.{option_map_or}
@@ -25,13 +25,13 @@ use Rattle.apply_text.specs.Objects.{key_data, resource_object as plain_resource
 use Rattle.apply_text_terraform.specs.Details.{planned_word}
 use Rattle.apply_text_terraform.specs.Lines.{message_line, planned_text}
 use Rattle.apply_text_terraform.specs.Message.{planned_message}
-use Rattle.apply_text_terraform.specs.Moment.{fine_text}
+use Rattle.apply_text_terraform.specs.UtcTimestamp.{precise_timestamp_text}
 use Rattle.apply_text_terraform.specs.Objects.{change_object, importing_member, previous_member, previous_object, resource_object, text_if}
 use Rattle.laws_check.specs.Objects.{object_at}
 use Rattle.laws_check.specs.Sound.{AreSoundMembers, IsSound}
 use Rattle.laws_check.specs.Texts.{HasChangeTexts}
-use Rattle.laws_check.specs.ToldInForm.{AllSay, HasDetailTexts, HasPreviousTexts, SaysAlone, planned_told}
-use Rattle.laws_check.proofs.FormHeard.{line_says}
+use Rattle.laws_check.specs.ReadBackInForm.{AreReadBackAs, HasDetailTexts, HasPreviousTexts, IsReadBackAs, planned_read_back}
+use Rattle.laws_check.proofs.FormReadBack.{line_reads}
 use Rattle.laws_check.proofs.FormObjects.{IsReadOf, key_of, resource_moved}
 use Rattle.laws_check.proofs.ObjectsBack.{key_back}
 use Rattle.laws_check.proofs.SoundParts.{action_utf8, resource_sound, three}
@@ -148,13 +148,13 @@ change_is change word details =
     ap (λ (ms : Members). object (member (codes "resource") (resource_object change) (previous_member details.previous (member (codes "action") (string word) (text_if (codes "reason") (option_map reason_word details.reason) ms)))))
     (imports_are details.importing (text_if (codes "generated_config") details.generated_config no_members))
 
--- the message is read as that of a planned change, and is not deep
-abbrev IsHeard : (word : List ℕ) → Data → Type 0
-IsHeard word d = ((or_refuse NotJson (of_json (outline d)) >>= tree_message false) ≡ Ok (planned (intent_named word))) × (tree.depth (outline d) ≤ 3)
+-- the message is read back as a planned change, and is not deep
+abbrev IsReadBackPlanned : (word : List ℕ) → Data → Type 0
+IsReadBackPlanned word d = ((or_refuse NotJson (of_json (outline d)) >>= tree_message false) ≡ Ok (planned (intent_named word))) × (tree.depth (outline d) ≤ 3)
 
 change_read : (change : ResourceChange) (word : List ℕ) (previous : Option PreviousResource) (reason : Option (List ℕ)) (importing : Option (Option (List ℕ))) (generated : Option (List ℕ)) (level says moment : List ℕ)
     → IsSound (plain_resource change) → IfSome previous (λ p. IsSound (key_data p.key))
-    → IsHeard word (message_object level says moment (typed (codes "change") (object (change_members change word previous reason importing generated)) (codes "planned_change")))
+    → IsReadBackPlanned word (message_object level says moment (typed (codes "change") (object (change_members change word previous reason importing generated)) (codes "planned_change")))
 unfolding message_object tree_message typed_message planned_of
 change_read change word None None None None level says moment sound key = let r = key_of change sound in (rw r.0 refl, omega (arith, r.1))
 change_read change word None None None (Some generated) level says moment sound key = let r = key_of change sound in (rw r.0 refl, omega (arith, r.1))
@@ -203,18 +203,18 @@ message_sound level says moment name type_name body how text at named sound type
   ),
 )
 
-line_heard : (change : ResourceChange) (word : List ℕ) (details : ChangeDetails) (seconds : ℕ) → HasChangeTexts change → HasDetailTexts details → IsUtf8 word
-    → SaysAlone (message_line seconds (planned_message change word details)) (planned (intent_named word))
-line_heard change word details seconds has texts is =
+line_is_read_back : (change : ResourceChange) (word : List ℕ) (details : ChangeDetails) (seconds : ℕ) → HasChangeTexts change → HasDetailTexts details → IsUtf8 word
+    → IsReadBackAs (message_line seconds (planned_message change word details)) (planned (intent_named word))
+line_is_read_back change word details seconds has texts is =
     let says = change.address ++ codes ": Plan to " ++ word in
-    let heard = subst (λ (body : Data). IsHeard word (message_object (codes "info") says (fine_text seconds) (typed (codes "change") body (codes "planned_change")))) (sym (change_is change word details))
-    (change_read change word details.previous (option_map reason_word details.reason) (option_map (λ (importing : Importing). importing.id) details.importing) details.generated_config (codes "info") says (fine_text seconds)
+    let is_read_back = subst (λ (body : Data). IsReadBackPlanned word (message_object (codes "info") says (precise_timestamp_text seconds) (typed (codes "change") body (codes "planned_change")))) (sym (change_is change word details))
+    (change_read change word details.previous (option_map reason_word details.reason) (option_map (λ (importing : Importing). importing.id) details.importing) details.generated_config (codes "info") says (precise_timestamp_text seconds)
     (resource_sound change has) (key_of_previous details.previous texts.previous)) in
-    line_says (object_at (fine_text seconds) (planned_message change word details)) (planned (intent_named word))
-    (message_sound (codes "info") says (fine_text seconds) (codes "change") (codes "planned_change") (change_object change word details) (IsUtf8-are_ascii (codes "info") refl)
+    line_reads (object_at (precise_timestamp_text seconds) (planned_message change word details)) (planned (intent_named word))
+    (message_sound (codes "info") says (precise_timestamp_text seconds) (codes "change") (codes "planned_change") (change_object change word details) (IsUtf8-are_ascii (codes "info") refl)
     (three change.address (codes ": Plan to ") word has.address (IsUtf8-are_ascii (codes ": Plan to ") refl) is) (fine_utf8 seconds) (IsUtf8-are_ascii (codes "change") refl) (change_sound change word details has texts is)
     (IsUtf8-are_ascii (codes "planned_change") refl))
-    heard.1 heard.0
+    is_read_back.1 is_read_back.0
 
 word_utf8 : (steps : List StepKind) (forgets : Bool) → IfSome (planned_word steps forgets) IsUtf8
 word_utf8 [] true = IsUtf8-are_ascii (codes "remove") refl
@@ -222,11 +222,11 @@ word_utf8 [] false = tt
 word_utf8 (step ∷ []) forgets = action_utf8 step
 word_utf8 (first ∷ second ∷ others) forgets = IsUtf8-are_ascii (codes "replace") refl
 
--- of a change with its details: a line and what it says, or neither
-pub planned_says : (change : ResourceChange) (details : ChangeDetails) (start : ℕ) → HasChangeTexts change → HasDetailTexts details → AllSay (planned_text start change details ∷ []) (planned_told change details)
-planned_says change details start has texts = of_word (planned_word change.steps details.forgets) (word_utf8 change.steps details.forgets)
+-- a change with its details: a line and its message, or neither
+pub planned_line_read_back : (change : ResourceChange) (details : ChangeDetails) (start : ℕ) → HasChangeTexts change → HasDetailTexts details → AreReadBackAs (planned_text start change details ∷ []) (planned_read_back change details)
+planned_line_read_back change details start has texts = of_word (planned_word change.steps details.forgets) (word_utf8 change.steps details.forgets)
   where
     of_word : (o : Option (List ℕ)) → IfSome o IsUtf8
-        → AllSay (option_map_or (λ word. message_line start (planned_message change word details)) o [] ∷ []) (option_map_or (λ word. planned (intent_named word) ∷ []) o [])
+        → AreReadBackAs (option_map_or (λ word. message_line start (planned_message change word details)) o [] ∷ []) (option_map_or (λ word. planned (intent_named word) ∷ []) o [])
     of_word None h = inl (refl, refl)
-    of_word (Some word) h = inr (planned (intent_named word), [], refl, line_heard change word details start has texts h, refl)
+    of_word (Some word) h = inr (planned (intent_named word), [], refl, line_is_read_back change word details start has texts h, refl)

@@ -1,4 +1,5 @@
--- As many creates, updates and deletes are told of what is planned as the plan has, and no more reads than may overlap.
+-- The planned changes have as many creates, updates and deletes as the plan, and no more reads than
+-- may overlap.
 use Rattle.std.proofs.Common.{◌≡◌, ℕ, ◌+◌, ◌<◌, ◌≤◌, List, [], ◌∷◌, count_by, flat_map, length, Bool, true, false, Option, Some, None, refl, sym, ap, subst, slice_get, arith}
 use Rattle.std.specs.List.{enumerate_from}
 use Rattle.std.specs.Option.{option_map_or}
@@ -15,7 +16,7 @@ use Rattle.stream_check.specs.Tally.{plans_create, plans_delete, plans_update}
 use Rattle.apply_events.specs.Step.{kinds_of}
 use Rattle.apply_text_terraform.specs.Details.{planned_word}
 use Rattle.laws_check.specs.Plans.{AreStepsOfOne, ChangesAreWhole, IsChange}
-use Rattle.laws_check.specs.ToldInForm.{planned_told, planned_told_at}
+use Rattle.laws_check.specs.ReadBackInForm.{planned_read_back, planned_read_back_at}
 use Rattle.laws_check.proofs.FormCounts.{does_so}
 use Rattle.laws_check.proofs.ChangeSums.{by_elements, ones, total, total_most}
 
@@ -25,15 +26,15 @@ cap_of plan k = total 0 (length plan.changes) (λ c. count_by (does_so k) (kinds
 
 -- ---- one change
 
-abbrev told_word : List StepKind → Bool → List Message
-told_word steps forgets = option_map_or (λ word. planned (intent_named word) ∷ []) (planned_word steps forgets) []
+abbrev word_read_back : List StepKind → Bool → List Message
+word_read_back steps forgets = option_map_or (λ word. planned (intent_named word) ∷ []) (planned_word steps forgets) []
 
 pub record ArePlanned (steps : List StepKind) (ms : List Message) : Type 0 where
   pub creates : count_by plans_create ms ≡ count_by (does_so action.Create) steps
   pub updates : count_by plans_update ms ≡ count_by (does_so action.Update) steps
   pub deletes : count_by plans_delete ms ≡ count_by (does_so action.Delete) steps
 
-plans_are : (steps : List StepKind) (forgets : Bool) → AreStepsOfOne steps → ArePlanned steps (told_word steps forgets)
+plans_are : (steps : List StepKind) (forgets : Bool) → AreStepsOfOne steps → ArePlanned steps (word_read_back steps forgets)
 plans_are [] true h = record { creates = refl; updates = refl; deletes = refl }
 plans_are [] false h = record { creates = refl; updates = refl; deletes = refl }
 plans_are (Create ∷ []) forgets h = record { creates = refl; updates = refl; deletes = refl }
@@ -121,26 +122,26 @@ module _ (plan : SavedPlan) (details : List ChangeDetails) (whole : ChangesAreWh
   kinds_are : (c : ℕ) (change : ResourceChange) → IsChange plan c change → kinds_of plan c ≡ change.steps
   kinds_are c change is = ap (λ (o : Option ResourceChange). option_map_or (λ (change : ResourceChange). change.steps) o []) is
 
-  of_change : (c : ℕ) (change : ResourceChange) → IsChange plan c change → ArePlanned (kinds_of plan c) (planned_told_at details (c, change))
+  of_change : (c : ℕ) (change : ResourceChange) → IsChange plan c change → ArePlanned (kinds_of plan c) (planned_read_back_at details (c, change))
   of_change c change is =
       let within : c < length plan.changes = slice_get_within plan.changes c change is in
-      let found = slice_get-get_or details c no_details (omega (arith, within, as_many)) in
-      subst (λ (steps : List StepKind). ArePlanned steps (planned_told_at details (c, change))) (sym (kinds_are c change is))
-      (subst (λ (o : Option ChangeDetails). ArePlanned change.steps (option_map_or (planned_told change) o [])) (sym found) (plans_are change.steps _ (whole c change is)))
+      let located = slice_get-get_or details c no_details (omega (arith, within, as_many)) in
+      subst (λ (steps : List StepKind). ArePlanned steps (planned_read_back_at details (c, change))) (sym (kinds_are c change is))
+      (subst (λ (o : Option ChangeDetails). ArePlanned change.steps (option_map_or (planned_read_back change) o [])) (sym located) (plans_are change.steps _ (whole c change is)))
 
   module _ (p : Message → Bool) (k : Action) (each : (steps : List StepKind) (ms : List Message) → ArePlanned steps ms → count_by p ms ≡ count_by (does_so k) steps) where
-    pub planned_share : count_by p (flat_map (planned_told_at details) (enumerate_from 0 plan.changes)) ≡ cap_of plan k
+    pub planned_share : count_by p (flat_map (planned_read_back_at details) (enumerate_from 0 plan.changes)) ≡ cap_of plan k
     planned_share =
-        by_elements p (planned_told_at details) (λ c. count_by (does_so k) (kinds_of plan c)) 0 plan.changes
-        (λ i change is. let same : i ≡ 0 + i = omega arith in each (kinds_of plan (0 + i)) (planned_told_at details (0 + i, change)) (of_change (0 + i) change (subst (λ (c : ℕ). IsChange plan c change) same is)))
+        by_elements p (planned_read_back_at details) (λ c. count_by (does_so k) (kinds_of plan c)) 0 plan.changes
+        (λ i change is. let same : i ≡ 0 + i = omega arith in each (kinds_of plan (0 + i)) (planned_read_back_at details (0 + i, change)) (of_change (0 + i) change (subst (λ (c : ℕ). IsChange plan c change) same is)))
 
-  pub creates_planned : count_by plans_create (flat_map (planned_told_at details) (enumerate_from 0 plan.changes)) ≡ cap_of plan action.Create
+  pub creates_planned : count_by plans_create (flat_map (planned_read_back_at details) (enumerate_from 0 plan.changes)) ≡ cap_of plan action.Create
   creates_planned = planned_share plans_create action.Create (λ steps ms are. are.creates)
 
-  pub updates_planned : count_by plans_update (flat_map (planned_told_at details) (enumerate_from 0 plan.changes)) ≡ cap_of plan action.Update
+  pub updates_planned : count_by plans_update (flat_map (planned_read_back_at details) (enumerate_from 0 plan.changes)) ≡ cap_of plan action.Update
   updates_planned = planned_share plans_update action.Update (λ steps ms are. are.updates)
 
-  pub deletes_planned : count_by plans_delete (flat_map (planned_told_at details) (enumerate_from 0 plan.changes)) ≡ cap_of plan action.Delete
+  pub deletes_planned : count_by plans_delete (flat_map (planned_read_back_at details) (enumerate_from 0 plan.changes)) ≡ cap_of plan action.Delete
   deletes_planned = planned_share plans_delete action.Delete (λ steps ms are. are.deletes)
 
 pub few_reads : (plan : SavedPlan) → ChangesAreWhole plan → cap_of plan action.Read ≤ length plan.changes

@@ -17,8 +17,8 @@ use Rattle.stream_check.specs.Lines.{end_of, is_plan_stream, next}
 use Rattle.stream_check.specs.Message.{Message, diagnostic, outputs, summary, version}
 use Rattle.stream_check.specs.Open.{any_open, refreshes_matter, stands_open}
 use Rattle.stream_check.specs.Results.{◌>>=◌}
-use Rattle.stream_check.specs.Standing.{pending_at, standing_of}
-use Rattle.stream_check.specs.Tally.{begun_totals, completed_totals, completes, failures_left, failures_stand, is_error, is_error_alone, is_plan_summary, is_summary, is_version, line_of, no_totals, same_totals}
+use Rattle.stream_check.specs.AddressState.{pending_at, state_of}
+use Rattle.stream_check.specs.Tally.{begun_totals, completed_totals, completes, failures_left, failures_stand, is_error, is_error_without_address, is_plan_summary, is_summary, is_version, line_of, no_totals, same_totals}
 use Rattle.stream_check.proofs.Counting.{same_counts, uncounted}
 use Rattle.stream_check.proofs.OpenSteps.{not_any_open}
 use Rattle.apply_events.specs.declared.event.Event.{Event}
@@ -28,59 +28,59 @@ use Rattle.apply_events.specs.Totals.{is_errored, totals_of}
 use Rattle.apply_text.specs.declared.operation.Operation.{Operation}
 use Rattle.apply_text.specs.declared.operation.Operation.TheVariants.{Apply, Destroy}
 use Rattle.apply_text.specs.Order.{as_written, hook_messages_of, notes_of}
-use Rattle.apply_writer.specs.Stream.Terraform.{Besides, tells_error}
+use Rattle.apply_writer.specs.Stream.Terraform.{StreamExtras, contains_error}
 use Rattle.apply_writer.specs.Stream.Terraform as form
-use Rattle.laws_check.specs.Accepted.{totals_said}
+use Rattle.laws_check.specs.Accepted.{totals_of_counts}
 use Rattle.laws_check.specs.Passing.{plain, verdict_on, with_all}
 use Rattle.laws_check.specs.Plans.{ChangesAreWhole, IsOrdinary, ProvisionsCreates, WarnsOfReads}
-use Rattle.laws_check.specs.Told.{all_told}
-use Rattle.laws_check.specs.ToldInForm.{form_told, outputs_told, planned_told_at, told_at_end, told_before_end, told_of_event, told_of_note, whole_in_form}
+use Rattle.laws_check.specs.ReadBack.{events_read_back}
+use Rattle.laws_check.specs.ReadBackInForm.{stream_read_back_in_form, outputs_read_back, planned_read_back_at, end_read_back, read_back_before_end, event_read_back_in_form, diagnostic_read_back, whole_in_form}
 use Rattle.laws_check.specs.WholeSteps.{IsOfWholeSteps}
-use Rattle.laws_check.proofs.Errors.{IsPlanned, any_both, any_counted, as_many_noted, errors_told, few_fail, is_error_note}
+use Rattle.laws_check.proofs.Errors.{IsPlanned, any_both, any_counted, as_many_noted, errors_read_back, few_fail, is_error_note}
 use Rattle.laws_check.proofs.FormFailures.{AllStand, AreDiagnostics, all_named, all_stand, anywhere, at_version, diagnostics_both, diagnostics_keep, fails_where, first_accepted, left_at_end, lines_keep, names, no_error_names, none_told, not_named, nowhere}
 use Rattle.laws_check.proofs.FormMatches.{AreAlike}
 use Rattle.laws_check.proofs.FormPendings.{Matches}
-use Rattle.laws_check.proofs.FormTold.{all_alone, all_fail, completed_as_told, errors_as_told, hooks_are_fine, notes_are_diagnostics}
+use Rattle.laws_check.proofs.FormMessages.{all_alone, all_fail, completed_as_read_back, errors_as_read_back, hooks_are_fine, notes_are_diagnostics}
 use Rattle.laws_check.proofs.FormWhole.{AreIntents, all_intents, none_planned, taken}
 use Rattle.laws_check.proofs.Ordinary.{Anywhere, Does, Provides}
 use Rattle.laws_check.proofs.Parts.{Each, each_weaker, each_written}
-use Rattle.laws_check.proofs.Standings.{next_behind}
+use Rattle.laws_check.proofs.Standings.{next_after}
 use Rattle.laws_check.proofs.Tallies.{are_planned, count_written, is_within, same_whole, totals_written, whole_steps_run}
-use Rattle.laws_check.proofs.Turning.{Runs, behind, behind_both, joined}
-use Rattle.laws_check.proofs.Whole.{any_behind, closed_but, counts_behind, length_behind, next_summary, none_stands, summed_up, whole_end}
+use Rattle.laws_check.proofs.Turning.{Runs, followed_by, followed_by_both, joined}
+use Rattle.laws_check.proofs.Whole.{any_followed_by, closed_but, counts_followed_by, length_followed_by, next_summary, none_stands, summed_up, whole_end}
 
 -- ---- the end
 
 -- where nothing but reads stands open, and no failure
-closes : (ms : List Message) → ((k : Action) → k ≢ Read → (a : List ℕ) → pending_at k (standing_of a ms) ≡ None) → failures_stand ms ≡ false → any_open ms ≡ false
+closes : (ms : List Message) → ((k : Action) → k ≢ Read → (a : List ℕ) → pending_at k (state_of a ms) ≡ None) → failures_stand ms ≡ false → any_open ms ≡ false
 closes ms none stand =
     not_any_open ms (λ a.
-    ap (λ (f : Bool). stands_open (refreshes_matter ms) f (standing_of a ms)) stand
-    ∙ closed_but (refreshes_matter ms) (standing_of a ms) (none Create (λ e. absurd cc) a) (none Update (λ e. absurd cc) a) (none Delete (λ e. absurd cc) a) (none Refresh (λ e. absurd cc) a))
+    ap (λ (f : Bool). stands_open (refreshes_matter ms) f (state_of a ms)) stand
+    ∙ closed_but (refreshes_matter ms) (state_of a ms) (none Create (λ e. absurd cc) a) (none Update (λ e. absurd cc) a) (none Delete (λ e. absurd cc) a) (none Refresh (λ e. absurd cc) a))
 
--- a message that tells of no failure, and no error
-still_stand : (m : Message) (ms : List Message) → is_error_alone m ≡ false → failures_left (m ∷ ms) ≡ failures_left ms → failures_stand (m ∷ ms) ≡ failures_stand ms
+-- a message that is no failure and no error
+still_stand : (m : Message) (ms : List Message) → is_error_without_address m ≡ false → failures_left (m ∷ ms) ≡ failures_left ms → failures_stand (m ∷ ms) ≡ failures_stand ms
 still_stand m ms fine same =
-    let all = sum_by-cons (λ x. cond (is_error_alone x) 1 0) m ms in
-    let here : cond {A = ℕ} (is_error_alone m) 1 0 ≡ 0 = ap (λ (b : Bool). cond b 1 0) fine in
-    let count : count_by is_error_alone (m ∷ ms) ≡ count_by is_error_alone ms = omega arith in
+    let all = sum_by-cons (λ x. cond (is_error_without_address x) 1 0) m ms in
+    let here : cond {A = ℕ} (is_error_without_address m) 1 0 ≡ 0 = ap (λ (b : Bool). cond b 1 0) fine in
+    let count : count_by is_error_without_address (m ∷ ms) ≡ count_by is_error_without_address ms = omega arith in
     ap₂ (λ (a b : ℕ). nat_lt a b) count same
 
--- how messages end, behind others
+-- the end of a stream after other messages
 record EndSo (ms end : List Message) : Type 0 where
-  accepted : with_all ms end ≡ Ok (behind ms end)
-  closed : any_open (behind ms end) ≡ false
-  no_plan : is_plan_stream (behind ms end) ≡ false
-  ends : (list_any is_summary (behind ms end) || list_any is_error (behind ms end)) ≡ true
-  totals : completed_totals (behind ms end) ≡ completed_totals ms
-  errors : list_any is_error (behind ms end) ≡ list_any is_error ms
+  accepted : with_all ms end ≡ Ok (followed_by ms end)
+  closed : any_open (followed_by ms end) ≡ false
+  no_plan : is_plan_stream (followed_by ms end) ≡ false
+  ends : (list_any is_summary (followed_by ms end) || list_any is_error (followed_by ms end)) ≡ true
+  totals : completed_totals (followed_by ms end) ≡ completed_totals ms
+  errors : list_any is_error (followed_by ms end) ≡ list_any is_error ms
 
--- what stands open, and what was told
+-- what is open, and what was read back
 record MayEnd (ms : List Message) : Type 0 where
   begun : is_some (line_of is_version ms) ≡ true
   unsummed : line_of is_summary ms ≡ None
   unforeseen : line_of is_plan_summary ms ≡ None
-  pending : (k : Action) → k ≢ Read → (a : List ℕ) → pending_at k (standing_of a ms) ≡ None
+  pending : (k : Action) → k ≢ Read → (a : List ℕ) → pending_at k (state_of a ms) ≡ None
   stand : failures_stand ms ≡ false
 
 -- with an error alone
@@ -95,14 +95,14 @@ with_error ms sound error = record {
 }
 
 -- with the summary, and the outputs of an apply
-summed : (operation : Operation) (t : Totals) (ms : List Message) → MayEnd ms → t ≡ completed_totals ms → EndSo ms (summary t ∷ outputs_told operation)
-unfolding standing_of failures_left
+summed : (operation : Operation) (t : Totals) (ms : List Message) → MayEnd ms → t ≡ completed_totals ms → EndSo ms (summary t ∷ outputs_read_back operation)
+unfolding state_of failures_left
 summed operation t ms sound same = of_operation operation
   where
     first : next ms (summary t) ≡ Ok (summary t ∷ ms)
     first = next_summary t ms sound.begun sound.unsummed (closes ms sound.pending sound.stand) same
 
-    of_operation : (operation : Operation) → EndSo ms (summary t ∷ outputs_told operation)
+    of_operation : (operation : Operation) → EndSo ms (summary t ∷ outputs_read_back operation)
     of_operation Destroy = record {
       accepted = ap (λ (r : Result (List Message) Fault). r >>= λ now. with_all now []) first;
       closed = closes (summary t ∷ ms) sound.pending (still_stand (summary t) ms refl refl ∙ sound.stand);
@@ -114,7 +114,7 @@ summed operation t ms sound same = of_operation operation
     of_operation Apply = record {
       accepted =
           ap (λ (r : Result (List Message) Fault). r >>= λ now. with_all now (outputs ∷ [])) first
-          ∙ ap (λ (r : Result (List Message) Fault). r >>= λ now. with_all now []) (next_behind (summary t ∷ ms) outputs sound.begun (λ line. refl));
+          ∙ ap (λ (r : Result (List Message) Fault). r >>= λ now. with_all now []) (next_after (summary t ∷ ms) outputs sound.begun (λ line. refl));
       closed = closes (outputs ∷ summary t ∷ ms) sound.pending (still_stand outputs (summary t ∷ ms) refl refl ∙ still_stand (summary t) ms refl refl ∙ sound.stand);
       no_plan = and-false (is_some (line_of is_plan_summary ms));
       ends = refl;
@@ -124,11 +124,11 @@ summed operation t ms sound same = of_operation operation
 
 -- ---- parts of the messages
 
-notes_tell : (notes : List Note) → AreDiagnostics (map told_of_note notes)
-notes_tell [] = tt
-notes_tell (note ∷ notes) = ((form.is_error note, note.address, refl), notes_tell notes)
+notes_are_errors : (notes : List Note) → AreDiagnostics (map diagnostic_read_back notes)
+notes_are_errors [] = tt
+notes_are_errors (note ∷ notes) = ((form.is_error note, note.address, refl), notes_are_errors notes)
 
-notes_err : (notes : List Note) → list_any is_error (map told_of_note notes) ≡ list_any form.is_error notes
+notes_err : (notes : List Note) → list_any is_error (map diagnostic_read_back notes) ≡ list_any form.is_error notes
 notes_err [] = refl
 notes_err (note ∷ notes) = ap (λ (b : Bool). form.is_error note || b) (notes_err notes)
 
@@ -149,38 +149,38 @@ not_true true e = absurd cc
 not_true false e = refl
 
 -- what a test keeps passes it
-each_kept : (t : Event → Bool) (es : List Event) → Each (λ e. t e ≡ true) (filter t es)
-each_kept t [] = tt
-each_kept t (e ∷ es) = at (each_kept t es) (t e) refl
+each_verbatim : (t : Event → Bool) (es : List Event) → Each (λ e. t e ≡ true) (filter t es)
+each_verbatim t [] = tt
+each_verbatim t (e ∷ es) = at (each_verbatim t es) (t e) refl
   where
     at : Each (λ e. t e ≡ true) (filter t es) → (b : Bool) → t e ≡ b → Each (λ e. t e ≡ true) (cond b (e ∷ filter t es) (filter t es))
     at rest true is = (is, rest)
     at rest false is = rest
 
-hooks_kept : (es : List Event) → Each (λ e. is_note e.what ≡ false) (hook_messages_of es)
-hooks_kept es = each_weaker (λ e. not (is_note e.what) ≡ true) (λ e. is_note e.what ≡ false) (λ e is. not_true (is_note e.what) is) (hook_messages_of es) (each_kept (λ e. not (is_note e.what)) es)
+hooks_filtered : (es : List Event) → Each (λ e. is_note e.what ≡ false) (hook_messages_of es)
+hooks_filtered es = each_weaker (λ e. not (is_note e.what) ≡ true) (λ e. is_note e.what ≡ false) (λ e is. not_true (is_note e.what) is) (hook_messages_of es) (each_verbatim (λ e. not (is_note e.what)) es)
 
 -- ---- all of it
 
-module _ (work : Work) (besides : Besides) (events : List Event) (ordinary : IsOrdinary work.plan) (whole : ChangesAreWhole work.plan) (as_many : length besides.details ≡ length work.plan.changes)
+module _ (work : Work) (extras : StreamExtras) (events : List Event) (ordinary : IsOrdinary work.plan) (whole : ChangesAreWhole work.plan) (as_many : length extras.details ≡ length work.plan.changes)
     (provisioned : ProvisionsCreates work.plan work.script) (reads : WarnsOfReads work.plan work.script) (steps : IsOfWholeSteps work events) where
   abbrev ps : List Message
-  ps = flat_map (planned_told_at besides.details) (enumerate_from 0 work.plan.changes)
+  ps = flat_map (planned_read_back_at extras.details) (enumerate_from 0 work.plan.changes)
 
   abbrev hooks : List Message
-  hooks = flat_map (told_of_event work.plan work.script) (hook_messages_of events)
+  hooks = flat_map (event_read_back_in_form work.plan work.script) (hook_messages_of events)
 
   abbrev notes : List Message
-  notes = flat_map (told_of_event work.plan work.script) (notes_of events)
+  notes = flat_map (event_read_back_in_form work.plan work.script) (notes_of events)
 
   abbrev happened : List Message
-  happened = flat_map (told_of_event work.plan work.script) (as_written events)
+  happened = flat_map (event_read_back_in_form work.plan work.script) (as_written events)
 
   abbrev loose : List Message
-  loose = map told_of_note besides.notes
+  loose = map diagnostic_read_back extras.notes
 
   abbrev front : List Message
-  front = told_before_end work.plan work.script besides events
+  front = read_back_before_end work.plan work.script extras events
 
   planned_events : Each (IsPlanned work.plan) events
   planned_events = are_planned work.plan events steps.planned
@@ -188,47 +188,47 @@ module _ (work : Work) (besides : Besides) (events : List Event) (ordinary : IsO
   within : Each (λ e. e.change < length work.plan.changes) events
   within = each_weaker (IsPlanned work.plan) (λ e. e.change < length work.plan.changes) (is_within work.plan) events planned_events
 
-  runs : Runs (length work.plan.changes) (address_of work.plan) Anywhere (Does work.plan) (Provides work.plan) (version ∷ []) (all_told work.plan (as_written events))
+  runs : Runs (length work.plan.changes) (address_of work.plan) Anywhere (Does work.plan) (Provides work.plan) (version ∷ []) (events_read_back work.plan (as_written events))
   runs = whole_steps_run work events ordinary provisioned reads steps
 
-  all_taken : (with_all (version ∷ []) front ≡ Ok (behind (version ∷ []) front)) × AreAlike (behind (version ∷ []) (all_told work.plan (as_written events))) (behind (behind (version ∷ []) ps) happened)
-  all_taken = taken work besides events (omega (arith, ordinary.few)) whole as_many within steps.whole (behind (version ∷ []) (all_told work.plan (as_written events))) runs.0
+  all_taken : (with_all (version ∷ []) front ≡ Ok (followed_by (version ∷ []) front)) × AreAlike (followed_by (version ∷ []) (events_read_back work.plan (as_written events))) (followed_by (followed_by (version ∷ []) ps) happened)
+  all_taken = taken work extras events (omega (arith, ordinary.few)) whole as_many within steps.whole (followed_by (version ∷ []) (events_read_back work.plan (as_written events))) runs.0
 
   intents : AreIntents ps
-  intents = all_intents besides.details (enumerate_from 0 work.plan.changes)
+  intents = all_intents extras.details (enumerate_from 0 work.plan.changes)
 
   happened_is : happened ≡ hooks ++ notes
-  happened_is = flat_map-append (told_of_event work.plan work.script) (hook_messages_of events) (notes_of events)
+  happened_is = flat_map-append (event_read_back_in_form work.plan work.script) (hook_messages_of events) (notes_of events)
 
   front_is : front ≡ (ps ++ hooks) ++ (notes ++ loose)
   front_is = ap (λ (l : List Message). ps ++ (l ++ loose)) happened_is ∙ ap (λ (l : List Message). ps ++ l) (append_assoc hooks notes loose) ∙ sym (append_assoc ps hooks (notes ++ loose))
 
-  behind_first : behind (behind (version ∷ []) (ps ++ hooks)) (notes ++ loose) ≡ behind (version ∷ []) front
-  behind_first = behind_both (version ∷ []) (ps ++ hooks) (notes ++ loose) ∙ ap (λ (l : List Message). behind (version ∷ []) l) (sym front_is)
+  after_first : followed_by (followed_by (version ∷ []) (ps ++ hooks)) (notes ++ loose) ≡ followed_by (version ∷ []) front
+  after_first = followed_by_both (version ∷ []) (ps ++ hooks) (notes ++ loose) ∙ ap (λ (l : List Message). followed_by (version ∷ []) l) (sym front_is)
 
   -- ---- failures
 
   diagnostics : AreDiagnostics (notes ++ loose)
-  diagnostics = diagnostics_both notes loose (notes_are_diagnostics work.plan work.script (notes_of events) (each_kept (λ e. is_note e.what) events)) (notes_tell besides.notes)
+  diagnostics = diagnostics_both notes loose (notes_are_diagnostics work.plan work.script (notes_of events) (each_verbatim (λ e. is_note e.what) events)) (notes_are_errors extras.notes)
 
   fine_hooks : list_any is_error hooks ≡ false
-  fine_hooks = hooks_are_fine work.plan work.script (hook_messages_of events) (hooks_kept events)
+  fine_hooks = hooks_are_fine work.plan work.script (hook_messages_of events) (hooks_filtered events)
 
-  -- no more failures are told than happen
+  -- no more failures have a message than happen
   module _ (p : List ℕ → Bool) where
-    told_fail : count_by (fails_where p) (ps ++ hooks) ≤ count_by (λ (e : Event). p (address_of work.plan e.change) && is_errored e.what) events
-    told_fail =
+    read_back_fail : count_by (fails_where p) (ps ++ hooks) ≤ count_by (λ (e : Event). p (address_of work.plan e.change) && is_errored e.what) events
+    read_back_fail =
         let both = sum_by-append (λ m. cond (fails_where p m) 1 0) ps hooks in
         let none = none_planned (fails_where p) (λ intent. refl) ps intents in
         let most = all_fail work.plan work.script p (hook_messages_of events) in
-        let kept = sum_by-append (λ (e : Event). cond (p (address_of work.plan e.change) && is_errored e.what) 1 0) (hook_messages_of events) (notes_of events) in
+        let preserved = sum_by-append (λ (e : Event). cond (p (address_of work.plan e.change) && is_errored e.what) 1 0) (hook_messages_of events) (notes_of events) in
         let same = count_written (λ (e : Event). p (address_of work.plan e.change) && is_errored e.what) events in
         omega arith
 
-  all_stand_so : AllStand (behind (version ∷ []) (ps ++ hooks))
+  all_stand_so : AllStand (followed_by (version ∷ []) (ps ++ hooks))
   all_stand_so =
-      let accepted = first_accepted (ps ++ hooks) (notes ++ loose) (version ∷ []) (behind (version ∷ []) front) (ap (with_all (version ∷ [])) (sym front_is) ∙ all_taken.0) in
-      let most = told_fail anywhere in
+      let accepted = first_accepted (ps ++ hooks) (notes ++ loose) (version ∷ []) (followed_by (version ∷ []) front) (ap (with_all (version ∷ [])) (sym front_is) ∙ all_taken.0) in
+      let most = read_back_fail anywhere in
       let few = few_fail work (length work.plan.changes) events within steps.whole in
       let none : count_by (fails_where anywhere) (version ∷ []) ≡ 0 = refl in
       all_stand (ps ++ hooks) (version ∷ []) accepted.0 accepted.1
@@ -245,88 +245,88 @@ module _ (work : Work) (besides : Besides) (events : List Event) (ordinary : IsO
       let both = or_parts (list_any (λ m. names m a) notes) (list_any (λ m. names m a) loose) (sym (any_both (λ m. names m a) notes loose) ∙ none) in
       ap (list_any (λ m. names m a)) happened_is ∙ any_both (λ m. names m a) hooks notes ∙ ap₂ (λ (x y : Bool). x || y) (no_error_names a hooks fine_hooks) both.0
 
-  few_left : failures_left (behind (version ∷ []) front) ≤ count_by is_error_alone (behind (version ∷ []) front)
+  few_left : failures_left (followed_by (version ∷ []) front) ≤ count_by is_error_without_address (followed_by (version ∷ []) front)
   few_left =
-      let left : failures_left (behind (version ∷ []) front) ≤ count_by (fails_where unnamed) (behind (version ∷ []) (ps ++ hooks)) =
-      subst (λ (l : List Message). failures_left l ≤ count_by (fails_where unnamed) (behind (version ∷ []) (ps ++ hooks))) behind_first (left_at_end (behind (version ∷ []) (ps ++ hooks)) (notes ++ loose) all_stand_so diagnostics) in
-      let counted = counts_behind (fails_where unnamed) (version ∷ []) (ps ++ hooks) in
+      let left : failures_left (followed_by (version ∷ []) front) ≤ count_by (fails_where unnamed) (followed_by (version ∷ []) (ps ++ hooks)) =
+      subst (λ (l : List Message). failures_left l ≤ count_by (fails_where unnamed) (followed_by (version ∷ []) (ps ++ hooks))) after_first (left_at_end (followed_by (version ∷ []) (ps ++ hooks)) (notes ++ loose) all_stand_so diagnostics) in
+      let counted = counts_followed_by (fails_where unnamed) (version ∷ []) (ps ++ hooks) in
       let first : count_by (fails_where unnamed) (version ∷ []) ≡ 0 = refl in
-      let fail = told_fail unnamed in
+      let fail = read_back_fail unnamed in
       let noted = as_many_noted work (length work.plan.changes) events within steps.whole (λ c. unnamed (address_of work.plan c)) in
       let same = count_written (λ (e : Event). unnamed (address_of work.plan e.change) && is_error_note e.what) events in
       let alone = all_alone work.plan work.script unnamed (as_written events) (each_written (IsPlanned work.plan) events planned_events) not_naming in
-      let all = counts_behind is_error_alone (version ∷ []) front in
-      let parts = sum_by-append (λ m. cond (is_error_alone m) 1 0) ps (happened ++ loose) in
-      let more = sum_by-append (λ m. cond (is_error_alone m) 1 0) happened loose in
+      let all = counts_followed_by is_error_without_address (version ∷ []) front in
+      let parts = sum_by-append (λ m. cond (is_error_without_address m) 1 0) ps (happened ++ loose) in
+      let more = sum_by-append (λ m. cond (is_error_without_address m) 1 0) happened loose in
       omega arith
 
   -- ---- before the end
 
-  behind_all : behind (behind (behind (version ∷ []) ps) happened) loose ≡ behind (version ∷ []) front
-  behind_all = behind_both (behind (version ∷ []) ps) happened loose ∙ behind_both (version ∷ []) ps (happened ++ loose)
+  after_all : followed_by (followed_by (followed_by (version ∷ []) ps) happened) loose ≡ followed_by (version ∷ []) front
+  after_all = followed_by_both (followed_by (version ∷ []) ps) happened loose ∙ followed_by_both (version ∷ []) ps (happened ++ loose)
 
-  pending_none : (k : Action) → k ≢ Read → (a : List ℕ) → pending_at k (standing_of a (behind (version ∷ []) front)) ≡ None
+  pending_none : (k : Action) → k ≢ Read → (a : List ℕ) → pending_at k (state_of a (followed_by (version ∷ []) front)) ≡ None
   pending_none k other a =
       let alike = all_taken.1 in
-      let before : pending_at k (standing_of a (behind (behind (version ∷ []) ps) happened)) ≡ None =
-      none_too k other (pending_at k (standing_of a (behind (version ∷ []) (all_told work.plan (as_written events))))) (pending_at k (standing_of a (behind (behind (version ∷ []) ps) happened))) ((alike.standing a).pending k)
-      (none_stands (length work.plan.changes) (address_of work.plan) (Does work.plan) (Provides work.plan) runs.1.0 (behind (version ∷ []) (all_told work.plan (as_written events))) runs.1.1 runs.1.2 k other a) in
-      ap (λ (l : List Message). pending_at k (standing_of a l)) (sym behind_all) ∙ diagnostics_keep k a loose (behind (behind (version ∷ []) ps) happened) (notes_tell besides.notes) ∙ before
+      let before : pending_at k (state_of a (followed_by (followed_by (version ∷ []) ps) happened)) ≡ None =
+      none_too k other (pending_at k (state_of a (followed_by (version ∷ []) (events_read_back work.plan (as_written events))))) (pending_at k (state_of a (followed_by (followed_by (version ∷ []) ps) happened))) ((alike.state a).pending k)
+      (none_stands (length work.plan.changes) (address_of work.plan) (Does work.plan) (Provides work.plan) runs.1.0 (followed_by (version ∷ []) (events_read_back work.plan (as_written events))) runs.1.1 runs.1.2 k other a) in
+      ap (λ (l : List Message). pending_at k (state_of a l)) (sym after_all) ∙ diagnostics_keep k a loose (followed_by (followed_by (version ∷ []) ps) happened) (notes_are_errors extras.notes) ∙ before
 
-  sound : MayEnd (behind (version ∷ []) front)
+  sound : MayEnd (followed_by (version ∷ []) front)
   sound = record {
-    begun = ap (λ (l : List Message). is_some (line_of is_version l)) (sym behind_all) ∙ ap is_some (kept is_version (λ severe o. refl)) ∙ all_taken.1.begun;
-    unsummed = ap (line_of is_summary) (sym behind_all) ∙ kept is_summary (λ severe o. refl) ∙ all_taken.1.unsummed;
-    unforeseen = ap (line_of is_plan_summary) (sym behind_all) ∙ kept is_plan_summary (λ severe o. refl) ∙ all_taken.1.unforeseen;
+    begun = ap (λ (l : List Message). is_some (line_of is_version l)) (sym after_all) ∙ ap is_some (preserved is_version (λ severe o. refl)) ∙ all_taken.1.begun;
+    unsummed = ap (line_of is_summary) (sym after_all) ∙ preserved is_summary (λ severe o. refl) ∙ all_taken.1.unsummed;
+    unforeseen = ap (line_of is_plan_summary) (sym after_all) ∙ preserved is_plan_summary (λ severe o. refl) ∙ all_taken.1.unforeseen;
     pending = pending_none;
-    stand = le-ltb (count_by is_error_alone (behind (version ∷ []) front)) (failures_left (behind (version ∷ []) front)) few_left;
+    stand = le-ltb (count_by is_error_without_address (followed_by (version ∷ []) front)) (failures_left (followed_by (version ∷ []) front)) few_left;
   }
     where
-      kept : (q : Message → Bool) → ((severe : Bool) (o : Option (List ℕ)) → q (diagnostic severe o) ≡ false)
-          → line_of q (behind (behind (behind (version ∷ []) ps) happened) loose) ≡ line_of q (behind (behind (version ∷ []) ps) happened)
-      kept q none = lines_keep q none loose (behind (behind (version ∷ []) ps) happened) (notes_tell besides.notes)
+      preserved : (q : Message → Bool) → ((severe : Bool) (o : Option (List ℕ)) → q (diagnostic severe o) ≡ false)
+          → line_of q (followed_by (followed_by (followed_by (version ∷ []) ps) happened) loose) ≡ line_of q (followed_by (followed_by (version ∷ []) ps) happened)
+      preserved q none = lines_keep q none loose (followed_by (followed_by (version ∷ []) ps) happened) (notes_are_errors extras.notes)
 
-  totals_are : completed_totals (behind (version ∷ []) front) ≡ totals_said (totals_of work.plan events)
+  totals_are : completed_totals (followed_by (version ∷ []) front) ≡ totals_of_counts (totals_of work.plan events)
   totals_are = same_counts (counted Create) (counted Update) (counted Delete) ∙ sym (totals_written work.plan events)
     where
-      counted : (k : Action) → count_by (completes k) (behind (version ∷ []) front) ≡ count_by (completes k) (behind (version ∷ []) (all_told work.plan (as_written events)))
+      counted : (k : Action) → count_by (completes k) (followed_by (version ∷ []) front) ≡ count_by (completes k) (followed_by (version ∷ []) (events_read_back work.plan (as_written events)))
       counted k =
-          let one = counts_behind (completes k) (version ∷ []) front in
-          let other = counts_behind (completes k) (version ∷ []) (all_told work.plan (as_written events)) in
+          let one = counts_followed_by (completes k) (version ∷ []) front in
+          let other = counts_followed_by (completes k) (version ∷ []) (events_read_back work.plan (as_written events)) in
           let parts = sum_by-append (λ m. cond (completes k m) 1 0) ps (happened ++ loose) in
           let more = sum_by-append (λ m. cond (completes k m) 1 0) happened loose in
           let none = none_planned (completes k) (λ intent. refl) ps intents in
-          let no_more = none_told (completes k) (λ severe o. refl) loose (notes_tell besides.notes) in
-          let same = completed_as_told work.plan work.script k (as_written events) in
+          let no_more = none_told (completes k) (λ severe o. refl) loose (notes_are_errors extras.notes) in
+          let same = completed_as_read_back work.plan work.script k (as_written events) in
           omega arith
 
-  errors_are : list_any is_error (behind (version ∷ []) front) ≡ tells_error besides.notes (totals_of work.plan events)
+  errors_are : list_any is_error (followed_by (version ∷ []) front) ≡ contains_error extras.notes (totals_of work.plan events)
   errors_are =
-      any_behind is_error (version ∷ []) front
+      any_followed_by is_error (version ∷ []) front
       ∙ any_both is_error ps (happened ++ loose)
       ∙ ap (λ (b : Bool). b || list_any is_error (happened ++ loose)) (none_counted is_error ps (none_planned is_error (λ intent. refl) ps intents))
       ∙ any_both is_error happened loose
       ∙ ap₂ (λ (a b : Bool). a || b)
-      (errors_as_told work.plan work.script (as_written events) ∙ errors_told work (length work.plan.changes) events (each_written (IsPlanned work.plan) events planned_events) within steps.whole) (notes_err besides.notes)
+      (errors_as_read_back work.plan work.script (as_written events) ∙ errors_read_back work (length work.plan.changes) events (each_written (IsPlanned work.plan) events planned_events) within steps.whole) (notes_err extras.notes)
 
   -- ---- the end
 
-  ended : (operation : Operation) → EndSo (behind (version ∷ []) front) (told_at_end besides operation (totals_of work.plan events))
-  ended operation = at (tells_error besides.notes (totals_of work.plan events)) refl
+  ended : (operation : Operation) → EndSo (followed_by (version ∷ []) front) (end_read_back extras operation (totals_of work.plan events))
+  ended operation = at (contains_error extras.notes (totals_of work.plan events)) refl
     where
-      at : (b : Bool) → tells_error besides.notes (totals_of work.plan events) ≡ b → EndSo (behind (version ∷ []) front) (cond b [] (summary (totals_said (totals_of work.plan events)) ∷ outputs_told operation))
-      at true is = with_error (behind (version ∷ []) front) sound (errors_are ∙ is)
-      at false is = summed operation (totals_said (totals_of work.plan events)) (behind (version ∷ []) front) sound (sym totals_are)
+      at : (b : Bool) → contains_error extras.notes (totals_of work.plan events) ≡ b → EndSo (followed_by (version ∷ []) front) (cond b [] (summary (totals_of_counts (totals_of work.plan events)) ∷ outputs_read_back operation))
+      at true is = with_error (followed_by (version ∷ []) front) sound (errors_are ∙ is)
+      at false is = summed operation (totals_of_counts (totals_of work.plan events)) (followed_by (version ∷ []) front) sound (sym totals_are)
 
-  pub accepted_in_form : (plans : Bool) (operation : Operation) → verdict_on (plain plans) (form_told work.plan work.script besides operation events) ≡ Ok (whole_in_form work.plan work.script besides operation events)
+  pub accepted_in_form : (plans : Bool) (operation : Operation) → verdict_on (plain plans) (stream_read_back_in_form work.plan work.script extras operation events) ≡ Ok (whole_in_form work.plan work.script extras operation events)
   accepted_in_form plans operation =
-      let end = told_at_end besides operation (totals_of work.plan events) in
+      let end = end_read_back extras operation (totals_of work.plan events) in
       let so = ended operation in
-      let later = behind (version ∷ []) front in
-      let all = behind later end in
+      let later = followed_by (version ∷ []) front in
+      let all = followed_by later end in
       let is : front ++ end ≡ ps ++ (happened ++ (loose ++ end)) = append_assoc ps (happened ++ loose) end ∙ ap (λ (l : List Message). ps ++ l) (append_assoc happened loose end) in
-      let lines : length all ≡ length (form_told work.plan work.script besides operation events) =
-      (let one = length_behind later end in let other = length_behind (version ∷ []) front in let both = length-append front end in let same = ap length is in
+      let lines : length all ≡ length (stream_read_back_in_form work.plan work.script extras operation events) =
+      (let one = length_followed_by later end in let other = length_followed_by (version ∷ []) front in let both = length-append front end in let same = ap length is in
       let more : length all ≡ suc (length (ps ++ (happened ++ (loose ++ end)))) = omega arith in more) in
       ap (λ (r : Result (List Message) Fault). r >>= end_of (plain plans)) (ap (with_all (version ∷ [])) (sym is) ∙ joined (version ∷ []) later front end all_taken.0 ∙ so.accepted)
       ∙ whole_end plans all so.closed so.no_plan so.ends

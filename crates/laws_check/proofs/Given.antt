@@ -1,4 +1,4 @@
--- What holds of a value, where there is one, and of what is made of it.
+-- What holds of a value, if there is one, and of what is made of it.
 use Rattle.std.proofs.Common.{◌≡◌, ℕ, zero, suc, ◌+◌, All, List, [], ◌∷◌, length, map, slice_get, take, unwrap_or, Option, Some, None, Result, Ok, Err, refl, ap, ◌∙◌, subst}
 use Rattle.std.specs.Prelude.{IfOk, IfSome, option_and_then, option_map}
 use Rattle.std.specs.List.{AllByRecursion, enumerate_from}
@@ -34,7 +34,7 @@ pub is_answered : {A E : Type 0} (P : A → Type 0) (r : Result A E) (x : A) →
 is_answered P (Err f) x h e = absurd cc
 is_answered P (Ok y) x h e = subst P (let same : y ≡ x = cc in same) h
 
--- of a value of which nothing is asked
+-- a value without a condition
 pub any_given : {A : Type 0} (o : Option A) → IfSome o (λ _. Unit {0})
 any_given None = tt
 any_given (Some x) = tt
@@ -75,7 +75,7 @@ all_given P Q f [] step h = tt
 all_given P Q f (x ∷ xs) step h =
     next_of Q (AllByRecursion Q) (f x) _ (step x h.0) (λ y one. next_of (AllByRecursion Q) (AllByRecursion Q) (all_some (map f xs)) _ (all_given P Q f xs step h.1) (λ ys others. (one, others)))
 
--- as many answers as there are elements
+-- as many answers as elements
 abbrev pub AreAnswers : {A B : Type 0} → (B → Type 0) → List A → List B → Type 0
 AreAnswers Q xs ys = AllByRecursion Q ys × (length ys ≡ length xs)
 

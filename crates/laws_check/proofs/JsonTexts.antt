@@ -7,8 +7,8 @@ use Rattle.json.specs.Tree.{items_tokens, json_tokens, members_tokens}
 use Rattle.serde_json.specs.Data as tree
 use Rattle.serde_json.specs.Written.{comma_if, compact_text, outline}
 use Rattle.serde_json.proofs.Texts.{print-outline}
-use Rattle.apply_json.specs.Keeping.{own_text}
-use Rattle.apply_text_terraform.specs.Kept.{open_members}
+use Rattle.apply_json.specs.Verbatim.{verbatim}
+use Rattle.apply_text_terraform.specs.Verbatim.{unclosed_members}
 
 abbrev mutual
   pub json_text : Json → List ℕ
@@ -73,7 +73,7 @@ mutual
   printed_members true (member k j ms) ts = ap (λ s. 44 ∷ s) (printed_member k j ms ts (printed_value false j (members_tokens ms ++ ts)) (printed_members true ms ts))
   printed_members false (member k j ms) ts = printed_member k j ms ts (printed_value false j (members_tokens ms ++ ts)) (printed_members true ms ts)
 
-pub own_is : (j : Json) → own_text j ≡ json_text j
+pub own_is : (j : Json) → verbatim j ≡ json_text j
 unfolding print_from
 own_is j = ap print (sym (append-nil (json_tokens j))) ∙ printed_value false j [] ∙ append-nil (json_text j)
 
@@ -93,7 +93,7 @@ goes_on later (tree.member k d ms) = true
 regroup_front : (c k v m s : List ℕ) → c ++ (k ++ 58 ∷ (v ++ (m ++ s))) ≡ (c ++ (k ++ 58 ∷ (v ++ m))) ++ s
 regroup_front c k v m s = simp append_assoc
 
-pub onto_text : (later : Bool) (ms : tree.Members) (others : Members) → members_text later (onto ms others) ≡ open_members later ms ++ members_text (goes_on later ms) others
+pub onto_text : (later : Bool) (ms : tree.Members) (others : Members) → members_text later (onto ms others) ≡ unclosed_members later ms ++ members_text (goes_on later ms) others
 onto_text later tree.no_members others = refl
 onto_text later (tree.member k d ms) others =
     joined (onto_text true ms others)
@@ -102,9 +102,9 @@ onto_text later (tree.member k d ms) others =
     same tree.no_members = refl
     same (tree.member k d ms) = refl
 
-    joined : members_text true (onto ms others) ≡ open_members true ms ++ members_text (goes_on true ms) others
-        → comma_if later ++ (quoted k ++ 58 ∷ (json_text (outline d) ++ members_text true (onto ms others))) ≡ (comma_if later ++ (quoted k ++ 58 ∷ (compact_text d ++ open_members true ms))) ++ members_text true others
+    joined : members_text true (onto ms others) ≡ unclosed_members true ms ++ members_text (goes_on true ms) others
+        → comma_if later ++ (quoted k ++ 58 ∷ (json_text (outline d) ++ members_text true (onto ms others))) ≡ (comma_if later ++ (quoted k ++ 58 ∷ (compact_text d ++ unclosed_members true ms))) ++ members_text true others
     joined rest =
-        ap (λ s. comma_if later ++ (quoted k ++ 58 ∷ (json_text (outline d) ++ s))) (rest ∙ ap (λ (b : Bool). open_members true ms ++ members_text b others) (same ms))
-        ∙ ap (λ s. comma_if later ++ (quoted k ++ 58 ∷ (s ++ (open_members true ms ++ members_text true others)))) (outline_text d)
-        ∙ regroup_front (comma_if later) (quoted k) (compact_text d) (open_members true ms) (members_text true others)
+        ap (λ s. comma_if later ++ (quoted k ++ 58 ∷ (json_text (outline d) ++ s))) (rest ∙ ap (λ (b : Bool). unclosed_members true ms ++ members_text b others) (same ms))
+        ∙ ap (λ s. comma_if later ++ (quoted k ++ 58 ∷ (s ++ (unclosed_members true ms ++ members_text true others)))) (outline_text d)
+        ∙ regroup_front (comma_if later) (quoted k) (compact_text d) (unclosed_members true ms) (members_text true others)

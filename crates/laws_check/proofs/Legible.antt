@@ -12,14 +12,14 @@ use Rattle.json.specs.Tree.{items_tokens, json_tokens, members_tokens}
 use Rattle.json.specs.Lex.{tokens}
 use Rattle.serde_json.specs.Data.{Data, null, boolean, number, string, array, object, Items, no_items, item, Members, no_members, member, put}
 use Rattle.serde_json.specs.Read.{max_depth, number_of, of_items, of_json, of_members, read}
-use Rattle.apply_json.specs.Keeping.{as_own_text, keeping, keeping_items, keeping_members, keeping_tree_of, keeping_tree_of_text, own_text}
+use Rattle.apply_json.specs.Verbatim.{as_verbatim, mixed_tree, mixed_items, mixed_members, mixed_tree_of, mixed_tree_of_text, verbatim}
 use Rattle.apply_json.specs.Tree.{tree_of}
 use Rattle.laws_check.proofs.Given.{any_given, gone_on, mapped}
 use Rattle.laws_check.proofs.OwnTexts.{printed_utf8}
 use Rattle.laws_check.proofs.ReadNumbers.{IsOfBits, number_fits}
 use Rattle.laws_check.proofs.Tokens.{AreSpelt, tokens_spelt}
 
--- each text in the value is UTF-8, and each integer fits 64 bits; of the names of members nothing is said
+-- each text in the value is UTF-8, and each integer fits 64 bits; the names of members may be any
 abbrev mutual
   pub IsLegible : Data → Type 0
   IsLegible null = ⊤
@@ -37,7 +37,7 @@ abbrev mutual
   HaveLegible no_members = ⊤
   HaveLegible (member k d ms) = IsLegible d × HaveLegible ms
 
--- the same of a value of the grammar
+-- a legible value of the grammar
 abbrev mutual
   pub IsClear : Json → Type 0
   IsClear j.null = ⊤
@@ -94,7 +94,7 @@ after_end (Token.boolean b ∷ ts) h = tt
 after_end (Token.null ∷ ts) h = tt
 after_end (Token.bad ∷ ts) h = tt
 
--- the name of a member, if there is one more, and what is left behind it
+-- the name of the next member, if there is one, and the rest after it
 abbrev IsNamed : Option (List ℕ) × List Token → Type 0
 IsNamed p = IfSome p.0 IsUtf8 × AreSpelt p.1
 
@@ -112,9 +112,9 @@ after_key (Token.null ∷ ts) h = tt
 after_key (Token.bad ∷ ts) h = tt
 
 module _ (part : Parse Json) (keeps : Keeps IsClear part) where
-  list_step : (more : Parse j.Items) → Keeps AreClear more → (ts : List Token) → AreSpelt ts → (found : Option (List Token)) → IfSome found AreSpelt → IfSome (items_step part more ts found) (Leaves AreClear)
-  list_step more rest ts h (Some left) found = (tt, found)
-  list_step more rest ts h None found =
+  list_step : (more : Parse j.Items) → Keeps AreClear more → (ts : List Token) → AreSpelt ts → (located : Option (List Token)) → IfSome located AreSpelt → IfSome (items_step part more ts located) (Leaves AreClear)
+  list_step more rest ts h (Some left) located = (tt, located)
+  list_step more rest ts h None located =
       gone_on (Leaves IsClear) (Leaves AreClear) (λ p. parse_map (j.item p.0) (more p.1)) (part ts)
       (λ p first. read_on AreClear AreClear (j.item p.0) (more p.1) (λ js clear. (first.0, clear)) (rest p.1 first.1)) (keeps ts h)
 
@@ -123,7 +123,7 @@ module _ (part : Parse Json) (keeps : Keeps IsClear part) where
   list_of zero ts h = tt
   list_of (suc n) ts h = list_step (items part n) (list_of n) ts h (after_end_array ts) (after_end ts h)
 
-  member_step : (more : Parse j.Members) → Keeps HaveClear more → (found : Option (List ℕ)) (ts : List Token) → IfSome found IsUtf8 → AreSpelt ts → IfSome (members_step part more found ts) (Leaves HaveClear)
+  member_step : (more : Parse j.Members) → Keeps HaveClear more → (located : Option (List ℕ)) (ts : List Token) → IfSome located IsUtf8 → AreSpelt ts → IfSome (members_step part more located ts) (Leaves HaveClear)
   member_step more rest None ts name h = (tt, h)
   member_step more rest (Some k) ts name h =
       gone_on (Leaves IsClear) (Leaves HaveClear) (λ p. parse_map (j.member k p.0) (more p.1)) (part ts)
@@ -165,19 +165,19 @@ mutual
   data_legible (j.number s) h = mapped IsOfBits IsLegible number (number_of s) (λ n fits. fits) (number_fits s)
   data_legible (j.string s) h = h
   data_legible (j.array js) h = mapped AreLegible IsLegible array (of_items js) (λ ds legible. legible) (items_legible js h)
-  data_legible (j.object ms) h = mapped HaveLegible IsLegible object (of_members ms no_members) (λ found legible. legible) (members_legible ms no_members h tt)
+  data_legible (j.object ms) h = mapped HaveLegible IsLegible object (of_members ms no_members) (λ located legible. legible) (members_legible ms no_members h tt)
 
   items_legible : (js : j.Items) → AreClear js → IfSome (of_items js) AreLegible
   items_legible j.no_items h = tt
   items_legible (j.item v js) h =
       gone_on IsLegible AreLegible (λ d. option_map (item d) (of_items js)) (of_json v) (λ d one. mapped AreLegible AreLegible (item d) (of_items js) (λ ds legible. (one, legible)) (items_legible js h.1)) (data_legible v h.0)
 
-  members_legible : (ms : j.Members) (found : Members) → HaveClear ms → HaveLegible found → IfSome (of_members ms found) HaveLegible
-  members_legible j.no_members found h legible = legible
-  members_legible (j.member k v ms) found h legible =
-      gone_on IsLegible HaveLegible (λ d. of_members ms (put k d found)) (of_json v) (λ d one. members_legible ms (put k d found) h.2 (put_legible k d found one legible)) (data_legible v h.1)
+  members_legible : (ms : j.Members) (located : Members) → HaveClear ms → HaveLegible located → IfSome (of_members ms located) HaveLegible
+  members_legible j.no_members located h legible = legible
+  members_legible (j.member k v ms) located h legible =
+      gone_on IsLegible HaveLegible (λ d. of_members ms (put k d located)) (of_json v) (λ d one. members_legible ms (put k d located) h.2 (put_legible k d located one legible)) (data_legible v h.1)
 
--- ---- values that are kept as their own texts
+-- ---- values as verbatim texts
 
 spelt_both : (ts us : List Token) → AreSpelt ts → AreSpelt us → AreSpelt (ts ++ us)
 spelt_both [] us h k = k
@@ -200,32 +200,32 @@ mutual
   members_spelt j.no_members h = (tt, tt)
   members_spelt (j.member k v ms) h = (h.0, spelt_both (json_tokens v) (members_tokens ms) (value_spelt v h.1) (members_spelt ms h.2))
 
-own_legible : (v : Json) → IsClear v → IfSome (as_own_text v) IsLegible
-own_legible v h = mapped (λ _. Unit {0}) IsLegible (λ tree. string (own_text v)) (of_json v) (λ tree u. printed_utf8 (json_tokens v) (value_spelt v h)) (any_given (of_json v))
+own_legible : (v : Json) → IsClear v → IfSome (as_verbatim v) IsLegible
+own_legible v h = mapped (λ _. Unit {0}) IsLegible (λ tree. string (verbatim v)) (of_json v) (λ tree u. printed_utf8 (json_tokens v) (value_spelt v h)) (any_given (of_json v))
 
 either_legible : (b : Bool) (o p : Option Data) → IfSome o IsLegible → IfSome p IsLegible → IfSome (cond b o p) IsLegible
 either_legible true o p first second = first
 either_legible false o p first second = second
 
 mutual
-  kept_legible : (kept : List ℕ → Bool) (v : Json) → IsClear v → IfSome (keeping kept v) IsLegible
-  kept_legible kept j.null h = tt
-  kept_legible kept (j.boolean b) h = tt
-  kept_legible kept (j.number s) h = mapped IsOfBits IsLegible number (number_of s) (λ n fits. fits) (number_fits s)
-  kept_legible kept (j.string s) h = h
-  kept_legible kept (j.array js) h = mapped AreLegible IsLegible array (keeping_items kept js) (λ ds legible. legible) (kept_items kept js h)
-  kept_legible kept (j.object ms) h = mapped HaveLegible IsLegible object (keeping_members kept ms no_members) (λ found legible. legible) (kept_members kept ms no_members h tt)
+  verbatim_legible : (raw_texts : List ℕ → Bool) (v : Json) → IsClear v → IfSome (mixed_tree raw_texts v) IsLegible
+  verbatim_legible raw_texts j.null h = tt
+  verbatim_legible raw_texts (j.boolean b) h = tt
+  verbatim_legible raw_texts (j.number s) h = mapped IsOfBits IsLegible number (number_of s) (λ n fits. fits) (number_fits s)
+  verbatim_legible raw_texts (j.string s) h = h
+  verbatim_legible raw_texts (j.array js) h = mapped AreLegible IsLegible array (mixed_items raw_texts js) (λ ds legible. legible) (verbatim_items raw_texts js h)
+  verbatim_legible raw_texts (j.object ms) h = mapped HaveLegible IsLegible object (mixed_members raw_texts ms no_members) (λ located legible. legible) (kept_members raw_texts ms no_members h tt)
 
-  kept_items : (kept : List ℕ → Bool) (js : j.Items) → AreClear js → IfSome (keeping_items kept js) AreLegible
-  kept_items kept j.no_items h = tt
-  kept_items kept (j.item v js) h =
-      gone_on IsLegible AreLegible (λ d. option_map (item d) (keeping_items kept js)) (keeping kept v) (λ d one. mapped AreLegible AreLegible (item d) (keeping_items kept js) (λ ds legible. (one, legible)) (kept_items kept js h.1)) (kept_legible kept v h.0)
+  verbatim_items : (raw_texts : List ℕ → Bool) (js : j.Items) → AreClear js → IfSome (mixed_items raw_texts js) AreLegible
+  verbatim_items raw_texts j.no_items h = tt
+  verbatim_items raw_texts (j.item v js) h =
+      gone_on IsLegible AreLegible (λ d. option_map (item d) (mixed_items raw_texts js)) (mixed_tree raw_texts v) (λ d one. mapped AreLegible AreLegible (item d) (mixed_items raw_texts js) (λ ds legible. (one, legible)) (verbatim_items raw_texts js h.1)) (verbatim_legible raw_texts v h.0)
 
-  kept_members : (kept : List ℕ → Bool) (ms : j.Members) (found : Members) → HaveClear ms → HaveLegible found → IfSome (keeping_members kept ms found) HaveLegible
-  kept_members kept j.no_members found h legible = legible
-  kept_members kept (j.member k v ms) found h legible =
-      gone_on IsLegible HaveLegible (λ d. keeping_members kept ms (put k d found)) (cond (kept k) (as_own_text v) (keeping kept v)) (λ d one. kept_members kept ms (put k d found) h.2 (put_legible k d found one legible))
-      (either_legible (kept k) (as_own_text v) (keeping kept v) (own_legible v h.1) (kept_legible kept v h.1))
+  kept_members : (raw_texts : List ℕ → Bool) (ms : j.Members) (located : Members) → HaveClear ms → HaveLegible located → IfSome (mixed_members raw_texts ms located) HaveLegible
+  kept_members raw_texts j.no_members located h legible = legible
+  kept_members raw_texts (j.member k v ms) located h legible =
+      gone_on IsLegible HaveLegible (λ d. mixed_members raw_texts ms (put k d located)) (cond (raw_texts k) (as_verbatim v) (mixed_tree raw_texts v)) (λ d one. kept_members raw_texts ms (put k d located) h.2 (put_legible k d located one legible))
+      (either_legible (raw_texts k) (as_verbatim v) (mixed_tree raw_texts v) (own_legible v h.1) (verbatim_legible raw_texts v h.1))
 
 -- ---- the value of a whole text
 
@@ -242,10 +242,10 @@ tree_legible bytes = of_test (is_utf8 bytes) refl
     of_test false is = tt
     of_test true is = read_legible bytes (IsUtf8-from_is_utf8 bytes is)
 
--- the same of a tree in which the members of some names are their own texts
-pub kept_tree_legible : (kept : List ℕ → Bool) (bytes : List ℕ) → IfSome (keeping_tree_of kept bytes) IsLegible
-kept_tree_legible kept bytes = of_test (is_utf8 bytes) refl
+-- for a tree with verbatim texts for the members of some names
+pub verbatim_tree_legible : (raw_texts : List ℕ → Bool) (bytes : List ℕ) → IfSome (mixed_tree_of raw_texts bytes) IsLegible
+verbatim_tree_legible raw_texts bytes = of_test (is_utf8 bytes) refl
   where
-    of_test : (b : Bool) → is_utf8 bytes ≡ b → IfSome (cond b (keeping_tree_of_text kept bytes) None) IsLegible
+    of_test : (b : Bool) → is_utf8 bytes ≡ b → IfSome (cond b (mixed_tree_of_text raw_texts bytes) None) IsLegible
     of_test false is = tt
-    of_test true is = gone_on IsClear IsLegible (keeping kept) (option_and_then (λ p. if_last p.0 p.1) (value max_depth (tokens bytes))) (kept_legible kept) (text_clear bytes (IsUtf8-from_is_utf8 bytes is))
+    of_test true is = gone_on IsClear IsLegible (mixed_tree raw_texts) (option_and_then (λ p. if_last p.0 p.1) (value max_depth (tokens bytes))) (verbatim_legible raw_texts) (text_clear bytes (IsUtf8-from_is_utf8 bytes is))

@@ -21,7 +21,7 @@ mod FormCounts
 pub mod FormEnds
 mod FormFailures
 pub mod FormFeeds
-pub mod FormHeard
+pub mod FormReadBack
 pub mod FormLines
 pub mod FormMatches
 pub mod FormNotes
@@ -34,14 +34,14 @@ pub mod FormProvisioners
 mod FormRead
 mod FormRuns
 mod FormStream
-mod FormTold
+mod FormMessages
 mod FormVerdict
 mod FormWhole
 pub mod Given
-pub mod Heard
+pub mod ReadBackEvents
 pub mod JsonTexts
-mod KeptDiags
-mod KeptValues
+mod VerbatimDiagnostics
+mod VerbatimValues
 pub mod Legible
 pub mod LinesAccepted
 pub mod LookUps
@@ -49,7 +49,7 @@ mod MemberLists
 pub mod Moves
 pub mod NumberTexts
 pub mod ObjectsBack
-pub mod ObjectsHeard
+pub mod ReadBackObjects
 pub mod Ordinary
 mod OwnMembers
 pub mod OwnTexts

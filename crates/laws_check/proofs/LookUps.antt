@@ -1,4 +1,4 @@
--- What is found in a legible tree is legible.
+-- A lookup in a legible tree gives a legible value.
 use Rattle.std.proofs.Common.{ℕ, List, [], ◌∷◌, IsUtf8, Option, Some, None}
 use Rattle.std.specs.Prelude.{IfSome}
 use Rattle.std.specs.List.{AllByRecursion}
@@ -45,7 +45,7 @@ text_utf8 name d h = next_of IsLegible IsUtf8 (member_of name d) as_str (member_
 pub non_empty_utf8 : (name : List ℕ) (d : Data) → IsLegible d → IfSome (non_empty_text_of name d) IsUtf8
 non_empty_utf8 name d h = next_of IsUtf8 IsUtf8 (text_of name d) unless_empty (text_utf8 name d h) filled_utf8
 
-pub text_or_utf8 : (absent : List ℕ) (found : Option Data) → IsUtf8 absent → IfSome found IsLegible → IfSome (text_or absent found) IsUtf8
+pub text_or_utf8 : (absent : List ℕ) (located : Option Data) → IsUtf8 absent → IfSome located IsLegible → IfSome (text_or absent located) IsUtf8
 text_or_utf8 absent None text h = text
 text_or_utf8 absent (Some d) text h = str_utf8 d h
 
@@ -59,7 +59,7 @@ array_legible (string s) h = tt
 array_legible (array ds) h = h
 array_legible (object ms) h = tt
 
-pub items_legible : (found : Option Data) → IfSome found IsLegible → IfSome (items_or_empty found) AreLegible
+pub items_legible : (located : Option Data) → IfSome located IsLegible → IfSome (items_or_empty located) AreLegible
 items_legible None h = tt
 items_legible (Some d) h = array_legible d h
 

@@ -1,4 +1,5 @@
--- What holds of each member of an object holds of the one that is put in, and of the one that is found.
+-- What holds of each member of an object holds of a member that is put in, and of the member that a
+-- lookup gives.
 use Rattle.std.proofs.Common.{◌≡◌, ℕ, List, Option, Some, None, Ordering, Less, Equal, Greater, refl, sym, subst}
 use Rattle.std.specs.Prelude.{⊤, IfSome}
 use Rattle.std.specs.Cmp.Lexicographic.{slice_cmp}
@@ -26,10 +27,10 @@ module _ (P : List ℕ → Data → Type 0) where
   among k no_members all = tt
   among k (member l e ms) all = by_order (slice_cmp nat_cmp k l) (exact_bytes k l) (get_member k ms) (among k ms all.1)
     where
-      by_order : (o : Ordering) → (o ≡ Equal → k ≡ l) → (found : Option Data) → IfSome found (P k) → IfSome (match_ordering o found (Some e) found) (P k)
-      by_order Less same found rest = rest
-      by_order Equal same found rest = subst (λ (name : List ℕ). P name e) (sym (same refl)) all.0
-      by_order Greater same found rest = rest
+      by_order : (o : Ordering) → (o ≡ Equal → k ≡ l) → (located : Option Data) → IfSome located (P k) → IfSome (match_ordering o located (Some e) located) (P k)
+      by_order Less same located rest = rest
+      by_order Equal same located rest = subst (λ (name : List ℕ). P name e) (sym (same refl)) all.0
+      by_order Greater same located rest = rest
 
   -- in a value that may be an object
   pub found_in : (k : List ℕ) (d : Data) → IfSome (as_object d) AllMembers → IfSome (get k d) (P k)

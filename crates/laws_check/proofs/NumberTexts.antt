@@ -9,7 +9,7 @@ use Rattle.std.proofs.lemmas.Str.{IsUtf8-append, IsUtf8-nil}
 use Rattle.json.specs.Word.{after_digits, after_exponent, after_fraction, after_minus, after_number, after_sign, after_whole, head}
 use Rattle.json.proofs.Printed.Utf8.{IsUtf8-are_ascii}
 
--- the rest of a text behind some bytes of ASCII
+-- the rest of a text after some ASCII bytes
 abbrev pub IsRest : (t rest : List ℕ) → Type 0
 IsRest t rest = (p : List ℕ) × (t ≡ p ++ rest) × IsUtf8 p
 
@@ -90,7 +90,7 @@ then : (f : List ℕ → Option (List ℕ)) (t : List ℕ) (o : Option (List ℕ
 then f t None step h = tt
 then f t (Some u) step h = after t u (f u) h (step u)
 
--- what is left of a text behind a number
+-- the rest of a text after a number
 pub number_rest : (t : List ℕ) → IfSome (after_number t) (IsRest t)
 unfolding after_number
 number_rest t =

@@ -1,4 +1,5 @@
--- The objects of a stream, if they are sound, stand in the order in which they are read, and are not deep.
+-- Sound objects of a stream have their members in the order in which they are read, and are not
+-- deep.
 use Rattle.std.proofs.Common.{◌≡◌, ℕ, ◌+◌, ◌≤◌, pos, negsuc, List, [], ◌∷◌, ◌++◌, codes, Option, Some, None, refl, sym, subst, append_assoc, length, arith, slice_get, flat_map}
 use Rattle.std.specs.List.{AllByRecursion, enumerate_from}
 use Rattle.std.specs.Option.{option_map_or}
@@ -31,7 +32,7 @@ use Rattle.laws_check.specs.Objects.{object_of, objects_of, stream_objects, vers
 use Rattle.laws_check.specs.Sound.{IsSound}
 use Rattle.laws_check.proofs.ReadBack.{tree_is}
 
--- it is read in its own order, and is so deep at most
+-- the value is read with its members in their order, and is at most so deep
 abbrev pub IsInPlace : (deep : ℕ) → Data → Type 0
 IsInPlace deep d = (of_json (outline d) ≡ Some d) × (tree.depth (outline d) ≤ deep)
 
@@ -129,9 +130,9 @@ in_place_back d sound is = tree_is d sound is.0 (omega (arith, is.1))
 pub event_back : (change : ResourceChange) (kind : StepKind) (outcome : Outcome) (what : What) (seconds : ℕ) → IsSound (object_of seconds (event_message change kind outcome what)) → IsBack (object_of seconds (event_message change kind outcome what))
 event_back change kind outcome what seconds sound = in_place_back _ sound (event_in_place change kind outcome what seconds sound)
 
-one_back : (script : OutcomeMap) (seconds : ℕ) (e : Event) (found : Option ResourceChange) (ds : List Data) → (AllByRecursion IsSound ds → AllByRecursion IsBack ds)
-    → AllByRecursion IsSound (option_map_or (λ (change : ResourceChange). option_map_or (λ step. object_of seconds (event_message change step (outcome_of script e.change e.step) e.what) ∷ []) (slice_get change.steps e.step) []) found [] ++ ds)
-    → AllByRecursion IsBack (option_map_or (λ (change : ResourceChange). option_map_or (λ step. object_of seconds (event_message change step (outcome_of script e.change e.step) e.what) ∷ []) (slice_get change.steps e.step) []) found [] ++ ds)
+one_back : (script : OutcomeMap) (seconds : ℕ) (e : Event) (located : Option ResourceChange) (ds : List Data) → (AllByRecursion IsSound ds → AllByRecursion IsBack ds)
+    → AllByRecursion IsSound (option_map_or (λ (change : ResourceChange). option_map_or (λ step. object_of seconds (event_message change step (outcome_of script e.change e.step) e.what) ∷ []) (slice_get change.steps e.step) []) located [] ++ ds)
+    → AllByRecursion IsBack (option_map_or (λ (change : ResourceChange). option_map_or (λ step. object_of seconds (event_message change step (outcome_of script e.change e.step) e.what) ∷ []) (slice_get change.steps e.step) []) located [] ++ ds)
 one_back script seconds e None ds rest sound = rest sound
 one_back script seconds e (Some change) ds rest sound = at (slice_get change.steps e.step) sound
   where

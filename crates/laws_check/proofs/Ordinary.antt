@@ -14,7 +14,7 @@ use Rattle.stream_check.specs.declared.messages.action.Action.TheVariants.{Delet
 use Rattle.apply_events.specs.declared.event.Event.{Event}
 use Rattle.apply_events.specs.Step.{address_of, kinds_of}
 use Rattle.laws_check.specs.Plans.{IsChange, IsOrdinary}
-use Rattle.laws_check.specs.Told.{action_of}
+use Rattle.laws_check.specs.ReadBack.{action_of}
 use Rattle.laws_check.proofs.Deeds.{all_deeds, deed}
 use Rattle.laws_check.proofs.Moves.{Apart, Sole}
 use Rattle.laws_check.proofs.Turning.{AllKnown}
@@ -31,9 +31,9 @@ Provides plan c = (change : ResourceChange) × IsChange plan c change × (is_som
 abbrev pub Found : Option ResourceChange → ℕ → StepKind → Type 0
 Found o n step = (change : ResourceChange) × (o ≡ Some change) × (slice_get change.steps n ≡ Some step)
 
-pub found : (o : Option ResourceChange) (n : ℕ) (step : StepKind) → slice_get (option_map_or (λ (change : ResourceChange). change.steps) o []) n ≡ Some step → Found o n step
-found None n step e = absurd cc
-found (Some change) n step e = (change, refl, e)
+pub located : (o : Option ResourceChange) (n : ℕ) (step : StepKind) → slice_get (option_map_or (λ (change : ResourceChange). change.steps) o []) n ≡ Some step → Found o n step
+located None n step e = absurd cc
+located (Some change) n step e = (change, refl, e)
 
 address_is : (plan : SavedPlan) (c : ℕ) (change : ResourceChange) → IsChange plan c change → address_of plan c ≡ change.address
 address_is plan c change e = ap (λ (o : Option ResourceChange). option_map_or (λ (change : ResourceChange). change.address) o []) e
@@ -73,8 +73,8 @@ module _ (plan : SavedPlan) (ordinary : IsOrdinary plan) where
 
   sole : (b c : ℕ) (k : Action) → address_of plan b ≡ address_of plan c → Does plan b k → Does plan c k → b ≢ c → k ≡ Delete
   sole b c k same does also apart =
-      let one = found (slice_get plan.changes b) does.0 does.1 does.2 in
-      let other = found (slice_get plan.changes c) also.0 also.1 also.2 in
+      let one = located (slice_get plan.changes b) does.0 does.1 does.2 in
+      let other = located (slice_get plan.changes c) also.0 also.1 also.2 in
       ⊎_elim
       (λ yes. does.3 ∙ ap action_of (deleted b does.0 does.1 one.0 one.1 one.2 yes))
       (λ first. ⊎_elim
@@ -102,5 +102,5 @@ known plan (e ∷ es) = one_known (slice_get (kinds_of plan e.change) e.step) re
         → AllKnown (length plan.changes) (address_of plan) Anywhere (Does plan) (Provides plan) (option_map_or (λ kind. deed e kind ∷ []) o [] ++ all_deeds plan es)
     one_known None lookup rest = rest
     one_known (Some step) lookup rest =
-        let change = found (slice_get plan.changes e.change) e.step step lookup in
+        let change = located (slice_get plan.changes e.change) e.step step lookup in
         ((slice_get_within plan.changes e.change change.0 change.1, tt, (e.step, step, lookup, refl)), rest)

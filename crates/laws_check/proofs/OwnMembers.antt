@@ -1,4 +1,4 @@
--- In the tree of a script each member that is kept as its own text is the text of a value.
+-- In the tree of a script each verbatim member is the text of a value.
 use Rattle.std.proofs.Common.{◌≡◌, ℕ, ◌≤◌, List, IsUtf8, cond, Bool, true, false, Option, Some, None, option_map, refl, sym, ◌∙◌, subst, arith}
 use Rattle.std.specs.Prelude.{⊤, IfSome, codes, option_and_then}
 use Rattle.std.specs.List.{AllByRecursion}
@@ -10,20 +10,20 @@ use Rattle.json.specs.Tree.{HasNumbers, ItemsHaveNumbers, MembersHaveNumbers, de
 use Rattle.serde_json.specs.Data.{Data, null, boolean, number, string, array, object, Items, no_items, item, Members, no_members, member, put}
 use Rattle.serde_json.specs.Find.{as_array, as_object, as_str, get}
 use Rattle.serde_json.specs.Read.{number_of, of_json}
-use Rattle.apply_json.specs.Keeping.{as_own_text, keeping, keeping_items, keeping_members, keeping_tree_of, own_text}
+use Rattle.apply_json.specs.Verbatim.{as_verbatim, mixed_tree, mixed_items, mixed_members, mixed_tree_of, verbatim}
 use Rattle.apply_json.specs.Tree.{◌>>=◌, items_or_empty, list_of, member_of, unless_null}
 use Rattle.apply_plan_terraform.specs.Texts.{json_of_text}
-use Rattle.apply_plan.specs.Script.Entry.{is_kept, is_object_text, object_or_none, object_text}
-use Rattle.laws_check.specs.FormTexts.{IsKeptText}
+use Rattle.apply_plan.specs.Script.Entry.{is_verbatim_name, is_object_text, object_or_none, object_text}
+use Rattle.laws_check.specs.FormTexts.{IsValueText}
 use Rattle.laws_check.proofs.Given.{any_given, both_given, gone_on, mapped, next_of}
-use Rattle.laws_check.proofs.KeptValues.{kept, of_text}
-use Rattle.laws_check.proofs.Legible.{AreClear, AreLegible, HaveClear, IsClear, IsLegible, kept_tree_legible}
+use Rattle.laws_check.proofs.VerbatimValues.{raw_texts, of_text}
+use Rattle.laws_check.proofs.Legible.{AreClear, AreLegible, HaveClear, IsClear, IsLegible, verbatim_tree_legible}
 use Rattle.laws_check.proofs.LookUps.{array_legible, member_legible}
 use Rattle.laws_check.proofs.MemberLists.{AllMembers, found_in, not_null, put_one, weaker}
 
 -- the value is the text of one
-abbrev pub IsOwnText : Data → Type 0
-IsOwnText d = (text : List ℕ) × (d ≡ string text) × IsKeptText text
+abbrev pub IsVerbatimString : Data → Type 0
+IsVerbatimString d = (text : List ℕ) × (d ≡ string text) × IsValueText text
 
 abbrev mutual
   pub HasOwn : Data → Type 0
@@ -40,11 +40,11 @@ abbrev mutual
 
   pub MembersOwn : Members → Type 0
   MembersOwn no_members = ⊤
-  MembersOwn (member k d ms) = (is_kept k ≡ true → IsOwnText d) × HasOwn d × MembersOwn ms
+  MembersOwn (member k d ms) = (is_verbatim_name k ≡ true → IsVerbatimString d) × HasOwn d × MembersOwn ms
 
 -- a member of that name
 abbrev OwnAt : List ℕ → Data → Type 0
-OwnAt k d = (is_kept k ≡ true → IsOwnText d) × HasOwn d
+OwnAt k d = (is_verbatim_name k ≡ true → IsVerbatimString d) × HasOwn d
 
 each_own : (ms : Members) → MembersOwn ms → AllMembers OwnAt ms
 each_own no_members own = tt
@@ -57,43 +57,43 @@ own_each (member k d ms) own = (own.0.0, own.0.1, own_each ms own.1)
 put_own : (k : List ℕ) (d : Data) (ms : Members) → OwnAt k d → MembersOwn ms → MembersOwn (put k d ms)
 put_own k d ms one others = own_each (put k d ms) (put_one OwnAt k d ms one (each_own ms others))
 
--- ---- a value that nests at most so deep that a member of it may be kept
+-- ---- a value whose members do not nest too deep to be verbatim
 
-own_at : (k : List ℕ) (v : Json) → IsClear v → HasNumbers v → depth v ≤ 124 → IfSome (keeping is_kept v) HasOwn → IfSome (cond (is_kept k) (as_own_text v) (keeping is_kept v)) (OwnAt k)
-own_at k v clear numbers shallow own = of_test (is_kept k) refl
+own_at : (k : List ℕ) (v : Json) → IsClear v → HasNumbers v → depth v ≤ 124 → IfSome (mixed_tree is_verbatim_name v) HasOwn → IfSome (cond (is_verbatim_name k) (as_verbatim v) (mixed_tree is_verbatim_name v)) (OwnAt k)
+own_at k v clear numbers shallow own = of_test (is_verbatim_name k) refl
   where
-    of_tree : (o : Option Data) → of_json v ≡ o → IfSome (option_map (λ tree. string (own_text v)) o) (OwnAt k)
+    of_tree : (o : Option Data) → of_json v ≡ o → IfSome (option_map (λ tree. string (verbatim v)) o) (OwnAt k)
     of_tree None is = tt
-    of_tree (Some tree) is = ((λ e. (own_text v, refl, kept 124 v (omega arith) (record { clear = clear; numbers = numbers; shallow = shallow; tree = (tree, is) }))), tt)
+    of_tree (Some tree) is = ((λ e. (verbatim v, refl, raw_texts 124 v (omega arith) (record { clear = clear; numbers = numbers; shallow = shallow; tree = (tree, is) }))), tt)
 
-    plain : (o : Option Data) → is_kept k ≡ false → IfSome o HasOwn → IfSome o (OwnAt k)
+    plain : (o : Option Data) → is_verbatim_name k ≡ false → IfSome o HasOwn → IfSome o (OwnAt k)
     plain None not h = tt
     plain (Some d) not h = ((λ e. absurd (let never : true ≡ false = sym e ∙ not in cc)), h)
 
-    of_test : (b : Bool) → is_kept k ≡ b → IfSome (cond b (as_own_text v) (keeping is_kept v)) (OwnAt k)
+    of_test : (b : Bool) → is_verbatim_name k ≡ b → IfSome (cond b (as_verbatim v) (mixed_tree is_verbatim_name v)) (OwnAt k)
     of_test true is = of_tree (of_json v) refl
-    of_test false is = plain (keeping is_kept v) is own
+    of_test false is = plain (mixed_tree is_verbatim_name v) is own
 
 mutual
-  value_own : (v : Json) → IsClear v → HasNumbers v → depth v ≤ 125 → IfSome (keeping is_kept v) HasOwn
+  value_own : (v : Json) → IsClear v → HasNumbers v → depth v ≤ 125 → IfSome (mixed_tree is_verbatim_name v) HasOwn
   value_own json.null clear numbers shallow = tt
   value_own (json.boolean b) clear numbers shallow = tt
   value_own (json.number s) clear numbers shallow = mapped (λ _. Unit {0}) HasOwn number (number_of s) (λ n u. tt) (any_given (number_of s))
   value_own (json.string s) clear numbers shallow = tt
-  value_own (json.array js) clear numbers shallow = mapped ItemsOwn HasOwn array (keeping_items is_kept js) (λ ds own. own) (items_own js clear numbers (omega (arith, shallow)))
-  value_own (json.object ms) clear numbers shallow = mapped MembersOwn HasOwn object (keeping_members is_kept ms no_members) (λ found own. own) (members_own ms no_members clear numbers (omega (arith, shallow)) tt)
+  value_own (json.array js) clear numbers shallow = mapped ItemsOwn HasOwn array (mixed_items is_verbatim_name js) (λ ds own. own) (items_own js clear numbers (omega (arith, shallow)))
+  value_own (json.object ms) clear numbers shallow = mapped MembersOwn HasOwn object (mixed_members is_verbatim_name ms no_members) (λ located own. own) (members_own ms no_members clear numbers (omega (arith, shallow)) tt)
 
-  items_own : (js : json.Items) → AreClear js → ItemsHaveNumbers js → items_depth js ≤ 125 → IfSome (keeping_items is_kept js) ItemsOwn
+  items_own : (js : json.Items) → AreClear js → ItemsHaveNumbers js → items_depth js ≤ 125 → IfSome (mixed_items is_verbatim_name js) ItemsOwn
   items_own json.no_items clear numbers shallow = tt
   items_own (json.item v js) clear numbers shallow =
-      gone_on HasOwn ItemsOwn (λ d. option_map (item d) (keeping_items is_kept js)) (keeping is_kept v)
-      (λ d one. mapped ItemsOwn ItemsOwn (item d) (keeping_items is_kept js) (λ ds own. (one, own)) (items_own js clear.1 numbers.1 (omega (arith, shallow)))) (value_own v clear.0 numbers.0 (omega (arith, shallow)))
+      gone_on HasOwn ItemsOwn (λ d. option_map (item d) (mixed_items is_verbatim_name js)) (mixed_tree is_verbatim_name v)
+      (λ d one. mapped ItemsOwn ItemsOwn (item d) (mixed_items is_verbatim_name js) (λ ds own. (one, own)) (items_own js clear.1 numbers.1 (omega (arith, shallow)))) (value_own v clear.0 numbers.0 (omega (arith, shallow)))
 
-  members_own : (ms : json.Members) (found : Members) → HaveClear ms → MembersHaveNumbers ms → members_depth ms ≤ 124 → MembersOwn found → IfSome (keeping_members is_kept ms found) MembersOwn
-  members_own json.no_members found clear numbers shallow own = own
-  members_own (json.member k v ms) found clear numbers shallow own =
-      gone_on (OwnAt k) MembersOwn (λ d. keeping_members is_kept ms (put k d found)) (cond (is_kept k) (as_own_text v) (keeping is_kept v))
-      (λ d one. members_own ms (put k d found) clear.2 numbers.1 (omega (arith, shallow)) (put_own k d found one own))
+  members_own : (ms : json.Members) (located : Members) → HaveClear ms → MembersHaveNumbers ms → members_depth ms ≤ 124 → MembersOwn located → IfSome (mixed_members is_verbatim_name ms located) MembersOwn
+  members_own json.no_members located clear numbers shallow own = own
+  members_own (json.member k v ms) located clear numbers shallow own =
+      gone_on (OwnAt k) MembersOwn (λ d. mixed_members is_verbatim_name ms (put k d located)) (cond (is_verbatim_name k) (as_verbatim v) (mixed_tree is_verbatim_name v))
+      (λ d one. members_own ms (put k d located) clear.2 numbers.1 (omega (arith, shallow)) (put_own k d located one own))
       (own_at k v clear.1 numbers.0 (omega (arith, shallow)) (value_own v clear.1 numbers.0 (omega (arith, shallow))))
 
 -- ---- the whole script, in which arrays are looked into
@@ -117,32 +117,32 @@ TopOwn (string s) = ⊤
 TopOwn (array ds) = ⊤
 TopOwn (object ms) = ArraysOwn ms
 
-array_own : (v : Json) → IsClear v → HasNumbers v → depth v ≤ 126 → IfSome (keeping is_kept v) ArrayOwn
+array_own : (v : Json) → IsClear v → HasNumbers v → depth v ≤ 126 → IfSome (mixed_tree is_verbatim_name v) ArrayOwn
 array_own json.null clear numbers shallow = tt
 array_own (json.boolean b) clear numbers shallow = tt
 array_own (json.number s) clear numbers shallow = mapped (λ _. Unit {0}) ArrayOwn number (number_of s) (λ n u. tt) (any_given (number_of s))
 array_own (json.string s) clear numbers shallow = tt
-array_own (json.array js) clear numbers shallow = mapped ItemsOwn ArrayOwn array (keeping_items is_kept js) (λ ds own. own) (items_own js clear numbers (omega (arith, shallow)))
-array_own (json.object ms) clear numbers shallow = mapped (λ _. Unit {0}) ArrayOwn object (keeping_members is_kept ms no_members) (λ found u. tt) (any_given (keeping_members is_kept ms no_members))
+array_own (json.array js) clear numbers shallow = mapped ItemsOwn ArrayOwn array (mixed_items is_verbatim_name js) (λ ds own. own) (items_own js clear numbers (omega (arith, shallow)))
+array_own (json.object ms) clear numbers shallow = mapped (λ _. Unit {0}) ArrayOwn object (mixed_members is_verbatim_name ms no_members) (λ located u. tt) (any_given (mixed_members is_verbatim_name ms no_members))
 
-array_at : (b : Bool) (v : Json) → IfSome (keeping is_kept v) ArrayOwn → IfSome (cond b (as_own_text v) (keeping is_kept v)) ArrayOwn
-array_at true v own = mapped (λ _. Unit {0}) ArrayOwn (λ tree. string (own_text v)) (of_json v) (λ tree u. tt) (any_given (of_json v))
+array_at : (b : Bool) (v : Json) → IfSome (mixed_tree is_verbatim_name v) ArrayOwn → IfSome (cond b (as_verbatim v) (mixed_tree is_verbatim_name v)) ArrayOwn
+array_at true v own = mapped (λ _. Unit {0}) ArrayOwn (λ tree. string (verbatim v)) (of_json v) (λ tree u. tt) (any_given (of_json v))
 array_at false v own = own
 
-arrays_own : (ms : json.Members) (found : Members) → HaveClear ms → MembersHaveNumbers ms → members_depth ms ≤ 126 → ArraysOwn found → IfSome (keeping_members is_kept ms found) ArraysOwn
-arrays_own json.no_members found clear numbers shallow own = own
-arrays_own (json.member k v ms) found clear numbers shallow own =
-    gone_on ArrayOwn ArraysOwn (λ d. keeping_members is_kept ms (put k d found)) (cond (is_kept k) (as_own_text v) (keeping is_kept v))
-    (λ d one. arrays_own ms (put k d found) clear.2 numbers.1 (omega (arith, shallow)) (put_one (λ k d. ArrayOwn d) k d found one own))
-    (array_at (is_kept k) v (array_own v clear.1 numbers.0 (omega (arith, shallow))))
+arrays_own : (ms : json.Members) (located : Members) → HaveClear ms → MembersHaveNumbers ms → members_depth ms ≤ 126 → ArraysOwn located → IfSome (mixed_members is_verbatim_name ms located) ArraysOwn
+arrays_own json.no_members located clear numbers shallow own = own
+arrays_own (json.member k v ms) located clear numbers shallow own =
+    gone_on ArrayOwn ArraysOwn (λ d. mixed_members is_verbatim_name ms (put k d located)) (cond (is_verbatim_name k) (as_verbatim v) (mixed_tree is_verbatim_name v))
+    (λ d one. arrays_own ms (put k d located) clear.2 numbers.1 (omega (arith, shallow)) (put_one (λ k d. ArrayOwn d) k d located one own))
+    (array_at (is_verbatim_name k) v (array_own v clear.1 numbers.0 (omega (arith, shallow))))
 
-top_own : (v : Json) → IsClear v → HasNumbers v → depth v ≤ 127 → IfSome (keeping is_kept v) TopOwn
+top_own : (v : Json) → IsClear v → HasNumbers v → depth v ≤ 127 → IfSome (mixed_tree is_verbatim_name v) TopOwn
 top_own json.null clear numbers shallow = tt
 top_own (json.boolean b) clear numbers shallow = tt
 top_own (json.number s) clear numbers shallow = mapped (λ _. Unit {0}) TopOwn number (number_of s) (λ n u. tt) (any_given (number_of s))
 top_own (json.string s) clear numbers shallow = tt
-top_own (json.array js) clear numbers shallow = mapped (λ _. Unit {0}) TopOwn array (keeping_items is_kept js) (λ ds u. tt) (any_given (keeping_items is_kept js))
-top_own (json.object ms) clear numbers shallow = mapped ArraysOwn TopOwn object (keeping_members is_kept ms no_members) (λ found own. own) (arrays_own ms no_members clear numbers (omega (arith, shallow)) tt)
+top_own (json.array js) clear numbers shallow = mapped (λ _. Unit {0}) TopOwn array (mixed_items is_verbatim_name js) (λ ds u. tt) (any_given (mixed_items is_verbatim_name js))
+top_own (json.object ms) clear numbers shallow = mapped ArraysOwn TopOwn object (mixed_members is_verbatim_name ms no_members) (λ located own. own) (arrays_own ms no_members clear numbers (omega (arith, shallow)) tt)
 
 -- ---- a legible tree, and what stands in it
 
@@ -155,14 +155,14 @@ AreHeld ds = AreLegible ds × ItemsOwn ds
 abbrev pub IsScriptTree : Data → Type 0
 IsScriptTree d = IsLegible d × TopOwn d
 
-pub script_tree : (bytes : List ℕ) → IfSome (keeping_tree_of is_kept bytes) IsScriptTree
-script_tree bytes = both_given IsLegible TopOwn (keeping_tree_of is_kept bytes) (kept_tree_legible is_kept bytes) (of_test (is_utf8 bytes) refl)
+pub script_tree : (bytes : List ℕ) → IfSome (mixed_tree_of is_verbatim_name bytes) IsScriptTree
+script_tree bytes = both_given IsLegible TopOwn (mixed_tree_of is_verbatim_name bytes) (verbatim_tree_legible is_verbatim_name bytes) (of_test (is_utf8 bytes) refl)
   where
-    of_value : (o : Option Json) → IsUtf8 bytes → json_of_text bytes ≡ o → IfSome (option_and_then (keeping is_kept) o) TopOwn
+    of_value : (o : Option Json) → IsUtf8 bytes → json_of_text bytes ≡ o → IfSome (option_and_then (mixed_tree is_verbatim_name) o) TopOwn
     of_value None utf8 is = tt
     of_value (Some j) utf8 is = let parsed = of_text bytes j utf8 is in top_own j parsed.clear parsed.numbers parsed.shallow
 
-    of_test : (b : Bool) → is_utf8 bytes ≡ b → IfSome (cond b (option_and_then (keeping is_kept) (json_of_text bytes)) None) TopOwn
+    of_test : (b : Bool) → is_utf8 bytes ≡ b → IfSome (cond b (option_and_then (mixed_tree is_verbatim_name) (json_of_text bytes)) None) TopOwn
     of_test true utf8 = of_value (json_of_text bytes) (IsUtf8-from_is_utf8 bytes utf8) refl
     of_test false other = tt
 
@@ -180,19 +180,19 @@ member_own k d own = next_of (OwnAt k) (OwnAt k) (get k d) unless_null (found_in
 pub member_held : (name : List ℕ) (d : Data) → IsHeld d → IfSome (member_of name d) IsHeld
 member_held name d held = both_given IsLegible HasOwn (member_of name d) (member_legible name d held.0) (weaker (OwnAt name) HasOwn (member_of name d) (λ e own. own.1) (member_own name d held.1))
 
--- an object that is kept as its own text
-pub object_own : (name : List ℕ) (d : Data) → is_kept name ≡ true → IsHeld d → IfSome (object_or_none (member_of name d)) (λ text. IfSome text IsKeptText)
-object_own name d is held = of_member (member_of name d) (weaker (OwnAt name) IsOwnText (member_of name d) (λ e own. own.0 is) (member_own name d held.1))
+-- an object as a verbatim text
+pub object_own : (name : List ℕ) (d : Data) → is_verbatim_name name ≡ true → IsHeld d → IfSome (object_or_none (member_of name d)) (λ text. IfSome text IsValueText)
+object_own name d is held = of_member (member_of name d) (weaker (OwnAt name) IsVerbatimString (member_of name d) (λ e own. own.0 is) (member_own name d held.1))
   where
-    of_tests : (text : List ℕ) → IsKeptText text → (a b : Bool) → IfSome (cond a (Some None) (cond b (Some (Some text)) None)) (λ (text : Option (List ℕ)). IfSome text IsKeptText)
-    of_tests text kept true b = tt
-    of_tests text kept false true = kept
-    of_tests text kept false false = tt
+    of_tests : (text : List ℕ) → IsValueText text → (a b : Bool) → IfSome (cond a (Some None) (cond b (Some (Some text)) None)) (λ (text : Option (List ℕ)). IfSome text IsValueText)
+    of_tests text raw_texts true b = tt
+    of_tests text raw_texts false true = raw_texts
+    of_tests text raw_texts false false = tt
 
-    of_member : (found : Option Data) → IfSome found IsOwnText → IfSome (object_or_none found) (λ text. IfSome text IsKeptText)
+    of_member : (located : Option Data) → IfSome located IsVerbatimString → IfSome (object_or_none located) (λ text. IfSome text IsValueText)
     of_member None own = tt
     of_member (Some e) own =
-        subst (λ (x : Data). IfSome (as_str x >>= object_text) (λ text. IfSome text IsKeptText)) (sym own.1) (of_tests own.0 own.2 (bytes_eq own.0 (codes "null")) (is_object_text own.0))
+        subst (λ (x : Data). IfSome (as_str x >>= object_text) (λ text. IfSome text IsValueText)) (sym own.1) (of_tests own.0 own.2 (bytes_eq own.0 (codes "null")) (is_object_text own.0))
 
 -- ---- arrays
 
@@ -207,7 +207,7 @@ array_of (object ms) own = tt
 pub array_held : (d : Data) → IsHeld d → IfSome (as_array d) AreHeld
 array_held d held = both_given AreLegible ItemsOwn (as_array d) (array_legible d held.0) (array_of d held.1)
 
-pub items_held : (found : Option Data) → IfSome found IsHeld → IfSome (items_or_empty found) AreHeld
+pub items_held : (located : Option Data) → IfSome located IsHeld → IfSome (items_or_empty located) AreHeld
 items_held None held = (tt, tt)
 items_held (Some d) held = array_held d held
 

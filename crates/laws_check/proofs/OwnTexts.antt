@@ -1,4 +1,4 @@
--- The text that a writer gives for tokens is UTF-8, where the strings, the keys and the numbers among them are.
+-- The text of tokens is UTF-8 if the strings, the keys and the numbers among them are.
 use Rattle.std.proofs.Common.{List, [], ◌∷◌, ◌++◌, IsUtf8, Bool, false, refl}
 use Rattle.std.proofs.lemmas.Str.{IsUtf8-append, IsUtf8-nil}
 use Rattle.json.specs.Token.{Token, begin_object, end_object, begin_array, end_array, key, string, number, boolean, null, bad}

@@ -1,4 +1,4 @@
--- The part that each change has of what several workers report.
+-- The events of each change among those of several workers.
 use Rattle.std.proofs.Common.{filter, ◌≡◌, ◌≢◌, ℕ, ◌+◌, ◌<◌, ◌≤◌, ◌==◌, zero, suc, All, List, [], ◌∷◌, ◌++◌, length, map, get_or, sum_by, Bool, true, false, cond, Option, Some, None, refl, sym, ap, ◌∙◌, subst, ⊎_elim, slice_get, option_map, option_to_list, append-nil, inr, arith, eq-eqb, ne_eqb}
 use Rattle.std.specs.Prelude.{is_some, not}
 use Rattle.std.specs.List.{enumerate_from}
@@ -19,7 +19,7 @@ use Rattle.apply_events.specs.Interleaving.{IsInterleaving}
 use Rattle.apply_events.specs.OfWorker.{of_worker}
 use Rattle.apply_events.specs.Partition.{IsPartition, count_of}
 use Rattle.apply_events.specs.Step.{Step, Work, kinds_applied, kinds_of, step_of, steps_of}
-use Rattle.apply_events.specs.StepEvents.{between, endings, event, goes_on, halts, phase_after, seconds_of, started, step_events, step_time}
+use Rattle.apply_events.specs.StepEvents.{between, endings, event, goes_on, halts, phase_after, seconds_of, start_events, step_events, step_time}
 use Rattle.apply_events.specs.WorkerEvents.{worker_events}
 use Rattle.apply_text.specs.Order.{as_written, hook_messages_of, notes_of}
 use Rattle.laws_check.specs.WholeSteps.{AreOfSteps, IsOfWholeSteps, events_of_change}
@@ -43,18 +43,18 @@ each_map : {X : Type 0} (P : Event → Type 0) (g : X → Event) (xs : List X) �
 each_map P g [] h = tt
 each_map P g (x ∷ xs) h = (h x, each_map P g xs h)
 
-each_found : (P : Event → Type 0) (g : ℕ → Event) (found : Option ℕ) → ((x : ℕ) → P (g x)) → Each P (option_to_list (option_map g found))
-each_found P g None h = tt
-each_found P g (Some x) h = (h x, tt)
+each_located : (P : Event → Type 0) (g : ℕ → Event) (located : Option ℕ) → ((x : ℕ) → P (g x)) → Each P (option_to_list (option_map g located))
+each_located P g None h = tt
+each_located P g (Some x) h = (h x, tt)
 
--- of whatever happens to a step
+-- the condition holds of each event of a step
 abbrev Suits : (Event → Type 0) → (worker : ℕ) → Step → Type 0
 Suits P w s = (at : ℕ) (what : What) → P (event w s at what)
 
 each_of_step : (P : Event → Type 0) (w : ℕ) (s : Step) (at : ℕ) → Suits P w s → Each P (step_events w s at)
 each_of_step P w s at h = either (s.halts Pre)
   where
-    either : (found : Option ℕ) → Each P (cond (is_some found) (option_to_list (option_map (λ hook. event w s at (Halted Pre hook)) found)) (started w s at))
+    either : (located : Option ℕ) → Each P (cond (is_some located) (option_to_list (option_map (λ hook. event w s at (Halted Pre hook)) located)) (start_events w s at))
     either (Some hook) = (h at (Halted Pre hook), tt)
     either None =
         let start = event w s at Start ∷ [] in
@@ -64,7 +64,7 @@ each_of_step P w s at h = either (s.halts Pre)
         (each_both P (start ++ middle) last
         (each_both P start middle (h at Start, tt) (each_map P (λ (x : ℕ × What). event w s (at + x.0) x.1) (between s) (λ x. h (at + x.0) x.1)))
         (each_map P (λ what. event w s (at + seconds_of s) what) (endings s) (λ what. h (at + seconds_of s) what)))
-        (each_found P (λ hook. event w s (at + seconds_of s) (Halted (phase_after s.fails) hook)) (s.halts (phase_after s.fails)) (λ hook. h (at + seconds_of s) (Halted (phase_after s.fails) hook)))
+        (each_located P (λ hook. event w s (at + seconds_of s) (Halted (phase_after s.fails) hook)) (s.halts (phase_after s.fails)) (λ hook. h (at + seconds_of s) (Halted (phase_after s.fails) hook)))
 
 abbrev AllSuit : (Event → Type 0) → (worker : ℕ) → List Step → Type 0
 AllSuit P w [] = Unit {0}
@@ -80,24 +80,24 @@ each_of_steps P w (s ∷ steps) at h = each_both P (step_events w s at) (in_turn
 
 -- ---- the events of a change
 
--- it names the change, and the plan has its step
-pub record TellsOfChange (work : Work) (c : ℕ) (e : Event) : Type 0 where
+-- the event is of the change, and the plan has its step
+pub record IsOfChange (work : Work) (c : ℕ) (e : Event) : Type 0 where
   pub named : e.change ≡ c
   pub planned : (kind : StepKind) × (slice_get (kinds_of work.plan e.change) e.step ≡ Some kind)
 
 all_of : (work : Work) (w c n : ℕ) (kinds : List StepKind) → ((i : ℕ) (kind : StepKind) → slice_get kinds i ≡ Some kind → slice_get (kinds_of work.plan c) (n + i) ≡ Some kind)
-    → AllSuit (TellsOfChange work c) w (map (λ p. step_of work c p.0 p.1) (enumerate_from n kinds))
+    → AllSuit (IsOfChange work c) w (map (λ p. step_of work c p.0 p.1) (enumerate_from n kinds))
 all_of work w c n [] is = tt
 all_of work w c n (kind ∷ kinds) is =
     let here : n + 0 ≡ n = omega arith in (
       λ at what. record { named = refl; planned = (kind, subst (λ (x : ℕ). slice_get (kinds_of work.plan c) x ≡ Some kind) here (is 0 kind refl)) },
-      all_of work w c (n + 1) kinds (λ i k found. let next : n + suc i ≡ n + 1 + i = omega arith in subst (λ (x : ℕ). slice_get (kinds_of work.plan c) x ≡ Some k) next (is (suc i) k found)),
+      all_of work w c (n + 1) kinds (λ i k located. let next : n + suc i ≡ n + 1 + i = omega arith in subst (λ (x : ℕ). slice_get (kinds_of work.plan c) x ≡ Some k) next (is (suc i) k located)),
     )
 
-pub change_is_of : (work : Work) (w c at : ℕ) → Each (TellsOfChange work c) (change_events work w c at)
+pub change_is_of : (work : Work) (w c at : ℕ) → Each (IsOfChange work c) (change_events work w c at)
 change_is_of work w c at =
-    each_of_steps (TellsOfChange work c) w (begun (steps_of work c)) at
-    (suit_begun (TellsOfChange work c) w (steps_of work c) (all_of work w c 0 (kinds_applied work.plan work.script c)
+    each_of_steps (IsOfChange work c) w (begun (steps_of work c)) at
+    (suit_begun (IsOfChange work c) w (steps_of work c) (all_of work w c 0 (kinds_applied work.plan work.script c)
     (λ i kind applied. let same : i ≡ 0 + i = omega arith in subst (λ (x : ℕ). slice_get (kinds_of work.plan c) x ≡ Some kind) same (applied_is_planned work.plan work.script c i kind applied))))
 
 -- ---- the part of a change in a list
@@ -126,10 +126,10 @@ module _ (work : Work) (w : ℕ) where
   turn changes at = in_turn (change_events work w) (span_of work) changes at
 
   other_part : (c b at : ℕ) → b ≢ c → events_of_change c (change_events work w b at) ≡ []
-  other_part c b at apart = no_part c (change_events work w b at) (each_weaker (TellsOfChange work b) (λ e. e.change ≢ c) (λ e is same. apart (sym is.named ∙ same)) (change_events work w b at) (change_is_of work w b at))
+  other_part c b at apart = no_part c (change_events work w b at) (each_weaker (IsOfChange work b) (λ e. e.change ≢ c) (λ e is same. apart (sym is.named ∙ same)) (change_events work w b at) (change_is_of work w b at))
 
   own_part : (c at : ℕ) → events_of_change c (change_events work w c at) ≡ change_events work w c at
-  own_part c at = whole_part c (change_events work w c at) (each_weaker (TellsOfChange work c) (λ e. e.change ≡ c) (λ e is. is.named) (change_events work w c at) (change_is_of work w c at))
+  own_part c at = whole_part c (change_events work w c at) (each_weaker (IsOfChange work c) (λ e. e.change ≡ c) (λ e is. is.named) (change_events work w c at) (change_is_of work w c at))
 
   none_left : (c : ℕ) (changes : List ℕ) (at : ℕ) → count_of c changes ≡ 0 → events_of_change c (turn changes at) ≡ []
   none_left c [] at none = refl
@@ -235,7 +235,7 @@ turn_listed : (work : Work) (w : ℕ) (all changes : List ℕ) (at : ℕ) → ((
 turn_listed work w all [] at within = tt
 turn_listed work w all (b ∷ changes) at within =
     each_both (IsListed work all) (change_events work w b at) (turn work w changes (at + span_of work b))
-    (each_weaker (TellsOfChange work b) (IsListed work all)
+    (each_weaker (IsOfChange work b) (IsListed work all)
     (λ e is. record {
       listed = let same : e.change ≡ b = is.named in subst (λ (x : ℕ). 1 ≤ count_of x all) (sym same)
           (let count = first_counted b b changes in let more = within b in let one : cond {A = ℕ} (b == b) 1 0 ≡ 1 = ap (λ (t : Bool). cond t 1 0) (eq-eqb b b refl) in omega arith);
@@ -248,9 +248,9 @@ pub worker_listed : (work : Work) (w : ℕ) (changes : List ℕ) → Each (IsLis
 worker_listed work w changes = turn_listed work w changes changes 0 (λ c. omega arith)
 
 module _ (work : Work) (workers limit : ℕ) (lists : List (List ℕ)) (events : List Event)
-    (dealt : IsPartition workers limit lists) (told : IsInterleaving workers (λ w. worker_events work w (get_or lists w [])) events) where
+    (dealt : IsPartition workers limit lists) (interleaved : IsInterleaving workers (λ w. worker_events work w (get_or lists w [])) events) where
   pub all_listed : Each (λ e. IsListed work (get_or lists e.worker []) e) events
-  all_listed = spread (λ w e. IsListed work (get_or lists w []) e) workers events told.named (λ w less. subst (Each (IsListed work (get_or lists w []))) (sym (told.parts w less)) (worker_listed work w (get_or lists w [])))
+  all_listed = spread (λ w e. IsListed work (get_or lists w []) e) workers events interleaved.named (λ w less. subst (Each (IsListed work (get_or lists w []))) (sym (interleaved.parts w less)) (worker_listed work w (get_or lists w [])))
 
   owners : (c w : ℕ) (es : List Event) → All (λ (e : Event). e.worker < workers) es → Each (λ e. IsListed work (get_or lists e.worker []) e) es
       → ((v : ℕ) → v < workers → 1 ≤ count_of c (get_or lists v []) → v ≡ w) → Each (λ e. e.change ≡ c → e.worker ≡ w) es
@@ -265,9 +265,9 @@ module _ (work : Work) (workers limit : ℕ) (lists : List (List ℕ)) (events :
   part_of_change c less =
       let whose = only_one (count_of c) lists (dealt.once c ∙ ap (λ (b : Bool). cond b 1 0) (lt-ltb c limit less)) in
       let count : length lists ≡ workers = dealt.count in
-      let mine : Each (λ e. e.change ≡ c → e.worker ≡ whose.0) events = owners c whose.0 events told.named all_listed (λ v l. whose.3 v (omega arith)) in
+      let mine : Each (λ e. e.change ≡ c → e.worker ≡ whose.0) events = owners c whose.0 events interleaved.named all_listed (λ v l. whose.3 v (omega arith)) in
       let part = part_of_turn work whose.0 c (get_or lists whose.0 []) 0 whose.2 in
-      (whose.0, part.0, narrowed c whose.0 events mine ∙ ap (events_of_change c) (told.parts whose.0 (let l : whose.0 < length lists = whose.1 in omega arith)) ∙ part.1)
+      (whose.0, part.0, narrowed c whose.0 events mine ∙ ap (events_of_change c) (interleaved.parts whose.0 (let l : whose.0 < length lists = whose.1 in omega arith)) ∙ part.1)
 
 -- ---- all of it
 
@@ -296,29 +296,29 @@ each_of_all P (e ∷ es) h = (All-head P e es h, each_of_all P es (All-tail P e 
 -- what workers report to whom all changes are dealt out
 pub run_of_whole_steps : (work : Work) (workers : ℕ) (lists : List (List ℕ)) (events : List Event) → IsPartition workers (length work.plan.changes) lists → IsInterleaving workers (λ w. worker_events work w (get_or lists w [])) events
     → IsOfWholeSteps work events
-run_of_whole_steps work workers lists events dealt told =
+run_of_whole_steps work workers lists events dealt interleaved =
     let limit = length work.plan.changes in
     record {
       planned = all_of_each (λ e. HasStep work.plan e.change e.step) events
           (each_weaker (λ e. IsListed work (get_or lists e.worker []) e) (λ e. HasStep work.plan e.change e.step)
-          (λ e is. slice_get_within (kinds_of work.plan e.change) e.step is.planned.0 is.planned.1) events (all_listed work workers limit lists events dealt told));
+          (λ e is. slice_get_within (kinds_of work.plan e.change) e.step is.planned.0 is.planned.1) events (all_listed work workers limit lists events dealt interleaved));
       whole = λ c less.
-          let part = part_of_change work workers limit lists events dealt told c less in
+          let part = part_of_change work workers limit lists events dealt interleaved c less in
           subst (AreOfSteps (steps_of work c)) (sym part.2) (begun_are_whole part.0 (steps_of work c) part.1);
     }
 
 -- ---- as they are written
 
-each_kept : (P : Event → Type 0) (test : Event → Bool) (es : List Event) → Each P es → Each P (filter test es)
-each_kept P test [] h = tt
-each_kept P test (e ∷ es) h = at (test e) (each_kept P test es h.1)
+each_verbatim : (P : Event → Type 0) (test : Event → Bool) (es : List Event) → Each P es → Each P (filter test es)
+each_verbatim P test [] h = tt
+each_verbatim P test (e ∷ es) h = at (test e) (each_verbatim P test es h.1)
   where
     at : (b : Bool) → Each P (filter test es) → Each P (cond b (e ∷ filter test es) (filter test es))
     at true rest = (h.0, rest)
     at false rest = rest
 
 pub each_written : (P : Event → Type 0) (es : List Event) → Each P es → Each P (as_written es)
-each_written P es h = each_both P (hook_messages_of es) (notes_of es) (each_kept P (λ e. not (is_note e.what)) es h) (each_kept P (λ e. is_note e.what) es h)
+each_written P es h = each_both P (hook_messages_of es) (notes_of es) (each_verbatim P (λ e. not (is_note e.what)) es h) (each_verbatim P (λ e. is_note e.what) es h)
 
 filters_swap : {X : Type 0} (p q : X → Bool) (xs : List X) → filter p (filter q xs) ≡ filter q (filter p xs)
 filters_swap p q [] = refl
@@ -330,5 +330,5 @@ filters_swap p q (x ∷ xs) = at (p x) (q x) refl refl (filters_swap p q xs)
     at false true e f rest = ap (λ (t : Bool). cond t (x ∷ filter p (filter q xs)) (filter p (filter q xs))) e ∙ rest
     at false false e f rest = rest
 
-pub part_of_kept : (c : ℕ) (test : Event → Bool) (es : List Event) → events_of_change c (filter test es) ≡ filter test (events_of_change c es)
-part_of_kept c test es = filters_swap (λ (e : Event). e.change == c) test es
+pub part_of_verbatim : (c : ℕ) (test : Event → Bool) (es : List Event) → events_of_change c (filter test es) ≡ filter test (events_of_change c es)
+part_of_verbatim c test es = filters_swap (λ (e : Event). e.change == c) test es

@@ -1,4 +1,4 @@
--- The course of a change: what may happen to it, one event after another.
+-- The phases of a change: which events may come, one after another.
 use Rattle.std.proofs.Common.{◌≡◌, ◌≢◌, ℕ, ◌<◌, ◌≤◌, ◌==◌, ◌⊎◌, List, [], ◌∷◌, Bool, true, false, cond, filter, Option, Some, None, refl, ap, bytes_eq, eq-eqb, ne_eqb}
 use Rattle.stream_check.specs.declared.messages.action.Action.{Action}
 use Rattle.stream_check.specs.declared.messages.action.Action.TheVariants.{Create, Delete, Read}
@@ -6,11 +6,12 @@ use Rattle.stream_check.specs.Words.{same_action}
 use Rattle.apply_events.specs.declared.what.What.{What}
 use Rattle.apply_events.specs.declared.what.What.TheVariants.{Start, Progress, Complete, Errored, ErrorNote, WarnNote, Halted, ProvisionStart, ProvisionOutput, ProvisionComplete, ProvisionErrored}
 
--- where a change is: between two steps, in one that told so many seconds last and has a provisioner under way or none,
--- or behind one whose failure no error has explained; behind a step that only warns, of which no end is told, it stays in it
+-- where a change is: between two steps; in a step, with its last elapsed seconds, and with a
+-- provisioner under way or none; or after a step whose failure no error has explained. A step that
+-- only warns has no end, so the change stays in it.
 pub data Phase : Type 0 where
   between : Phase
-  under_way : Action → (told : ℕ) → (provisions : Bool) → Phase
+  under_way : Action → (elapsed : ℕ) → (provisions : Bool) → Phase
   unexplained : Phase
 
 -- provisioners run within creates and deletes
@@ -21,8 +22,8 @@ HoldsProvisioners k = (k ≡ Create) ⊎ (k ≡ Delete)
 abbrev pub MayRun : (may : Type 0) → Action → Type 0
 MayRun may k = may × HoldsProvisioners k
 
--- what happens to a step with that action takes the change, which may have provisioners or not, from the first phase to the
--- other
+-- An event of a step with that action leads the change from the first phase to the second. The
+-- change may have provisioners or not.
 abbrev pub Turns : (may : Type 0) → Phase → Action → What → Phase → Type 0
 Turns may between k Start q = q ≡ under_way k 0 false
 Turns may between k ErrorNote q = q ≡ between
@@ -48,7 +49,8 @@ pub record Deed : Type 0 where
   pub action : Action
   pub what : What
 
--- it may happen to a change in the first phase, one after another, and leaves it in the other
+-- These events may happen one after another to a change in the first phase, and leave the change in
+-- the last.
 abbrev pub Follows : (may : Type 0) → Phase → List Deed → Phase → Type 0
 Follows may p [] r = p ≡ r
 Follows may p (d ∷ ds) r = (q : Phase) × Turns may p d.action d.what q × Follows may q ds r
@@ -56,7 +58,7 @@ Follows may p (d ∷ ds) r = (q : Phase) × Turns may p d.action d.what q × Fol
 -- no step of the change is under way, but for a read, which may stay open
 abbrev pub IsAtRest : Phase → Type 0
 IsAtRest between = Unit {0}
-IsAtRest (under_way k told b) = k ≡ Read
+IsAtRest (under_way k elapsed b) = k ≡ Read
 IsAtRest unexplained = ⊥
 
 -- what happens to one change
@@ -75,17 +77,17 @@ put_here phases c p = ap (λ t. cond t p (phases c)) (eq-eqb c c refl)
 pub put_elsewhere : (phases : ℕ → Phase) (c : ℕ) (p : Phase) (b : ℕ) → b ≢ c → put phases c p b ≡ phases b
 put_elsewhere phases c p b apart = ap (λ t. cond t p (phases b)) (ne_eqb b c apart)
 
--- the seconds that an action told last, if it is under way
+-- the last elapsed seconds of an action, if it is under way
 abbrev pub seconds_in : Action → Phase → Option ℕ
 seconds_in k between = None
-seconds_in k (under_way l told b) = cond (same_action l k) (Some told) None
+seconds_in k (under_way l elapsed b) = cond (same_action l k) (Some elapsed) None
 seconds_in k unexplained = None
 
 -- a provisioner of a create or of a delete is under way
 abbrev pub IsProvisioning : Phase → Type 0
 IsProvisioning p = (t : ℕ) × (k : Action) × (p ≡ under_way k t true) × HoldsProvisioners k
 
--- the seconds that the action on the object of the address told last, if change c has it under way
+-- the last elapsed seconds of the action at the address, if change c has it under way
 abbrev pub shown : (addresses : ℕ → List ℕ) → (ℕ → Phase) → (a : List ℕ) → Action → (c : ℕ) → Option ℕ
 shown addresses phases a k c = cond (bytes_eq (addresses c) a) (seconds_in k (phases c)) None
 

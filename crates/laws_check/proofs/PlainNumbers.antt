@@ -1,4 +1,5 @@
--- The text of a number has no escapes and no line feeds: it is a minus, digits, a point, an exponent.
+-- The text of a number has no escapes and no line feeds. It has a minus, digits, a point, an
+-- exponent.
 use Rattle.std.proofs.Common.{◌≡◌, ℕ, suc, ◌+◌, ◌==◌, List, [], ◌∷◌, cond, drop, Bool, true, false, Option, Some, None, refl, ap, ap₂, ◌∙◌, subst, ⊎_elim, arith}
 use Rattle.std.specs.Prelude.{◌&&◌, ◌||◌, IfSome, nat_le, not, option_and_then}
 use Rattle.std.specs.List.{list_all, prefix_len}

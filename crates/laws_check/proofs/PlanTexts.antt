@@ -28,7 +28,7 @@ use Rattle.apply_text.specs.Objects.{key_data}
 use Rattle.laws_check.specs.Plans.{AreStepsOfOne}
 use Rattle.laws_check.specs.Sound.{IsSound}
 use Rattle.laws_check.specs.Texts.{HasChangeTexts}
-use Rattle.laws_check.proofs.Cuts.{before, behind}
+use Rattle.laws_check.proofs.Cuts.{before, after}
 use Rattle.laws_check.proofs.Given.{AreAnswers, any_given, each_answered, is_answered, mapped, next_of, refused_or, then_of}
 use Rattle.laws_check.proofs.Legible.{AreLegible, IsLegible}
 use Rattle.laws_check.proofs.LookUps.{items_legible, list_legible, member_legible, non_empty_utf8, text_or_utf8, text_utf8}
@@ -59,7 +59,7 @@ whole_sound (unsigned n) h = of_test (nat_lt n (2 ^ 63))
 whole_sound (negative z) h = signed_sound z h
 whole_sound (float x) h = tt
 
-key_sound : (found : Option Data) → IfSome found IsLegible → IfSome (key_of found) (λ key. IsSound (key_data key))
+key_sound : (located : Option Data) → IfSome located IsLegible → IfSome (key_of located) (λ key. IsSound (key_data key))
 key_sound None h = tt
 key_sound (Some null) h = tt
 key_sound (Some (boolean b)) h = tt
@@ -100,12 +100,12 @@ element_texts d h =
 
 -- ---- parts of an address and of a type
 
--- what stands behind a module's address and a dot
+-- the rest after a module's address and a dot
 joined_utf8 : (module_address relative address : List ℕ) → IsUtf8 address → IsJoined module_address relative address → IsUtf8 relative
 joined_utf8 [] relative address h is = subst IsUtf8 is h
-joined_utf8 (byte ∷ bytes) relative address h is = behind (byte ∷ bytes) 46 relative (subst IsUtf8 is h) (omega arith)
+joined_utf8 (byte ∷ bytes) relative address h is = after (byte ∷ bytes) 46 relative (subst IsUtf8 is h) (omega arith)
 
--- what stands before the first underscore, behind a part of the text
+-- the part before the first underscore, in the rest of a text
 pub front_utf8 : (p xs : List ℕ) → IsUtf8 (p ++ xs) → IsUtf8 (p ++ before_first (λ byte. byte == 95) xs)
 front_utf8 p [] h = h
 front_utf8 p (x ∷ xs) h = of_test (x == 95) refl (front_utf8 (p ++ x ∷ []) xs (subst IsUtf8 (sym (append_assoc p (x ∷ []) xs)) h))
@@ -131,7 +131,8 @@ last_of [] k h e = absurd cc
 last_of (kind ∷ kinds) zero h e = let none : kinds ≡ [] = h.0 (same_Some kind Read e) in ap (λ (l : List StepKind). suc (length l)) none
 last_of (kind ∷ kinds) (suc k) h e = let rest : length kinds ≡ k + 1 = last_of kinds k h.1 e in omega arith
 
--- what is read of a change: its texts, and one step or two for one object, or none; a read has no step behind it
+-- what is read of a change: its texts, and at most two steps for one object; no step comes after a
+-- read
 pub record IsReadable (change : ResourceChange) : Type 0 where
   pub address : IsUtf8 change.address
   pub module_address : IsUtf8 change.module_address
@@ -155,7 +156,7 @@ change_texts change has relative = record {
   prior_id = has.prior_id;
 }
 
--- two at most, for one object
+-- a change has at most two steps, for one object
 abbrev AreFew : List StepKind → Type 0
 AreFew steps = (length steps ≤ 2) × EndWithReads steps × AreStepsOfOne steps
 

@@ -9,16 +9,16 @@ use Rattle.std.proofs.Math.Utf8.{low_scalar}
 use Rattle.std.proofs.lemmas.Bool.{eqb-true, or_cases}
 use Rattle.std.proofs.lemmas.Str.{IsUtf8-append, IsUtf8-encode, IsUtf8-nil}
 use Rattle.apply_address.specs.Address.{Address, Named, written_module, written_modules, written_named, written_resource}
-use Rattle.apply_address.specs.Keys.{IsKey, WrittenKey, no_key, number_key, said_key, text_key, written_key}
+use Rattle.apply_address.specs.Keys.{IsKey, WrittenKey, no_key, number_key, meant_key, text_key, written_key}
 use Rattle.apply_address.specs.Parts.{Parts}
-use Rattle.apply_address.specs.Pieces.{IsPiece, Piece, character_of, escape, is_doubled, long, plain, said_text, short, written_text}
+use Rattle.apply_address.specs.Pieces.{IsPiece, Piece, character_of, escape, is_doubled, long, plain, unescaped_text, short, written_text}
 use Rattle.apply_address.specs.Reading.{parts_in}
-use Rattle.apply_address.proofs.FoundAddresses.{address_found}
+use Rattle.apply_address.proofs.LocatedAddresses.{address_located}
 use Rattle.apply_plan_terraform.specs.Details.{previous_at, with_parts}
 use Rattle.apply_text.specs.Objects.{key_data}
 use Rattle.laws_check.specs.Sound.{IsSound}
-use Rattle.laws_check.specs.ToldInForm.{HasPreviousTexts}
-use Rattle.laws_check.proofs.Cuts.{before, behind}
+use Rattle.laws_check.specs.ReadBackInForm.{HasPreviousTexts}
+use Rattle.laws_check.proofs.Cuts.{before, after}
 use Rattle.laws_check.proofs.PlanTexts.{front_utf8}
 
 -- ---- a key
@@ -44,22 +44,22 @@ piece_scalar (escape letter) is = escaped_scalar letter is
 piece_scalar (short digits) is = is.2
 piece_scalar (long digits) is = is.2
 
-said_utf8 : (pieces : List Piece) → AllByRecursion IsPiece pieces → IsUtf8 (said_text pieces)
-said_utf8 [] are = IsUtf8-nil
-said_utf8 (piece ∷ pieces) are = of_test (is_doubled (written_text (piece ∷ pieces))) (said_utf8 pieces are.1)
+stated_utf8 : (pieces : List Piece) → AllByRecursion IsPiece pieces → IsUtf8 (unescaped_text pieces)
+stated_utf8 [] are = IsUtf8-nil
+stated_utf8 (piece ∷ pieces) are = of_test (is_doubled (written_text (piece ∷ pieces))) (stated_utf8 pieces are.1)
   where
-    of_test : (b : Bool) → IsUtf8 (said_text pieces) → IsUtf8 (cond b (said_text pieces) (encode_utf8 (character_of piece) ++ said_text pieces))
+    of_test : (b : Bool) → IsUtf8 (unescaped_text pieces) → IsUtf8 (cond b (unescaped_text pieces) (encode_utf8 (character_of piece) ++ unescaped_text pieces))
     of_test true rest = rest
-    of_test false rest = IsUtf8-append (encode_utf8 (character_of piece)) (said_text pieces) (IsUtf8-encode (character_of piece) (piece_scalar piece are.0)) rest
+    of_test false rest = IsUtf8-append (encode_utf8 (character_of piece)) (unescaped_text pieces) (IsUtf8-encode (character_of piece) (piece_scalar piece are.0)) rest
 
-number_sound : (z : ℤ) → FitsSigned w64 z → IsSound (key_data (said_key (number_key z)))
+number_sound : (z : ℤ) → FitsSigned w64 z → IsSound (key_data (meant_key (number_key z)))
 number_sound (pos n) fits = let less : n < 2 ^ 63 = fits.sfits in omega arith
 number_sound (negsuc n) fits = fits.sfits
 
-key_sound : (key : WrittenKey) → IsKey key → IsSound (key_data (said_key key))
+key_sound : (key : WrittenKey) → IsKey key → IsSound (key_data (meant_key key))
 key_sound no_key is = tt
 key_sound (number_key z) is = number_sound z is
-key_sound (text_key pieces) is = said_utf8 pieces is
+key_sound (text_key pieces) is = stated_utf8 pieces is
 
 -- ---- the last part
 
@@ -77,12 +77,12 @@ record AreTexts (kind_name : List ℕ) (named : Named) : Type 0 where
 typed_utf8 : (kind_name : List ℕ) (named : Named) → IsUtf8 (kind_name ++ (46 ∷ written_named named)) → AreTexts kind_name named
 typed_utf8 kind_name named text = record {
   kind = before kind_name 46 (written_named named) text (omega arith);
-  name = name_utf8 named.name named.key (behind kind_name 46 (written_named named) text (omega arith));
+  name = name_utf8 named.name named.key (after kind_name 46 (written_named named) text (omega arith));
 }
 
 last_utf8 : (is_data : Bool) (kind_name : List ℕ) (named : Named) → IsUtf8 (cond is_data (codes "data.") [] ++ kind_name ++ codes "." ++ written_named named) → AreTexts kind_name named
 last_utf8 true kind_name named text =
-    typed_utf8 kind_name named (behind (codes "data") 46 (kind_name ++ (46 ∷ written_named named)) (subst IsUtf8 (in_a_row (codes "data.") kind_name (codes ".") (written_named named)) text) (omega arith))
+    typed_utf8 kind_name named (after (codes "data") 46 (kind_name ++ (46 ∷ written_named named)) (subst IsUtf8 (in_a_row (codes "data.") kind_name (codes ".") (written_named named)) text) (omega arith))
   where
     in_a_row : (a b c d : List ℕ) → a ++ b ++ c ++ d ≡ a ++ (b ++ (c ++ d))
     in_a_row a b c d = simp append_assoc
@@ -99,7 +99,7 @@ ends_with_dot (named ∷ modules) =
     (λ some. inr (written_module named ++ some.0, ap (λ t. written_module named ++ t) some.1 ∙ sym (append_assoc (written_module named) some.0 (46 ∷ []))))
     (ends_with_dot modules)
 
--- the modules without their last dot, and what stands behind them
+-- the modules without their last dot, and the rest after them
 record AreCut (modules resource : List ℕ) : Type 0 where
   front : IsUtf8 (take (length modules - 1) modules)
   back : IsUtf8 resource
@@ -114,18 +114,18 @@ cut_utf8 modules resource (inr some) text =
     subst (λ (m : List ℕ). AreCut m resource) (sym some.1)
     (record {
       front = subst IsUtf8 (sym (ap (λ (n : ℕ). take n (front ++ 46 ∷ [])) long ∙ take-append_seam front (46 ∷ []))) (before front 46 resource whole (omega arith));
-      back = behind front 46 resource whole (omega arith);
+      back = after front 46 resource whole (omega arith);
     })
 
 -- ---- the resource that an object was
 
 previous_texts : (text : List ℕ) (parts : Parts) → IsUtf8 text → parts_in text ≡ Some parts → HasPreviousTexts (with_parts text parts)
 previous_texts text parts utf8 is =
-    let found = address_found text parts utf8 is in
-    let address : Address = found.0 in
-    let cut = cut_utf8 (written_modules address) (written_resource address) (ends_with_dot address.modules) (subst IsUtf8 found.2 utf8) in
+    let located = address_located text parts utf8 is in
+    let address : Address = located.0 in
+    let cut = cut_utf8 (written_modules address) (written_resource address) (ends_with_dot address.modules) (subst IsUtf8 located.2 utf8) in
     let last = last_utf8 address.is_data address.kind_name address.named cut.back in
-    subst (λ (p : Parts). HasPreviousTexts (with_parts text p)) (sym found.3)
+    subst (λ (p : Parts). HasPreviousTexts (with_parts text p)) (sym located.3)
     (record {
       address = utf8;
       module_address = cut.front;
@@ -133,11 +133,11 @@ previous_texts text parts utf8 is =
       provider = front_utf8 [] address.kind_name last.kind;
       kind_name = last.kind;
       name = last.name;
-      key = key_sound address.named.key found.1.named.key;
+      key = key_sound address.named.key located.1.named.key;
     })
 
-pub previous_told : (text : List ℕ) → IsUtf8 text → IfSome (previous_at text) HasPreviousTexts
-previous_told text utf8 = of_parts (parts_in text) refl
+pub previous_has_texts : (text : List ℕ) → IsUtf8 text → IfSome (previous_at text) HasPreviousTexts
+previous_has_texts text utf8 = of_parts (parts_in text) refl
   where
     of_parts : (o : Option Parts) → parts_in text ≡ o → IfSome (option_map (with_parts text) o) HasPreviousTexts
     of_parts None is = tt

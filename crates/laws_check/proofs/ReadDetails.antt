@@ -1,4 +1,4 @@
--- What is told of planned changes in Terraform's form alone is UTF-8.
+-- The texts of planned changes that only Terraform's form contains are UTF-8.
 use Rattle.std.proofs.Common.{List, [], ◌∷◌, codes, cond, map, IsUtf8, Bool, true, false, Option, Some, None}
 use Rattle.std.specs.Prelude.{IfSome}
 use Rattle.std.specs.List.{AllByRecursion}
@@ -9,11 +9,11 @@ use Rattle.apply_json.specs.Tree.{◌>>=◌, list_of, member_of, non_empty_text_
 use Rattle.apply_model.specs.declared.details.importing.Importing.{Importing}
 use Rattle.apply_plan_terraform.specs.Changes.{array_in, changes_of, elements_of}
 use Rattle.apply_plan_terraform.specs.Details.{config_in, element_details, hides_id, imported_in, importing_of, planned_id_in, previous_at, previous_of, unless_other}
-use Rattle.laws_check.specs.ToldInForm.{HasDetailTexts, HasPreviousTexts}
+use Rattle.laws_check.specs.ReadBackInForm.{HasDetailTexts, HasPreviousTexts}
 use Rattle.laws_check.proofs.Given.{next_of}
 use Rattle.laws_check.proofs.Legible.{AreLegible, IsLegible}
 use Rattle.laws_check.proofs.LookUps.{array_legible, list_legible, member_legible, non_empty_utf8}
-use Rattle.laws_check.proofs.PreviousTexts.{previous_told}
+use Rattle.laws_check.proofs.PreviousTexts.{previous_has_texts}
 
 -- ---- what is imported
 
@@ -48,16 +48,16 @@ planned_id_utf8 (Some change) h = of_test (hides_id (member_of (codes "after_sen
     of_test false = next_of IsLegible IsUtf8 (member_of (codes "after") change) (λ after. non_empty_text_of (codes "id") after) (member_legible (codes "after") change h) (non_empty_utf8 (codes "id"))
 
 previous_texts : (d : Data) → IsLegible d → IfSome (previous_of d) HasPreviousTexts
-previous_texts d h = next_of IsUtf8 HasPreviousTexts (non_empty_text_of (codes "previous_address") d) previous_at (non_empty_utf8 (codes "previous_address") d h) previous_told
+previous_texts d h = next_of IsUtf8 HasPreviousTexts (non_empty_text_of (codes "previous_address") d) previous_at (non_empty_utf8 (codes "previous_address") d h) previous_has_texts
 
 element_texts : (d : Data) → IsLegible d → HasDetailTexts (element_details d)
 element_texts d h =
     let change = member_legible (codes "change") d h in
-    let found = member_of (codes "change") d in
+    let located = member_of (codes "change") d in
     record {
-      importing = importing_texts (imported_in found) (imported_legible found change);
-      generated_config = config_utf8 found change;
-      planned_id = planned_id_utf8 found change;
+      importing = importing_texts (imported_in located) (imported_legible located change);
+      generated_config = config_utf8 located change;
+      planned_id = planned_id_utf8 located change;
       previous = previous_texts d h;
     }
 
@@ -67,11 +67,11 @@ each_element : (ds : List Data) → AllByRecursion IsLegible ds → AllByRecursi
 each_element [] h = tt
 each_element (d ∷ ds) h = (element_texts d h.0, each_element ds h.1)
 
-elements_legible : (found : Option Items) → IfSome found AreLegible → AllByRecursion IsLegible (option_map_or list_of found [])
+elements_legible : (located : Option Items) → IfSome located AreLegible → AllByRecursion IsLegible (option_map_or list_of located [])
 elements_legible None h = tt
 elements_legible (Some ds) h = list_legible ds h
 
-pub details_told : (plan : Data) → IsLegible plan → AllByRecursion HasDetailTexts (changes_of plan)
-details_told plan h =
+pub details_have_texts : (plan : Data) → IsLegible plan → AllByRecursion HasDetailTexts (changes_of plan)
+details_have_texts plan h =
     each_element (elements_of plan)
     (elements_legible (array_in plan) (next_of IsLegible AreLegible (member_of (codes "resource_changes") plan) as_array (member_legible (codes "resource_changes") plan h) array_legible))

@@ -1,4 +1,5 @@
--- The outputs that are told of a plan and a script that were read: their names are UTF-8, and what is kept of them are texts of values.
+-- The outputs of a plan and a script that were read: their names are UTF-8, and their verbatim
+-- texts are values.
 use Rattle.std.proofs.Common.{ℕ, List, codes, cond, IsUtf8, Bool, true, false, Option, Some, None, Result, Ok, Err, refl, arith}
 use Rattle.std.specs.Prelude.{IfOk, IfSome, ◌&&◌, is_some, not}
 use Rattle.std.specs.List.{AllByRecursion}
@@ -13,11 +14,11 @@ use Rattle.apply_plan.specs.declared.script.script_error.ScriptError.{ScriptErro
 use Rattle.apply_plan.specs.declared.script.script_error.ScriptError.TheVariants.{BadShape}
 use Rattle.apply_plan.specs.Results as results
 use Rattle.apply_plan_terraform.specs.declared.texts.part.Part.TheVariants.{Plan, State, Values, Script, Outputs, Output}
-use Rattle.apply_plan_terraform.specs.Outputs.{OutputsOfPlan, as_outputs, beside, fault_of, is_null, is_told, output_of, outputs_in_script, outputs_of_plan, text_at, told_outputs, unless_faulty}
+use Rattle.apply_plan_terraform.specs.Outputs.{OutputsOfPlan, as_outputs, with_plan_outputs, fault_of, is_null, is_written, output_of, outputs_in_script, outputs_of_plan, text_at, written_outputs, unless_faulty}
 use Rattle.apply_plan_terraform.specs.Texts.{with_texts}
-use Rattle.laws_check.specs.FormTexts.{HasOutputTexts, IsKeptText}
+use Rattle.laws_check.specs.FormTexts.{HasOutputTexts, IsValueText}
 use Rattle.laws_check.proofs.Given.{next_of, refused_or, unwrapped}
-use Rattle.laws_check.proofs.KeptValues.{AllCome, Comes, IsWhole, is_part, members_of, named, put_comes, text_kept}
+use Rattle.laws_check.proofs.VerbatimValues.{AllCome, Comes, IsWhole, is_part, members_of, named, put_comes, text_verbatim}
 
 abbrev pub AreOutputs : Members → Type 0
 AreOutputs ms = AllCome 125 Outputs ms
@@ -36,7 +37,7 @@ pub known_outputs : (j : Json) → IsWhole 127 j → AreOutputs (outputs_of_plan
 known_outputs j whole =
     plan_outputs (with_texts Plan j) (j, record { clear = whole.clear; numbers = whole.numbers; shallow = omega (arith, whole.shallow); tree = whole.tree }, refl)
 
-in_script : (found : Option Data) → IfSome found (Comes 126 Outputs) → IfOk (outputs_in_script found) AreOutputs
+in_script : (located : Option Data) → IfSome located (Comes 126 Outputs) → IfOk (outputs_in_script located) AreOutputs
 in_script None h = tt
 in_script (Some d) h = of_test (is_null (as_str d))
   where
@@ -56,31 +57,31 @@ pub script_outputs : (plan : OutputsOfPlan) (d : Data) → Comes 127 Script d �
 script_outputs plan d comes =
     without_fault plan (outputs_in_script (get (codes "outputs") d)) (in_script (get (codes "outputs") d) (named 126 Script Outputs (codes "outputs") refl d comes))
 
--- ---- what is told of them
+-- ---- their texts
 
-null_kept : IsKeptText (codes "null")
+null_verbatim : IsValueText (codes "null")
 unfolding print_from
-null_kept = (null, record { json = json.null; text_is = refl; utf8 = IsUtf8-are_ascii (codes "null") refl; numbers = tt; shallow = omega arith; value_is = refl })
+null_verbatim = (null, record { json = json.null; text_is = refl; utf8 = IsUtf8-are_ascii (codes "null") refl; numbers = tt; shallow = omega arith; value_is = refl })
 
 one_output : (name : List ℕ) (d : Data) → IsUtf8 name → Comes 125 Output d → HasOutputTexts (output_of name d)
 one_output name d utf8 comes = record {
   name = utf8;
-  kind = unwrapped IsKeptText (text_at (codes "type") d) (codes "null") (text_kept 124 (omega arith) Output (codes "type") refl d comes) null_kept;
-  value = λ e. unwrapped IsKeptText (text_at (codes "value") d) (codes "null") (text_kept 124 (omega arith) Output (codes "value") refl d comes) null_kept;
+  kind = unwrapped IsValueText (text_at (codes "type") d) (codes "null") (text_verbatim 124 (omega arith) Output (codes "type") refl d comes) null_verbatim;
+  value = λ e. unwrapped IsValueText (text_at (codes "value") d) (codes "null") (text_verbatim 124 (omega arith) Output (codes "value") refl d comes) null_verbatim;
 }
 
 each_output : (ms : Members) → AreOutputs ms → AllByRecursion HasOutputTexts (as_outputs ms)
 each_output no_members come = tt
 each_output (member name d ms) come = (one_output name d come.0.0 (is_part 125 Outputs Output name d refl come.0.1), each_output ms come.1)
 
-both_come : (changes : Option Data) (known found : Members) → AreOutputs known → AreOutputs found → AreOutputs (beside changes known found)
-both_come changes no_members found come others = others
-both_come changes (member name d ms) found come others =
-    both_come changes ms (cond (is_told changes name d && not (is_some (get_member name found))) (put name d found) found) come.1 (of_test (is_told changes name d && not (is_some (get_member name found))))
+both_come : (changes : Option Data) (known located : Members) → AreOutputs known → AreOutputs located → AreOutputs (with_plan_outputs changes known located)
+both_come changes no_members located come others = others
+both_come changes (member name d ms) located come others =
+    both_come changes ms (cond (is_written changes name d && not (is_some (get_member name located))) (put name d located) located) come.1 (of_test (is_written changes name d && not (is_some (get_member name located))))
   where
-    of_test : (b : Bool) → AreOutputs (cond b (put name d found) found)
-    of_test true = put_comes 125 Outputs name d found come.0.0 come.0.1 others
+    of_test : (b : Bool) → AreOutputs (cond b (put name d located) located)
+    of_test true = put_comes 125 Outputs name d located come.0.0 come.0.1 others
     of_test false = others
 
-pub outputs_told : (plan : OutputsOfPlan) (script : Members) → AreOutputs plan.known → AreOutputs script → AllByRecursion HasOutputTexts (told_outputs plan script)
-outputs_told plan script known said = each_output (beside plan.changes plan.known script) (both_come plan.changes plan.known script known said)
+pub outputs_read_back : (plan : OutputsOfPlan) (script : Members) → AreOutputs plan.known → AreOutputs script → AllByRecursion HasOutputTexts (written_outputs plan script)
+outputs_read_back plan script known stated = each_output (with_plan_outputs plan.changes plan.known script) (both_come plan.changes plan.known script known stated)

@@ -1,4 +1,4 @@
--- What messages say of a plan and a script that were read is UTF-8.
+-- The texts of a plan and a script that messages contain are UTF-8.
 use Rattle.std.proofs.Common.{ℕ, List, [], ◌∷◌, IsUtf8, slice_get, unwrap_or, Option, Some, None, cond, Bool, true, false}
 use Rattle.std.specs.Prelude.{IfSome}
 use Rattle.std.specs.List.{AllByRecursion}
@@ -12,19 +12,19 @@ use Rattle.apply_model.specs.declared.script.timed_text.TimedText.{TimedText}
 use Rattle.laws_run.specs.Plans.{HasRelativeAddress}
 use Rattle.apply_plan.specs.Plan.SavedPlan.{SavedPlan}
 use Rattle.apply_plan.specs.Script.Outcome.{default_outcome, diag_of_ending, failure_by, failure_of, first_diag}
-use Rattle.apply_plan.specs.Script.OutcomeMap.{OutcomeMap, given_outcome, outcome_of}
-use Rattle.apply_text.specs.Message.{no_diag, told_failure, told_id, warning_of}
-use Rattle.laws_check.specs.FormTexts.{HasKeptDiags}
+use Rattle.apply_plan.specs.Script.OutcomeMap.{OutcomeMap, stated_outcome, outcome_of}
+use Rattle.apply_text.specs.Message.{no_diag, failure_diag, provider_id, warning_of}
+use Rattle.laws_check.specs.FormTexts.{HasVerbatimDiagnostics}
 use Rattle.laws_check.specs.Texts.{HasOutcomeTexts, HasTexts}
 use Rattle.laws_check.proofs.Given.{first_of_two, held_at, is_given, unwrapped}
-use Rattle.laws_check.proofs.KeptDiags.{IsToldDiag, has_kept}
+use Rattle.laws_check.proofs.VerbatimDiagnostics.{HasStatedDiagnostic, has_verbatim}
 use Rattle.laws_check.proofs.PlanTexts.{IsReadable, IsReadablePlan, change_texts}
-use Rattle.laws_check.proofs.ScriptTexts.{HasEndingTexts, HasProvisionerTexts, HasStepTexts, HasTimedText, IsReadableScript, IsSaid, MayHaveDiag}
+use Rattle.laws_check.proofs.ScriptTexts.{HasEndingTexts, HasProvisionerTexts, HasStepTexts, HasTimedText, IsReadableScript, IsConsistent, MayHaveDiag}
 
 -- ---- a step
 
-nothing : IsToldDiag no_diag
-nothing = (record { summary = IsUtf8-nil; detail = IsUtf8-nil }, has_kept [] [] None None tt tt)
+nothing : HasStatedDiagnostic no_diag
+nothing = (record { summary = IsUtf8-nil; detail = IsUtf8-nil }, has_verbatim [] [] None None tt tt)
 
 why_it_ended : (result : Ending) → HasEndingTexts result → MayHaveDiag (diag_of_ending result)
 why_it_ended (Done id warning) h = tt
@@ -33,39 +33,39 @@ why_it_ended (Warned diag) h = tt
 
 why_first : (provisioners : List Provisioner) → AllByRecursion HasProvisionerTexts provisioners → MayHaveDiag (first_diag provisioners)
 why_first [] h = tt
-why_first (p ∷ ps) h = first_of_two IsToldDiag (failure_by p) (first_diag ps) (unless p.may_fail h.0.failed) (why_first ps h.1)
+why_first (p ∷ ps) h = first_of_two HasStatedDiagnostic (failure_by p) (first_diag ps) (unless p.may_fail h.0.failed) (why_first ps h.1)
   where
     unless : (b : Bool) → MayHaveDiag p.failed → MayHaveDiag (cond b None p.failed)
     unless true why = tt
     unless false why = why
 
-id_of : (result : Ending) → HasEndingTexts result → IfSome (told_id result) IsUtf8
+id_of : (result : Ending) → HasEndingTexts result → IfSome (provider_id result) IsUtf8
 id_of (Done id warning) h = h.0
 id_of (Failed diag) h = tt
 id_of (Warned diag) h = tt
 
-warned : (result : Ending) → HasEndingTexts result → IsToldDiag (warning_of result)
-warned (Done id warning) h = unwrapped IsToldDiag warning no_diag h.1 nothing
+warned : (result : Ending) → HasEndingTexts result → HasStatedDiagnostic (warning_of result)
+warned (Done id warning) h = unwrapped HasStatedDiagnostic warning no_diag h.1 nothing
 warned (Failed diag) h = nothing
 warned (Warned diag) h = h
 
-name_at : (found : Option Provisioner) → IfSome found HasProvisionerTexts → IsUtf8 (option_map_or (λ (provisioner : Provisioner). provisioner.name) found [])
+name_at : (located : Option Provisioner) → IfSome located HasProvisionerTexts → IsUtf8 (option_map_or (λ (provisioner : Provisioner). provisioner.name) located [])
 name_at None h = IsUtf8-nil
 name_at (Some provisioner) h = h.name
 
-text_at : (found : Option TimedText) → IfSome found HasTimedText → IsUtf8 (option_map_or (λ (timed : TimedText). timed.text) found [])
+text_at : (located : Option TimedText) → IfSome located HasTimedText → IsUtf8 (option_map_or (λ (timed : TimedText). timed.text) located [])
 text_at None h = IsUtf8-nil
 text_at (Some timed) h = h
 
-output_at : (line : ℕ) (found : Option Provisioner) → IfSome found HasProvisionerTexts
-    → IsUtf8 (option_map_or (λ (provisioner : Provisioner). option_map_or (λ (timed : TimedText). timed.text) (slice_get provisioner.output line) []) found [])
+output_at : (line : ℕ) (located : Option Provisioner) → IfSome located HasProvisionerTexts
+    → IsUtf8 (option_map_or (λ (provisioner : Provisioner). option_map_or (λ (timed : TimedText). timed.text) (slice_get provisioner.output line) []) located [])
 output_at line None h = IsUtf8-nil
 output_at line (Some provisioner) h = text_at (slice_get provisioner.output line) (held_at HasTimedText provisioner.output line h.output)
 
-failed : (outcome : Outcome) → HasStepTexts outcome → IsToldDiag (told_failure outcome)
+failed : (outcome : Outcome) → HasStepTexts outcome → HasStatedDiagnostic (failure_diag outcome)
 failed outcome has =
-    unwrapped IsToldDiag (failure_of outcome) no_diag
-    (first_of_two IsToldDiag (diag_of_ending outcome.result) (first_diag outcome.provisioners) (why_it_ended outcome.result has.result) (why_first outcome.provisioners has.provisioners)) nothing
+    unwrapped HasStatedDiagnostic (failure_of outcome) no_diag
+    (first_of_two HasStatedDiagnostic (diag_of_ending outcome.result) (first_diag outcome.provisioners) (why_it_ended outcome.result has.result) (why_first outcome.provisioners has.provisioners)) nothing
 
 outcome_texts : (outcome : Outcome) → HasStepTexts outcome → HasOutcomeTexts outcome
 outcome_texts outcome has = record {
@@ -79,28 +79,28 @@ outcome_texts outcome has = record {
 default_texts : HasStepTexts default_outcome
 default_texts = record { result = (tt, tt); provisioners = tt }
 
-outcome_kept : (outcome : Outcome) → HasStepTexts outcome → HasKeptDiags outcome
-outcome_kept outcome has = record { failure = (failed outcome has).1; warning = (warned outcome.result has.result).1 }
+outcome_verbatim : (outcome : Outcome) → HasStepTexts outcome → HasVerbatimDiagnostics outcome
+outcome_verbatim outcome has = record { failure = (failed outcome has).1; warning = (warned outcome.result has.result).1 }
 
-given_texts : (found : Option Outcome) → IfSome found IsSaid → HasOutcomeTexts (unwrap_or found default_outcome)
+given_texts : (located : Option Outcome) → IfSome located IsConsistent → HasOutcomeTexts (unwrap_or located default_outcome)
 given_texts None h = outcome_texts default_outcome default_texts
 given_texts (Some outcome) h = outcome_texts outcome h.texts
 
-given_kept : (found : Option Outcome) → IfSome found IsSaid → HasKeptDiags (unwrap_or found default_outcome)
-given_kept None h = outcome_kept default_outcome default_texts
-given_kept (Some outcome) h = outcome_kept outcome h.texts
+given_verbatim : (located : Option Outcome) → IfSome located IsConsistent → HasVerbatimDiagnostics (unwrap_or located default_outcome)
+given_verbatim None h = outcome_verbatim default_outcome default_texts
+given_verbatim (Some outcome) h = outcome_verbatim outcome h.texts
 
 -- ---- the plan and the script
 
 pub read_texts : (plan : SavedPlan) (script : OutcomeMap) → IsReadablePlan plan → AllByRecursion HasRelativeAddress plan.changes → IsReadableScript script → HasTexts plan script
-read_texts plan script readable relative said = record {
+read_texts plan script readable relative stated = record {
   version = readable.version;
   changes = λ c change is.
       change_texts change (is_given IsReadable (slice_get plan.changes c) change (held_at IsReadable plan.changes c readable.changes) is)
       (is_given HasRelativeAddress (slice_get plan.changes c) change (held_at HasRelativeAddress plan.changes c relative) is);
-  outcomes = λ c k. given_texts (given_outcome script c k) (said c k);
+  outcomes = λ c k. given_texts (stated_outcome script c k) (stated c k);
 }
 
--- what is kept of the diagnostics of a script are texts of values
-pub read_kept : (script : OutcomeMap) → IsReadableScript script → (c k : ℕ) → HasKeptDiags (outcome_of script c k)
-read_kept script said c k = given_kept (given_outcome script c k) (said c k)
+-- the verbatim texts of a script's diagnostics are values
+pub read_verbatim : (script : OutcomeMap) → IsReadableScript script → (c k : ℕ) → HasVerbatimDiagnostics (outcome_of script c k)
+read_verbatim script stated c k = given_verbatim (stated_outcome script c k) (stated c k)

@@ -1,4 +1,5 @@
--- The texts of a script that was read are UTF-8, what is kept of its diagnostics are texts of values, and its steps are within the limits.
+-- The texts of a script that was read are UTF-8, the verbatim texts of its diagnostics are values,
+-- and its steps are within the limits.
 use Rattle.std.proofs.Common.{◌≡◌, ℕ, zero, suc, ◌+◌, ◌==◌, List, [], ◌∷◌, IsUtf8, codes, cond, find, length, map, nat_lt, slice_get, Bool, true, false, Option, Some, None, Ok, Err, refl}
 use Rattle.std.specs.Prelude.{◌&&◌, ◌||◌, IfOk, IfSome, is_some, not, option_map, sum_by}
 use Rattle.std.specs.Option.{option_map_or}
@@ -15,7 +16,7 @@ use Rattle.apply_model.specs.declared.script.provisioner.Provisioner.{Provisione
 use Rattle.apply_model.specs.declared.script.timed_text.TimedText.{TimedText}
 use Rattle.apply_model.specs.declared.script.script_step.ScriptStep.{ScriptStep}
 use Rattle.apply_model.specs.declared.script.wait.Wait.{Wait}
-use Rattle.apply_model.specs.Script.OutcomeMap.{given_step}
+use Rattle.apply_model.specs.Script.OutcomeMap.{stated_step}
 use Rattle.apply_model.specs.Script.Step.{answer_to}
 use Rattle.apply_plan.specs.declared.script.script_error.ScriptError.{ScriptError}
 use Rattle.apply_plan.specs.declared.script.script_error.ScriptError.TheVariants.{TooLarge, NotJson, BadShape, UnknownChange, Duplicate, NeverBegins}
@@ -23,54 +24,54 @@ use Rattle.apply_plan.specs.Plan.ResourceChange.{ResourceChange}
 use Rattle.apply_plan.specs.Plan.SavedPlan.{SavedPlan}
 use Rattle.apply_plan.specs.Results.{all_or_first, each_with_earlier, or_refuse, unless_refused}
 use Rattle.apply_plan.specs.Script.EntriesView.{IsWithin}
-use Rattle.apply_plan.specs.Script.Entry.{Entry, EntryStep, Failure, OutputItem, all_some, diag_from, answered_with, diag_or_none, each_of, ending_from, ending_of, entry_of, failure_from, failure_or_none, flag_or_false, is_kept, may_fail_or_not, number_or_none, object_or_none, only_warns_or_not, output_from, output_of_members, provisioner_from, says_nothing, seconds_of, skipped_with, step_from, timed, timed_outputs, wait_from}
+use Rattle.apply_plan.specs.Script.Entry.{Entry, EntryStep, Failure, OutputItem, all_some, diag_from, answered_with, diag_or_none, each_of, ending_from, ending_of, entry_of, failure_from, failure_or_none, flag_or_false, is_verbatim_name, may_fail_or_not, number_or_none, object_or_none, only_warns_or_not, output_from, output_of_members, provisioner_from, is_bare, seconds_of, skipped_with, step_from, timed, timed_outputs, wait_from}
 use Rattle.apply_plan.specs.Script.Outcome.{IsBounded, are_in_time, is_failed, is_warned}
-use Rattle.apply_plan.specs.Script.OutcomeMap.{OutcomeMap, Said, by_number, change_of_entry, count_in, elements_of, entry_at, given_outcome, is_stuck, names_change, said_at, said_by, said_of, script_of, script_of_entries, script_of_tree}
+use Rattle.apply_plan.specs.Script.OutcomeMap.{OutcomeMap, ResolvedEntry, by_number, change_of_entry, count_in, elements_of, entry_at, stated_outcome, is_stuck, names_change, stated_steps, resolved_by, outcomes_of, script_of, script_of_entries, script_of_tree}
 use Rattle.apply_plan.specs.Script.Refusals.{fault_of_entry}
-use Rattle.apply_plan.specs.Script.WaitedStep.{step_said, step_waited, with_waits}
+use Rattle.apply_plan.specs.Script.WaitedStep.{resolved_step, step_waited, with_waits}
 use Rattle.apply_plan.proofs.Scripts.Limits.{said_is_within}
 use Rattle.laws_check.proofs.Given.{AreAnswers, all_given, any_given, each_answered, each_held, gone_on, held_at, is_answered, mapped, next_of, refused_or, then_of}
-use Rattle.laws_check.proofs.KeptDiags.{IsToldDiag, MayKeep, has_kept}
+use Rattle.laws_check.proofs.VerbatimDiagnostics.{HasStatedDiagnostic, MayKeep, has_verbatim}
 use Rattle.laws_check.proofs.LookUps.{filled_utf8, member_legible, non_empty_utf8, str_utf8, text_or_utf8, text_utf8}
 use Rattle.laws_check.proofs.OwnMembers.{AreHeld, IsHeld, IsScriptTree, array_held, elements_held, items_held, list_held, member_held, object_own, script_tree}
-use Rattle.laws_check.proofs.ReadBytes.{made_of_kept}
+use Rattle.laws_check.proofs.ReadBytes.{made_of_verbatim}
 
 -- ---- how a step ends
 
-diag_texts : (d : Data) → IsHeld d → IfSome (diag_from d) IsToldDiag
+diag_texts : (d : Data) → IsHeld d → IfSome (diag_from d) HasStatedDiagnostic
 diag_texts d h =
-    next_of IsUtf8 IsToldDiag (text_of (codes "summary") d) _ (text_utf8 (codes "summary") d h.0)
-    (λ summary summary_is. next_of IsUtf8 IsToldDiag (text_or [] (member_of (codes "detail") d)) _ (text_or_utf8 [] (member_of (codes "detail") d) IsUtf8-nil (member_legible (codes "detail") d h.0))
-    (λ detail detail_is. next_of MayKeep IsToldDiag (object_or_none (member_of (codes "range") d)) _ (object_own (codes "range") d refl h)
-    (λ range range_is. next_of MayKeep IsToldDiag (object_or_none (member_of (codes "snippet") d)) _ (object_own (codes "snippet") d refl h)
-    (λ snippet snippet_is. (record { summary = summary_is; detail = detail_is }, has_kept summary detail range snippet range_is snippet_is)))))
+    next_of IsUtf8 HasStatedDiagnostic (text_of (codes "summary") d) _ (text_utf8 (codes "summary") d h.0)
+    (λ summary summary_is. next_of IsUtf8 HasStatedDiagnostic (text_or [] (member_of (codes "detail") d)) _ (text_or_utf8 [] (member_of (codes "detail") d) IsUtf8-nil (member_legible (codes "detail") d h.0))
+    (λ detail detail_is. next_of MayKeep HasStatedDiagnostic (object_or_none (member_of (codes "range") d)) _ (object_own (codes "range") d refl h)
+    (λ range range_is. next_of MayKeep HasStatedDiagnostic (object_or_none (member_of (codes "snippet") d)) _ (object_own (codes "snippet") d refl h)
+    (λ snippet snippet_is. (record { summary = summary_is; detail = detail_is }, has_verbatim summary detail range snippet range_is snippet_is)))))
 
 -- where there is a diagnostic
 abbrev pub MayHaveDiag : Option Diag → Type 0
-MayHaveDiag diag = IfSome diag IsToldDiag
+MayHaveDiag diag = IfSome diag HasStatedDiagnostic
 
-some_diag : (found : Option Data) → IfSome found IsHeld → IfSome (diag_or_none found) MayHaveDiag
+some_diag : (located : Option Data) → IfSome located IsHeld → IfSome (diag_or_none located) MayHaveDiag
 some_diag None h = tt
-some_diag (Some d) h = mapped IsToldDiag MayHaveDiag Some (diag_from d) (λ diag texts. texts) (diag_texts d h)
+some_diag (Some d) h = mapped HasStatedDiagnostic MayHaveDiag Some (diag_from d) (λ diag texts. texts) (diag_texts d h)
 
 abbrev pub HasEndingTexts : Ending → Type 0
 HasEndingTexts (Done id warning) = IfSome id IsUtf8 × MayHaveDiag warning
-HasEndingTexts (Failed diag) = IsToldDiag diag
-HasEndingTexts (Warned diag) = IsToldDiag diag
+HasEndingTexts (Failed diag) = HasStatedDiagnostic diag
+HasEndingTexts (Warned diag) = HasStatedDiagnostic diag
 
 -- where the provider fails
 abbrev MayHaveFailure : Option Failure → Type 0
-MayHaveFailure failure = IfSome failure (λ failure. IsToldDiag failure.diag)
+MayHaveFailure failure = IfSome failure (λ failure. HasStatedDiagnostic failure.diag)
 
-failure_texts : (d : Data) → IsHeld d → IfSome (failure_from d) (λ failure. IsToldDiag failure.diag)
+failure_texts : (d : Data) → IsHeld d → IfSome (failure_from d) (λ failure. HasStatedDiagnostic failure.diag)
 failure_texts d h =
-    let Q = λ (failure : Failure). IsToldDiag failure.diag in
-    next_of IsToldDiag Q (diag_from d) _ (diag_texts d h)
+    let Q = λ (failure : Failure). HasStatedDiagnostic failure.diag in
+    next_of HasStatedDiagnostic Q (diag_from d) _ (diag_texts d h)
     (λ diag texts. next_of (λ _. Unit {0}) Q (only_warns_or_not (member_of (codes "severity") d)) _ (any_given (only_warns_or_not (member_of (codes "severity") d))) (λ only_warns u. texts))
 
-some_failure : (found : Option Data) → IfSome found IsHeld → IfSome (failure_or_none found) MayHaveFailure
+some_failure : (located : Option Data) → IfSome located IsHeld → IfSome (failure_or_none located) MayHaveFailure
 some_failure None h = tt
-some_failure (Some d) h = mapped (λ (failure : Failure). IsToldDiag failure.diag) MayHaveFailure Some (failure_from d) (λ failure texts. texts) (failure_texts d h)
+some_failure (Some d) h = mapped (λ (failure : Failure). HasStatedDiagnostic failure.diag) MayHaveFailure Some (failure_from d) (λ failure texts. texts) (failure_texts d h)
 
 ended : (id : Option (List ℕ)) (warning : Option Diag) (failed : Option Failure) → IfSome id IsUtf8 → MayHaveDiag warning → MayHaveFailure failed → IfSome (ending_from id warning failed) HasEndingTexts
 ended id warning None named warned why = (named, warned)
@@ -92,9 +93,9 @@ ending_texts d h =
 
 -- ---- provisioners
 
-each_legible : {A : Type 0} (P : A → Type 0) (part : Data → Option A) (found : Option Data) → ((d : Data) → IsHeld d → IfSome (part d) P) → IfSome found IsHeld → IfSome (each_of part found) (AllByRecursion P)
-each_legible P part found step h =
-    next_of AreHeld (AllByRecursion P) (items_or_empty found) _ (items_held found h) (λ items legible. all_given IsHeld P part (list_of items) step (list_held items legible))
+each_legible : {A : Type 0} (P : A → Type 0) (part : Data → Option A) (located : Option Data) → ((d : Data) → IsHeld d → IfSome (part d) P) → IfSome located IsHeld → IfSome (each_of part located) (AllByRecursion P)
+each_legible P part located step h =
+    next_of AreHeld (AllByRecursion P) (items_or_empty located) _ (items_held located h) (λ items legible. all_given IsHeld P part (list_of items) step (list_held items legible))
 
 -- ---- what a provisioner puts out
 
@@ -113,7 +114,7 @@ members_texts d h =
 item_texts : (d : Data) → IsHeld d → IfSome (output_from d) HasItemText
 item_texts d h = either (as_str d) (str_utf8 d h.0)
   where
-    either : (found : Option (List ℕ)) → IfSome found IsUtf8 → IfSome (option_map_or (λ text. Some (record { after = None; text = text })) found (output_of_members d)) HasItemText
+    either : (located : Option (List ℕ)) → IfSome located IsUtf8 → IfSome (option_map_or (λ text. Some (record { after = None; text = text })) located (output_of_members d)) HasItemText
     either None is = members_texts d h
     either (Some text) is = is
 
@@ -150,7 +151,7 @@ pub record HasStepTexts (outcome : Outcome) : Type 0 where
   pub result : HasEndingTexts outcome.result
   pub provisioners : AllByRecursion HasProvisionerTexts outcome.provisioners
 
--- the same of a step with the items of its `after`, which may be skipped
+-- a step with the items of its `after`, which may be skipped
 abbrev pub HasEntryStepTexts : EntryStep → Type 0
 HasEntryStepTexts step = IfSome step.outcome HasStepTexts
 
@@ -172,11 +173,11 @@ step_texts d h =
     of_one true outcome has = tt
     of_one false outcome has = has
 
-    of_kind : (skipped told : Bool) (seconds : Option ℕ) (result : Ending) (provisioners : List Provisioner) → HasEndingTexts result → AllByRecursion HasProvisionerTexts provisioners
-        → IfSome (cond skipped (skipped_with told result provisioners) (answered_with seconds result provisioners)) (λ (outcome : Option Outcome). IfSome outcome HasStepTexts)
-    of_kind true told seconds result provisioners ends all = of_none (told || (not (says_nothing result) || nat_lt 0 (length provisioners)))
-    of_kind false told None result provisioners ends all = tt
-    of_kind false told (Some seconds) result provisioners ends all =
+    of_kind : (skipped stated : Bool) (seconds : Option ℕ) (result : Ending) (provisioners : List Provisioner) → HasEndingTexts result → AllByRecursion HasProvisionerTexts provisioners
+        → IfSome (cond skipped (skipped_with stated result provisioners) (answered_with seconds result provisioners)) (λ (outcome : Option Outcome). IfSome outcome HasStepTexts)
+    of_kind true stated seconds result provisioners ends all = of_none (stated || (not (is_bare result) || nat_lt 0 (length provisioners)))
+    of_kind false stated None result provisioners ends all = tt
+    of_kind false stated (Some seconds) result provisioners ends all =
         of_one ((is_failed result || is_warned result) && nat_lt 0 (length provisioners)) (record { seconds = seconds; provisioners = provisioners; result = result; after = [] }) (record { result = ends; provisioners = all })
 
 entry_texts : (d : Data) → IsHeld d → IfSome (entry_of d) (λ entry. AllByRecursion HasEntryStepTexts entry.steps)
@@ -191,72 +192,72 @@ entry_texts d h =
 
 -- ---- the entries
 
--- what is said of a step
-pub record IsSaid (outcome : Outcome) : Type 0 where
+-- a step of the script
+pub record IsConsistent (outcome : Outcome) : Type 0 where
   pub texts : HasStepTexts outcome
   pub bounded : IsBounded outcome
 
--- what is said of a step that may be skipped
-abbrev pub IsToldSo : ScriptStep → Type 0
-IsToldSo step = IfSome (answer_to step) IsSaid
+-- a step of the script, which may be skipped
+abbrev pub HasStatedTexts : ScriptStep → Type 0
+HasStatedTexts step = IfSome (answer_to step) IsConsistent
 
--- what an entry says
-abbrev pub AreSaid : Said → Type 0
-AreSaid one = AllByRecursion IsToldSo one.steps
+-- an entry of the script
+abbrev pub AreConsistent : ResolvedEntry → Type 0
+AreConsistent one = AllByRecursion HasStatedTexts one.steps
 
 -- a step with what it waits for
-told_so : (outcome : Option Outcome) (waits : List Wait) → IfSome outcome HasStepTexts → IsWithin (with_waits outcome waits) → IsToldSo (with_waits outcome waits)
-told_so None waits has within = tt
-told_so (Some outcome) waits has within = record { texts = record { result = has.result; provisioners = has.provisioners }; bounded = within }
+read_back_so : (outcome : Option Outcome) (waits : List Wait) → IfSome outcome HasStepTexts → IsWithin (with_waits outcome waits) → HasStatedTexts (with_waits outcome waits)
+read_back_so None waits has within = tt
+read_back_so (Some outcome) waits has within = record { texts = record { result = has.result; provisioners = has.provisioners }; bounded = within }
 
-both_held : (changes : List ResourceChange) (steps : List EntryStep) → AllByRecursion HasEntryStepTexts steps → AllByRecursion IsWithin (map (step_said changes) steps) → AllByRecursion IsToldSo (map (step_said changes) steps)
+both_held : (changes : List ResourceChange) (steps : List EntryStep) → AllByRecursion HasEntryStepTexts steps → AllByRecursion IsWithin (map (resolved_step changes) steps) → AllByRecursion HasStatedTexts (map (resolved_step changes) steps)
 both_held changes [] has within = tt
-both_held changes (step ∷ steps) has within = (told_so step.outcome (filter_map (step_waited changes) step.after) has.0 within.0, both_held changes steps has.1 within.1)
+both_held changes (step ∷ steps) has within = (read_back_so step.outcome (filter_map (step_waited changes) step.after) has.0 within.0, both_held changes steps has.1 within.1)
 
-entry_said : (changes : List ResourceChange) (before : List Data) (d : Data) → IsHeld d → IfOk (entry_at changes before d) AreSaid
+entry_stated : (changes : List ResourceChange) (before : List Data) (d : Data) → IsHeld d → IfOk (entry_at changes before d) AreConsistent
 unfolding entry_at
-entry_said changes before d h =
-    then_of (λ entry. AllByRecursion HasEntryStepTexts entry.steps) AreSaid (or_refuse (BadShape (Some n)) (entry_of d)) _
+entry_stated changes before d h =
+    then_of (λ entry. AllByRecursion HasEntryStepTexts entry.steps) AreConsistent (or_refuse (BadShape (Some n)) (entry_of d)) _
     (refused_or (λ entry. AllByRecursion HasEntryStepTexts entry.steps) (BadShape (Some n)) (entry_of d) (entry_texts d h))
-    (λ entry has. then_of (λ _. Unit {0}) AreSaid (or_refuse (UnknownChange n) (change_of_entry changes entry)) _ (refused_or (λ _. Unit {0}) (UnknownChange n) (change_of_entry changes entry) (any_given (change_of_entry changes entry)))
-    (λ found u. of_tests found.0 found.1 entry.steps has (list_any (names_change found.1) before) (fault_of_entry n changes (sum_by count_in before) found.1 entry.steps) refl))
+    (λ entry has. then_of (λ _. Unit {0}) AreConsistent (or_refuse (UnknownChange n) (change_of_entry changes entry)) _ (refused_or (λ _. Unit {0}) (UnknownChange n) (change_of_entry changes entry) (any_given (change_of_entry changes entry)))
+    (λ located u. of_tests located.0 located.1 entry.steps has (list_any (names_change located.1) before) (fault_of_entry n changes (sum_by count_in before) located.1 entry.steps) refl))
   where
     n : ℕ
     n = length before
 
     of_tests : (number : ℕ) (change : ResourceChange) (steps : List EntryStep) → AllByRecursion HasEntryStepTexts steps → (b : Bool) (fault : Option ScriptError) → fault_of_entry n changes (sum_by count_in before) change steps ≡ fault
-        → IfOk (cond b (Err (Duplicate n)) (unless_refused fault (said_by changes number steps))) AreSaid
+        → IfOk (cond b (Err (Duplicate n)) (unless_refused fault (resolved_by changes number steps))) AreConsistent
     of_tests number change steps has true fault is = tt
     of_tests number change steps has false (Some fault) is = tt
     of_tests number change steps has false None is =
-        both_held changes steps has (each_held IsWithin (map (step_said changes) steps) (said_is_within n changes (sum_by count_in before) change steps is))
+        both_held changes steps has (each_held IsWithin (map (resolved_step changes) steps) (said_is_within n changes (sum_by count_in before) change steps is))
 
 -- ---- the script
 
-said_all : (entries : List Said) (c : ℕ) → AllByRecursion AreSaid entries → IfSome (said_of entries c) (AllByRecursion IsToldSo)
-said_all [] c h = tt
-said_all (x ∷ entries) c h = of_test (x.change == c) (said_all entries c h.1)
+all_stated : (entries : List ResolvedEntry) (c : ℕ) → AllByRecursion AreConsistent entries → IfSome (outcomes_of entries c) (AllByRecursion HasStatedTexts)
+all_stated [] c h = tt
+all_stated (x ∷ entries) c h = of_test (x.change == c) (all_stated entries c h.1)
   where
-    of_test : (b : Bool) → IfSome (said_of entries c) (AllByRecursion IsToldSo)
-        → IfSome (option_map (λ (entry : Said). entry.steps) (cond b (Some x) (find (λ (entry : Said). entry.change == c) entries))) (AllByRecursion IsToldSo)
+    of_test : (b : Bool) → IfSome (outcomes_of entries c) (AllByRecursion HasStatedTexts)
+        → IfSome (option_map (λ (entry : ResolvedEntry). entry.steps) (cond b (Some x) (find (λ (entry : ResolvedEntry). entry.change == c) entries))) (AllByRecursion HasStatedTexts)
     of_test true rest = h.0
     of_test false rest = rest
 
 -- each outcome that is given
 abbrev pub IsReadableScript : OutcomeMap → Type 0
-IsReadableScript script = (c k : ℕ) → IfSome (given_outcome script c k) IsSaid
+IsReadableScript script = (c k : ℕ) → IfSome (stated_outcome script c k) IsConsistent
 
-by_number_said : (low n c : ℕ) (entries : List Said) → AllByRecursion AreSaid entries → AllByRecursion (λ said. IfSome said (AllByRecursion IsToldSo)) (map (said_of entries) (range_with_len low n))
-by_number_said low zero c entries h = tt
-by_number_said low (suc n) c entries h = (said_all entries low h, by_number_said (low + 1) n c entries h)
+by_number_stated : (low n c : ℕ) (entries : List ResolvedEntry) → AllByRecursion AreConsistent entries → AllByRecursion (λ script_stated. IfSome script_stated (AllByRecursion HasStatedTexts)) (map (outcomes_of entries) (range_with_len low n))
+by_number_stated low zero c entries h = tt
+by_number_stated low (suc n) c entries h = (all_stated entries low h, by_number_stated (low + 1) n c entries h)
 
-entries_readable : (count : ℕ) (entries : List Said) → AllByRecursion AreSaid entries → IsReadableScript (by_number count entries)
+entries_readable : (count : ℕ) (entries : List ResolvedEntry) → AllByRecursion AreConsistent entries → IsReadableScript (by_number count entries)
 entries_readable count entries h c k =
     let script = by_number count entries in
-    gone_on IsToldSo IsSaid answer_to (given_step script c k) (λ step told. told)
-    (gone_on (AllByRecursion IsToldSo) IsToldSo _ (said_at script c) (λ steps all. held_at IsToldSo steps k all)
-    (gone_on (λ said. IfSome said (AllByRecursion IsToldSo)) (AllByRecursion IsToldSo) (λ said. said) (slice_get script c) (λ said all. all)
-    (held_at (λ said. IfSome said (AllByRecursion IsToldSo)) script c (by_number_said 0 count c entries h))))
+    gone_on HasStatedTexts IsConsistent answer_to (stated_step script c k) (λ step stated. stated)
+    (gone_on (AllByRecursion HasStatedTexts) HasStatedTexts _ (stated_steps script c) (λ steps all. held_at HasStatedTexts steps k all)
+    (gone_on (λ script_stated. IfSome script_stated (AllByRecursion HasStatedTexts)) (AllByRecursion HasStatedTexts) (λ script_stated. script_stated) (slice_get script c) (λ script_stated all. all)
+    (held_at (λ script_stated. IfSome script_stated (AllByRecursion HasStatedTexts)) script c (by_number_stated 0 count c entries h))))
 
 unless_held : (P : OutcomeMap → Type 0) (o : Option ScriptError) (script : OutcomeMap) → P script → IfOk (unless_refused o script) P
 unless_held P None script h = h
@@ -265,9 +266,9 @@ unless_held P (Some refusal) script h = tt
 all_entries : (plan : SavedPlan) (elements : List Data) → AllByRecursion IsHeld elements → IfOk (script_of_entries plan elements) IsReadableScript
 unfolding script_of_entries
 all_entries plan elements h =
-    then_of (AreAnswers AreSaid elements) IsReadableScript (all_or_first (each_with_earlier (entry_at plan.changes) elements)) _ (each_answered IsHeld AreSaid (entry_at plan.changes) elements (entry_said plan.changes) h)
-    (λ entries said. unless_held IsReadableScript (option_map NeverBegins (position_from (is_stuck (by_number (length plan.changes) entries)) 0 entries)) (by_number (length plan.changes) entries)
-    (entries_readable (length plan.changes) entries said.0))
+    then_of (AreAnswers AreConsistent elements) IsReadableScript (all_or_first (each_with_earlier (entry_at plan.changes) elements)) _ (each_answered IsHeld AreConsistent (entry_at plan.changes) elements (entry_stated plan.changes) h)
+    (λ entries script_stated. unless_held IsReadableScript (option_map NeverBegins (position_from (is_stuck (by_number (length plan.changes) entries)) 0 entries)) (by_number (length plan.changes) entries)
+    (entries_readable (length plan.changes) entries script_stated.0))
 
 tree_readable : (plan : SavedPlan) (d : Data) → IsScriptTree d → IfOk (script_of_tree plan d) IsReadableScript
 unfolding script_of_tree
@@ -279,8 +280,8 @@ tree_readable plan d h =
 pub script_readable : (plan : SavedPlan) (bytes : List ℕ) (script : OutcomeMap) → script_of plan bytes ≡ Ok script → IsReadableScript script
 unfolding script_of
 script_readable plan bytes script e =
-    is_answered IsReadableScript _ script (made_of_kept IsScriptTree IsReadableScript is_kept TooLarge NotJson (script_of_tree plan) bytes (script_tree bytes) (tree_readable plan)) e
+    is_answered IsReadableScript _ script (made_of_verbatim IsScriptTree IsReadableScript is_verbatim_name TooLarge NotJson (script_of_tree plan) bytes (script_tree bytes) (tree_readable plan)) e
 
--- a script that says nothing
+-- the empty script
 pub nothing_readable : IsReadableScript []
 nothing_readable c k = tt

@@ -1,4 +1,5 @@
--- Of a script that was read only steps have provisioners that take them, and only reads only warn.
+-- In a script that was read only steps that may have provisioners have some, and only reads only
+-- warn.
 use Rattle.std.proofs.Common.{◌≡◌, ◌≢◌, ℕ, zero, suc, ◌+◌, ◌==◌, List, [], ◌∷◌, length, map, find, Bool, true, false, cond, Option, Some, None, Result, Ok, Err, refl, sym, ap, ◌∙◌, subst, ◌⊎◌, inl, inr, ⊎_elim, slice_get, unwrap_or, option_map, take, arith}
 use Rattle.std.specs.Prelude.{◌&&◌, ◌||◌, is_some, not, nat_lt, option_and_then, sum_by}
 use Rattle.std.specs.List.{AllByRecursion, enumerate_from, filter_map, list_any, position_from, range_with_len, zip}
@@ -15,83 +16,83 @@ use Rattle.apply_model.specs.declared.script.script_step.ScriptStep.{ScriptStep}
 use Rattle.apply_model.specs.Script.Step.{answer_to}
 use Rattle.apply_plan.specs.declared.script.script_error.ScriptError.{ScriptError}
 use Rattle.apply_plan.specs.declared.script.script_error.ScriptError.TheVariants.{TooLarge, NotJson, BadShape, UnknownChange, Duplicate, TooManySteps, SecondsRange, TooManyProvisioners, TooMuchOutput, NotACreate, WarnsNotARead, NeverBegins}
-use Rattle.apply_json.specs.Keeping.{keeping_tree_of}
+use Rattle.apply_json.specs.Verbatim.{mixed_tree_of}
 use Rattle.apply_json.specs.Tree.{list_of}
 use Rattle.apply_plan.specs.Bytes.{max_bytes}
 use Rattle.apply_plan.specs.Plan.ResourceChange.{ResourceChange}
 use Rattle.apply_plan.specs.Plan.SavedPlan.{SavedPlan}
 use Rattle.apply_plan.specs.Results.{◌>>=◌, all_or_first, each_with_earlier, or_refuse, unless_refused}
-use Rattle.apply_plan.specs.Script.Entry.{Entry, EntryStep, entry_of, is_kept}
+use Rattle.apply_plan.specs.Script.Entry.{Entry, EntryStep, entry_of, is_verbatim_name}
 use Rattle.apply_plan.specs.Script.Outcome.{default_outcome, has_too_many_provisioners, has_too_much_output, is_too_long, is_warned}
-use Rattle.apply_plan.specs.Script.OutcomeMap.{OutcomeMap, Said, by_number, change_of_entry, count_in, elements_of, entry_at, is_about, is_stuck, names_change, outcome_of, said_by, said_of, script_of, script_of_entries, script_of_tree, unless_stuck}
+use Rattle.apply_plan.specs.Script.OutcomeMap.{OutcomeMap, ResolvedEntry, by_number, change_of_entry, count_in, elements_of, entry_at, is_about, is_stuck, names_change, outcome_of, resolved_by, outcomes_of, script_of, script_of_entries, script_of_tree, unless_stuck}
 use Rattle.apply_plan.specs.Script.Refusals.{fault_of_entry, fault_of_steps, fault_of_waits, misplaces_provisioners, passes, takes_provisioners, warns_not_a_read}
-use Rattle.apply_plan.specs.Script.WaitedStep.{step_said, step_waited, with_waits}
+use Rattle.apply_plan.specs.Script.WaitedStep.{resolved_step, step_waited, with_waits}
 use Rattle.apply_plan.proofs.Results.{unless_refused_ok}
 use Rattle.apply_plan.proofs.Scripts.Limits.{both_none}
 use Rattle.laws_check.specs.Plans.{IsChange, ProvisionsCreates, ReadsComeLast, WarnsOfReads}
 
 -- ---- one entry
 
--- it is about a change with its number, whose steps have no fault
-record Suits (changes : List ResourceChange) (one : Said) : Type 0 where
+-- the entry is about a change with its number, and its steps have no fault
+record Suits (changes : List ResourceChange) (one : ResolvedEntry) : Type 0 where
   change : ResourceChange
   place : slice_get changes one.change ≡ Some change
   number : ℕ
   steps : List EntryStep
   fine : fault_of_steps number (is_some change.deposed) change.steps (map (λ step. step.outcome) steps) ≡ None
-  said : one.steps ≡ map (step_said changes) steps
+  steps_stated : one.steps ≡ map (resolved_step changes) steps
 
-found_at : {X : Type 0} (test : X → Bool) (n : ℕ) (xs : List X) (found : ℕ × X) → find (λ (p : ℕ × X). test p.1) (enumerate_from n xs) ≡ Some found → (i : ℕ) × (found.0 ≡ n + i) × (slice_get xs i ≡ Some found.1)
-found_at test n [] found e = absurd cc
-found_at {X} test n (x ∷ xs) found e = either (test x) (found_at test (n + 1) xs found) e
+found_at : {X : Type 0} (test : X → Bool) (n : ℕ) (xs : List X) (located : ℕ × X) → find (λ (p : ℕ × X). test p.1) (enumerate_from n xs) ≡ Some located → (i : ℕ) × (located.0 ≡ n + i) × (slice_get xs i ≡ Some located.1)
+found_at test n [] located e = absurd cc
+found_at {X} test n (x ∷ xs) located e = either (test x) (found_at test (n + 1) xs located) e
   where
-    either : (b : Bool) → (find (λ (p : ℕ × X). test p.1) (enumerate_from (n + 1) xs) ≡ Some found → (i : ℕ) × (found.0 ≡ n + 1 + i) × (slice_get xs i ≡ Some found.1))
-        → cond b (Some (n, x)) (find (λ (p : ℕ × X). test p.1) (enumerate_from (n + 1) xs)) ≡ Some found → (i : ℕ) × (found.0 ≡ n + i) × (slice_get (x ∷ xs) i ≡ Some found.1)
+    either : (b : Bool) → (find (λ (p : ℕ × X). test p.1) (enumerate_from (n + 1) xs) ≡ Some located → (i : ℕ) × (located.0 ≡ n + 1 + i) × (slice_get xs i ≡ Some located.1))
+        → cond b (Some (n, x)) (find (λ (p : ℕ × X). test p.1) (enumerate_from (n + 1) xs)) ≡ Some located → (i : ℕ) × (located.0 ≡ n + i) × (slice_get (x ∷ xs) i ≡ Some located.1)
     either true rest e =
-        let same = same_Some (n, x) found e in
-        (0, (let number : n ≡ found.0 = ap (λ (p : ℕ × X). p.0) same in omega arith), ap (λ (p : ℕ × X). Some p.1) same)
+        let same = same_Some (n, x) located e in
+        (0, (let number : n ≡ located.0 = ap (λ (p : ℕ × X). p.0) same in omega arith), ap (λ (p : ℕ × X). Some p.1) same)
     either false rest e =
         let later = rest e in
-        (suc later.0, (let number : found.0 ≡ n + 1 + later.0 = later.1 in omega arith), later.2)
+        (suc later.0, (let number : located.0 ≡ n + 1 + later.0 = later.1 in omega arith), later.2)
 
-module _ (changes : List ResourceChange) (earlier n : ℕ) (one : Said) where
-  of_fault : (found : ℕ × ResourceChange) (steps : List EntryStep) (again : Bool) (fault : Option ScriptError) → fault_of_entry n changes earlier found.1 steps ≡ fault → slice_get changes found.0 ≡ Some found.1
-      → cond again (Err (Duplicate n)) (unless_refused fault (said_by changes found.0 steps)) ≡ Ok one → Suits changes one
-  of_fault found steps true fault is place e = absurd cc
-  of_fault found steps false (Some fault) is place e = absurd cc
-  of_fault found steps false None is place e =
-      let same : said_by changes found.0 steps ≡ one = cc in
+module _ (changes : List ResourceChange) (earlier n : ℕ) (one : ResolvedEntry) where
+  of_fault : (located : ℕ × ResourceChange) (steps : List EntryStep) (again : Bool) (fault : Option ScriptError) → fault_of_entry n changes earlier located.1 steps ≡ fault → slice_get changes located.0 ≡ Some located.1
+      → cond again (Err (Duplicate n)) (unless_refused fault (resolved_by changes located.0 steps)) ≡ Ok one → Suits changes one
+  of_fault located steps true fault is place e = absurd cc
+  of_fault located steps false (Some fault) is place e = absurd cc
+  of_fault located steps false None is place e =
+      let same : resolved_by changes located.0 steps ≡ one = cc in
       record {
-        change = found.1;
-        place = ap (λ (s : Said). slice_get changes s.change) (sym same) ∙ place;
+        change = located.1;
+        place = ap (λ (s : ResolvedEntry). slice_get changes s.change) (sym same) ∙ place;
         number = n;
         steps = steps;
-        fine = (both_none (fault_of_steps n (is_some found.1.deposed) found.1.steps (map (λ step. step.outcome) steps)) (fault_of_waits n changes earlier steps) is).0;
-        said = ap (λ (s : Said). s.steps) (sym same);
+        fine = (both_none (fault_of_steps n (is_some located.1.deposed) located.1.steps (map (λ step. step.outcome) steps)) (fault_of_waits n changes earlier steps) is).0;
+        steps_stated = ap (λ (s : ResolvedEntry). s.steps) (sym same);
       }
 
-  of_found : (twice : ResourceChange → Bool) (steps : List EntryStep) (o : Option (ℕ × ResourceChange)) → ((found : ℕ × ResourceChange) → o ≡ Some found → slice_get changes found.0 ≡ Some found.1)
-      → (or_refuse (UnknownChange n) o >>= λ found. cond (twice found.1) (Err (Duplicate n)) (unless_refused (fault_of_entry n changes earlier found.1 steps) (said_by changes found.0 steps))) ≡ Ok one → Suits changes one
-  of_found twice steps None place e = absurd cc
-  of_found twice steps (Some found) place e = of_fault found steps (twice found.1) (fault_of_entry n changes earlier found.1 steps) refl (place found refl) e
+  of_located : (twice : ResourceChange → Bool) (steps : List EntryStep) (o : Option (ℕ × ResourceChange)) → ((located : ℕ × ResourceChange) → o ≡ Some located → slice_get changes located.0 ≡ Some located.1)
+      → (or_refuse (UnknownChange n) o >>= λ located. cond (twice located.1) (Err (Duplicate n)) (unless_refused (fault_of_entry n changes earlier located.1 steps) (resolved_by changes located.0 steps))) ≡ Ok one → Suits changes one
+  of_located twice steps None place e = absurd cc
+  of_located twice steps (Some located) place e = of_fault located steps (twice located.1) (fault_of_entry n changes earlier located.1 steps) refl (place located refl) e
 
-  place_of : (entry : Entry) (found : ℕ × ResourceChange) → change_of_entry changes entry ≡ Some found → slice_get changes found.0 ≡ Some found.1
-  place_of entry found e =
-      let there = found_at (λ (change : ResourceChange). is_about change entry) 0 changes found e in
-      let number : found.0 ≡ there.0 = (let zero_on : found.0 ≡ 0 + there.0 = there.1 in omega arith) in
+  place_of : (entry : Entry) (located : ℕ × ResourceChange) → change_of_entry changes entry ≡ Some located → slice_get changes located.0 ≡ Some located.1
+  place_of entry located e =
+      let there = found_at (λ (change : ResourceChange). is_about change entry) 0 changes located e in
+      let number : located.0 ≡ there.0 = (let zero_on : located.0 ≡ 0 + there.0 = there.1 in omega arith) in
       ap (slice_get changes) number ∙ there.2
 
-entry_suits : (changes : List ResourceChange) (before : List Data) (d : Data) (one : Said) → entry_at changes before d ≡ Ok one → Suits changes one
+entry_suits : (changes : List ResourceChange) (before : List Data) (d : Data) (one : ResolvedEntry) → entry_at changes before d ≡ Ok one → Suits changes one
 unfolding entry_at
 entry_suits changes before d one e = of_entry (entry_of d) e
   where
     of_entry : (o : Option Entry)
         → (or_refuse (BadShape (Some (length before))) o
         >>= λ entry. or_refuse (UnknownChange (length before)) (change_of_entry changes entry)
-        >>= λ found. cond (list_any (names_change found.1) before) (Err (Duplicate (length before))) (unless_refused (fault_of_entry (length before) changes (sum_by count_in before) found.1 entry.steps) (said_by changes found.0 entry.steps))) ≡ Ok one
+        >>= λ located. cond (list_any (names_change located.1) before) (Err (Duplicate (length before))) (unless_refused (fault_of_entry (length before) changes (sum_by count_in before) located.1 entry.steps) (resolved_by changes located.0 entry.steps))) ≡ Ok one
         → Suits changes one
     of_entry None e = absurd cc
-    of_entry (Some entry) e = of_found changes (sum_by count_in before) (length before) one (λ change. list_any (names_change change) before) entry.steps (change_of_entry changes entry) (λ found is. place_of changes (sum_by count_in before) (length before) one entry found is) e
+    of_entry (Some entry) e = of_located changes (sum_by count_in before) (length before) one (λ change. list_any (names_change change) before) entry.steps (change_of_entry changes entry) (λ located is. place_of changes (sum_by count_in before) (length before) one entry located is) e
 
 -- ---- all entries
 
@@ -107,14 +108,14 @@ all_hold {X} {Y} {F} P f (x ∷ xs) ys holds e = first (f x) refl (all_or_first 
     first (Ok y) is (Err refusal) hold e = absurd cc
     first (Ok y) is (Ok rest) hold e = subst (AllByRecursion P) (let same : y ∷ rest ≡ ys = cc in same) (holds x y is, hold rest refl)
 
-said_suits : (changes : List ResourceChange) (entries : List Said) (c : ℕ) (steps : List ScriptStep) → AllByRecursion (Suits changes) entries → said_of entries c ≡ Some steps
-    → (one : Said) × Suits changes one × (one.change ≡ c) × (one.steps ≡ steps)
-said_suits changes [] c steps suit e = absurd cc
-said_suits changes (x ∷ entries) c steps suit e = ⊎_elim
+stated_suits : (changes : List ResourceChange) (entries : List ResolvedEntry) (c : ℕ) (steps : List ScriptStep) → AllByRecursion (Suits changes) entries → outcomes_of entries c ≡ Some steps
+    → (one : ResolvedEntry) × Suits changes one × (one.change ≡ c) × (one.steps ≡ steps)
+stated_suits changes [] c steps suit e = absurd cc
+stated_suits changes (x ∷ entries) c steps suit e = ⊎_elim
     (λ (same : ((x.change == c) ≡ true) × (x.change ≡ c)).
-    (x, suit.0, same.1, same_Some x.steps steps (sym (ap (λ (b : Bool). option_map (λ (y : Said). y.steps) (cond b (Some x) (find (λ (y : Said). y.change == c) entries))) same.0) ∙ e)))
+    (x, suit.0, same.1, same_Some x.steps steps (sym (ap (λ (b : Bool). option_map (λ (y : ResolvedEntry). y.steps) (cond b (Some x) (find (λ (y : ResolvedEntry). y.change == c) entries))) same.0) ∙ e)))
     (λ (other : ((x.change == c) ≡ false) × (x.change ≢ c)).
-    said_suits changes entries c steps suit.1 (sym (ap (λ (b : Bool). option_map (λ (y : Said). y.steps) (cond b (Some x) (find (λ (y : Said). y.change == c) entries))) other.0) ∙ e))
+    stated_suits changes entries c steps suit.1 (sym (ap (λ (b : Bool). option_map (λ (y : ResolvedEntry). y.steps) (cond b (Some x) (find (λ (y : ResolvedEntry). y.change == c) entries))) other.0) ∙ e))
     (eqb_tells x.change c)
 
 -- ---- the steps of a change
@@ -147,13 +148,13 @@ module _ (deposed : Bool) where
   are_none [] e = refl
   are_none (p ∷ ps) e = absurd (both_ways (nat_lt 0 (length (p ∷ ps)) && true) e (ap (λ (b : Bool). b && true) (lt-ltb 0 (length (p ∷ ps)) (omega arith))))
 
-  no_provisioner : (step : ℕ × StepKind) (said : Option Outcome) → misplaces_provisioners deposed (step, said) ≡ false → takes_provisioners deposed step ≡ false → (unwrap_or said default_outcome).provisioners ≡ []
+  no_provisioner : (step : ℕ × StepKind) (stated : Option Outcome) → misplaces_provisioners deposed (step, stated) ≡ false → takes_provisioners deposed step ≡ false → (unwrap_or stated default_outcome).provisioners ≡ []
   no_provisioner step None e takes = refl
   no_provisioner step (Some outcome) e takes = are_none outcome.provisioners (sym (ap (λ (b : Bool). nat_lt 0 (length outcome.provisioners) && not b) takes) ∙ e)
 
-  -- a step that takes no provisioners has none, whatever is said of it
+  -- a step that may have no provisioners has none, whatever the script states
   step_has_none : (n : ℕ) (kinds : List StepKind) (steps : List (Option Outcome)) (k : ℕ) (kind : StepKind) → list_any (misplaces_provisioners deposed) (zip (enumerate_from n kinds) steps) ≡ false → slice_get kinds k ≡ Some kind
-      → takes_provisioners deposed (n + k, kind) ≡ false → (unwrap_or (option_and_then (λ said. said) (slice_get steps k)) default_outcome).provisioners ≡ []
+      → takes_provisioners deposed (n + k, kind) ≡ false → (unwrap_or (option_and_then (λ stated. stated) (slice_get steps k)) default_outcome).provisioners ≡ []
   step_has_none n kinds [] k kind e at takes = refl
   step_has_none n [] (x ∷ steps) k kind e at takes = absurd cc
   step_has_none n (y ∷ kinds) (x ∷ steps) k kind e at takes =
@@ -165,8 +166,8 @@ module _ (deposed : Bool) where
       neither false b e = (refl, e)
 
       at_number : (k : ℕ) → misplaces_provisioners deposed ((n, y), x) ≡ false → slice_get (y ∷ kinds) k ≡ Some kind → takes_provisioners deposed (n + k, kind) ≡ false
-          → ((j : ℕ) → slice_get kinds j ≡ Some kind → takes_provisioners deposed (n + 1 + j, kind) ≡ false → (unwrap_or (option_and_then (λ said. said) (slice_get steps j)) default_outcome).provisioners ≡ [])
-          → (unwrap_or (option_and_then (λ said. said) (slice_get (x ∷ steps) k)) default_outcome).provisioners ≡ []
+          → ((j : ℕ) → slice_get kinds j ≡ Some kind → takes_provisioners deposed (n + 1 + j, kind) ≡ false → (unwrap_or (option_and_then (λ stated. stated) (slice_get steps j)) default_outcome).provisioners ≡ [])
+          → (unwrap_or (option_and_then (λ stated. stated) (slice_get (x ∷ steps) k)) default_outcome).provisioners ≡ []
       at_number zero fine at takes rest =
           let here : n + 0 ≡ n = omega arith in
           no_provisioner (n, y) x fine (ap (λ (z : StepKind). takes_provisioners deposed (n, z)) (same_Some y kind at) ∙ ap (λ (z : ℕ). takes_provisioners deposed (z, kind)) (sym here) ∙ takes)
@@ -181,7 +182,7 @@ is_read Update e = absurd cc
 is_read Delete e = absurd cc
 is_read Read e = refl
 
-step_reads : (number : ℕ) (kind : StepKind) (said : Option Outcome) → warns_not_a_read ((number, kind), said) ≡ false → is_warned (unwrap_or said default_outcome).result ≡ true → kind ≡ Read
+step_reads : (number : ℕ) (kind : StepKind) (stated : Option Outcome) → warns_not_a_read ((number, kind), stated) ≡ false → is_warned (unwrap_or stated default_outcome).result ≡ true → kind ≡ Read
 step_reads number kind None e warns = absurd cc
 step_reads number kind (Some outcome) e warns = is_read kind (not-false (is_kind Read kind) (sym (ap (λ (b : Bool). b && not (is_kind Read kind)) warns) ∙ e))
   where
@@ -190,7 +191,7 @@ step_reads number kind (Some outcome) e warns = is_read kind (not-false (is_kind
     not-false false e = absurd cc
 
 warning_reads : (n : ℕ) (kinds : List StepKind) (steps : List (Option Outcome)) (k : ℕ) (kind : StepKind) → list_any warns_not_a_read (zip (enumerate_from n kinds) steps) ≡ false → slice_get kinds k ≡ Some kind
-    → is_warned (unwrap_or (option_and_then (λ said. said) (slice_get steps k)) default_outcome).result ≡ true → kind ≡ Read
+    → is_warned (unwrap_or (option_and_then (λ stated. stated) (slice_get steps k)) default_outcome).result ≡ true → kind ≡ Read
 warning_reads n kinds [] k kind e at warns = absurd cc
 warning_reads n [] (x ∷ steps) k kind e at warns = absurd cc
 warning_reads n (y ∷ kinds) (x ∷ steps) k kind e at warns =
@@ -202,30 +203,30 @@ warning_reads n (y ∷ kinds) (x ∷ steps) k kind e at warns =
     neither false b e = (refl, e)
 
     at_number : (k : ℕ) → warns_not_a_read ((n, y), x) ≡ false → slice_get (y ∷ kinds) k ≡ Some kind
-        → is_warned (unwrap_or (option_and_then (λ said. said) (slice_get (x ∷ steps) k)) default_outcome).result ≡ true
-        → ((j : ℕ) → slice_get kinds j ≡ Some kind → is_warned (unwrap_or (option_and_then (λ said. said) (slice_get steps j)) default_outcome).result ≡ true → kind ≡ Read)
+        → is_warned (unwrap_or (option_and_then (λ stated. stated) (slice_get (x ∷ steps) k)) default_outcome).result ≡ true
+        → ((j : ℕ) → slice_get kinds j ≡ Some kind → is_warned (unwrap_or (option_and_then (λ stated. stated) (slice_get steps j)) default_outcome).result ≡ true → kind ≡ Read)
         → kind ≡ Read
     at_number zero fine at warns rest = sym (same_Some y kind at) ∙ step_reads n y x fine warns
     at_number (suc j) fine at warns rest = rest j at warns
 
 -- what a step waits for changes nothing of how it ends
 same_result : (changes : List ResourceChange) (steps : List EntryStep) (k : ℕ)
-    → (unwrap_or (option_and_then answer_to (slice_get (map (step_said changes) steps) k)) default_outcome).result ≡ (unwrap_or (option_and_then (λ said. said) (slice_get (map (λ step. step.outcome) steps) k)) default_outcome).result
+    → (unwrap_or (option_and_then answer_to (slice_get (map (resolved_step changes) steps) k)) default_outcome).result ≡ (unwrap_or (option_and_then (λ stated. stated) (slice_get (map (λ step. step.outcome) steps) k)) default_outcome).result
 same_result changes [] k = refl
 same_result changes (step ∷ steps) zero = of_outcome step.outcome
   where
-    of_outcome : (said : Option Outcome) → (unwrap_or (answer_to (with_waits said (filter_map (step_waited changes) step.after))) default_outcome).result ≡ (unwrap_or said default_outcome).result
+    of_outcome : (stated : Option Outcome) → (unwrap_or (answer_to (with_waits stated (filter_map (step_waited changes) step.after))) default_outcome).result ≡ (unwrap_or stated default_outcome).result
     of_outcome None = refl
     of_outcome (Some outcome) = refl
 same_result changes (step ∷ steps) (suc k) = same_result changes steps k
 
 -- what a step waits for changes nothing of its provisioners
 same_provisioners : (changes : List ResourceChange) (steps : List EntryStep) (k : ℕ)
-    → (unwrap_or (option_and_then answer_to (slice_get (map (step_said changes) steps) k)) default_outcome).provisioners ≡ (unwrap_or (option_and_then (λ said. said) (slice_get (map (λ step. step.outcome) steps) k)) default_outcome).provisioners
+    → (unwrap_or (option_and_then answer_to (slice_get (map (resolved_step changes) steps) k)) default_outcome).provisioners ≡ (unwrap_or (option_and_then (λ stated. stated) (slice_get (map (λ step. step.outcome) steps) k)) default_outcome).provisioners
 same_provisioners changes [] k = refl
 same_provisioners changes (step ∷ steps) zero = of_outcome step.outcome
   where
-    of_outcome : (said : Option Outcome) → (unwrap_or (answer_to (with_waits said (filter_map (step_waited changes) step.after))) default_outcome).provisioners ≡ (unwrap_or said default_outcome).provisioners
+    of_outcome : (stated : Option Outcome) → (unwrap_or (answer_to (with_waits stated (filter_map (step_waited changes) step.after))) default_outcome).provisioners ≡ (unwrap_or stated default_outcome).provisioners
     of_outcome None = refl
     of_outcome (Some outcome) = refl
 same_provisioners changes (step ∷ steps) (suc k) = same_provisioners changes steps k
@@ -241,35 +242,35 @@ number_at {X} g low (suc n) (suc c) =
 
 -- the step's outcome, by what stands at the change's number
 abbrev outcome_at : Option (Option (List ScriptStep)) → ℕ → Outcome
-outcome_at o k = unwrap_or (option_and_then answer_to (option_and_then (λ steps. slice_get steps k) (option_and_then (λ said. said) o))) default_outcome
+outcome_at o k = unwrap_or (option_and_then answer_to (option_and_then (λ steps. slice_get steps k) (option_and_then (λ stated. stated) o))) default_outcome
 
-said_has_none : (plan : SavedPlan) (entries : List Said) (c k : ℕ) (change : ResourceChange) (kind : StepKind) (said : Option (List ScriptStep)) → AllByRecursion (Suits plan.changes) entries → said_of entries c ≡ said
-    → IsChange plan c change → slice_get change.steps k ≡ Some kind → takes_provisioners (is_some change.deposed) (k, kind) ≡ false → (outcome_at (Some said) k).provisioners ≡ []
-said_has_none plan entries c k change kind None suit is place at takes = refl
-said_has_none plan entries c k change kind (Some steps) suit is place at takes =
-    let found = said_suits plan.changes entries c steps suit is in
-    let suits = found.1 in
-    let its : slice_get plan.changes c ≡ Some suits.change = ap (slice_get plan.changes) (sym found.2) ∙ suits.place in
+stated_has_none : (plan : SavedPlan) (entries : List ResolvedEntry) (c k : ℕ) (change : ResourceChange) (kind : StepKind) (stated : Option (List ScriptStep)) → AllByRecursion (Suits plan.changes) entries → outcomes_of entries c ≡ stated
+    → IsChange plan c change → slice_get change.steps k ≡ Some kind → takes_provisioners (is_some change.deposed) (k, kind) ≡ false → (outcome_at (Some stated) k).provisioners ≡ []
+stated_has_none plan entries c k change kind None suit is place at takes = refl
+stated_has_none plan entries c k change kind (Some steps) suit is place at takes =
+    let located = stated_suits plan.changes entries c steps suit is in
+    let suits = located.1 in
+    let its : slice_get plan.changes c ≡ Some suits.change = ap (slice_get plan.changes) (sym located.2) ∙ suits.place in
     let same : change ≡ suits.change = same_Some change suits.change (sym place ∙ its) in
     let bare = map (λ (step : EntryStep). step.outcome) suits.steps in
     let number : 0 + k ≡ k = omega arith in
-    ap (λ (os : List ScriptStep). (unwrap_or (option_and_then answer_to (slice_get os k)) default_outcome).provisioners) (sym found.3 ∙ suits.said)
+    ap (λ (os : List ScriptStep). (unwrap_or (option_and_then answer_to (slice_get os k)) default_outcome).provisioners) (sym located.3 ∙ suits.steps_stated)
     ∙ same_provisioners plan.changes suits.steps k
     ∙ step_has_none (is_some suits.change.deposed) 0 suits.change.steps bare k kind (none_misplaced (is_some suits.change.deposed) suits.number suits.change.steps bare suits.fine)
     (subst (λ (one : ResourceChange). slice_get one.steps k ≡ Some kind) same at)
     (subst (λ (one : ResourceChange). takes_provisioners (is_some one.deposed) (0 + k, kind) ≡ false) same (ap (λ (z : ℕ). takes_provisioners (is_some change.deposed) (z, kind)) number ∙ takes))
 
-said_reads : (plan : SavedPlan) (entries : List Said) (c k : ℕ) (change : ResourceChange) (kind : StepKind) (said : Option (List ScriptStep)) → AllByRecursion (Suits plan.changes) entries → said_of entries c ≡ said
-    → IsChange plan c change → slice_get change.steps k ≡ Some kind → is_warned (outcome_at (Some said) k).result ≡ true → kind ≡ Read
-said_reads plan entries c k change kind None suit is place at warns = absurd cc
-said_reads plan entries c k change kind (Some steps) suit is place at warns =
-    let found = said_suits plan.changes entries c steps suit is in
-    let suits = found.1 in
-    let its : slice_get plan.changes c ≡ Some suits.change = ap (slice_get plan.changes) (sym found.2) ∙ suits.place in
+stated_reads : (plan : SavedPlan) (entries : List ResolvedEntry) (c k : ℕ) (change : ResourceChange) (kind : StepKind) (stated : Option (List ScriptStep)) → AllByRecursion (Suits plan.changes) entries → outcomes_of entries c ≡ stated
+    → IsChange plan c change → slice_get change.steps k ≡ Some kind → is_warned (outcome_at (Some stated) k).result ≡ true → kind ≡ Read
+stated_reads plan entries c k change kind None suit is place at warns = absurd cc
+stated_reads plan entries c k change kind (Some steps) suit is place at warns =
+    let located = stated_suits plan.changes entries c steps suit is in
+    let suits = located.1 in
+    let its : slice_get plan.changes c ≡ Some suits.change = ap (slice_get plan.changes) (sym located.2) ∙ suits.place in
     let same : change ≡ suits.change = same_Some change suits.change (sym place ∙ its) in
     let bare = map (λ (step : EntryStep). step.outcome) suits.steps in
-    let result : (unwrap_or (option_and_then answer_to (slice_get steps k)) default_outcome).result ≡ (unwrap_or (option_and_then (λ said. said) (slice_get bare k)) default_outcome).result =
-    ap (λ (os : List ScriptStep). (unwrap_or (option_and_then answer_to (slice_get os k)) default_outcome).result) (sym found.3 ∙ suits.said) ∙ same_result plan.changes suits.steps k in
+    let result : (unwrap_or (option_and_then answer_to (slice_get steps k)) default_outcome).result ≡ (unwrap_or (option_and_then (λ stated. stated) (slice_get bare k)) default_outcome).result =
+    ap (λ (os : List ScriptStep). (unwrap_or (option_and_then answer_to (slice_get os k)) default_outcome).result) (sym located.3 ∙ suits.steps_stated) ∙ same_result plan.changes suits.steps k in
     warning_reads 0 suits.change.steps bare k kind (none_warns (is_some suits.change.deposed) suits.number suits.change.steps bare suits.fine)
     (subst (λ (one : ResourceChange). slice_get one.steps k ≡ Some kind) same at) (ap is_warned (sym result) ∙ warns)
 
@@ -277,26 +278,26 @@ said_reads plan entries c k change kind (Some steps) suit is place at warns =
 abbrev OnlyReadsWarn : SavedPlan → OutcomeMap → Type 0
 OnlyReadsWarn plan script = (c k : ℕ) (change : ResourceChange) (kind : StepKind) → IsChange plan c change → slice_get change.steps k ≡ Some kind → is_warned (outcome_of script c k).result ≡ true → kind ≡ Read
 
-numbered_reads : (plan : SavedPlan) (entries : List Said) → AllByRecursion (Suits plan.changes) entries → OnlyReadsWarn plan (by_number (length plan.changes) entries)
+numbered_reads : (plan : SavedPlan) (entries : List ResolvedEntry) → AllByRecursion (Suits plan.changes) entries → OnlyReadsWarn plan (by_number (length plan.changes) entries)
 numbered_reads plan entries suit c k change kind place at warns = ⊎_elim
     (λ (none : slice_get (by_number (length plan.changes) entries) c ≡ None). absurd (let never : is_warned default_outcome.result ≡ true = sym (ap (λ (o : Option (Option (List ScriptStep))). is_warned (outcome_at o k).result) none) ∙ warns in cc))
-    (λ (some : slice_get (by_number (length plan.changes) entries) c ≡ Some (said_of entries (0 + c))).
+    (λ (some : slice_get (by_number (length plan.changes) entries) c ≡ Some (outcomes_of entries (0 + c))).
     let number : 0 + c ≡ c = omega arith in
-    let is : slice_get (by_number (length plan.changes) entries) c ≡ Some (said_of entries c) = some ∙ ap (λ (x : ℕ). Some (said_of entries x)) number in
-    said_reads plan entries c k change kind (said_of entries c) suit refl place at (sym (ap (λ (o : Option (Option (List ScriptStep))). is_warned (outcome_at o k).result) is) ∙ warns))
-    (number_at (said_of entries) 0 (length plan.changes) c)
+    let is : slice_get (by_number (length plan.changes) entries) c ≡ Some (outcomes_of entries c) = some ∙ ap (λ (x : ℕ). Some (outcomes_of entries x)) number in
+    stated_reads plan entries c k change kind (outcomes_of entries c) suit refl place at (sym (ap (λ (o : Option (Option (List ScriptStep))). is_warned (outcome_at o k).result) is) ∙ warns))
+    (number_at (outcomes_of entries) 0 (length plan.changes) c)
 
-numbered_has_none : (plan : SavedPlan) (entries : List Said) → AllByRecursion (Suits plan.changes) entries → ProvisionsCreates plan (by_number (length plan.changes) entries)
+numbered_has_none : (plan : SavedPlan) (entries : List ResolvedEntry) → AllByRecursion (Suits plan.changes) entries → ProvisionsCreates plan (by_number (length plan.changes) entries)
 numbered_has_none plan entries suit c k change kind place at takes = ⊎_elim
     (λ (none : slice_get (by_number (length plan.changes) entries) c ≡ None). ap (λ (o : Option (Option (List ScriptStep))). (outcome_at o k).provisioners) none)
-    (λ (some : slice_get (by_number (length plan.changes) entries) c ≡ Some (said_of entries (0 + c))).
+    (λ (some : slice_get (by_number (length plan.changes) entries) c ≡ Some (outcomes_of entries (0 + c))).
     let number : 0 + c ≡ c = omega arith in
-    ap (λ (o : Option (Option (List ScriptStep))). (outcome_at o k).provisioners) (some ∙ ap (λ (x : ℕ). Some (said_of entries x)) number)
-    ∙ said_has_none plan entries c k change kind (said_of entries c) suit refl place at takes)
-    (number_at (said_of entries) 0 (length plan.changes) c)
+    ap (λ (o : Option (Option (List ScriptStep))). (outcome_at o k).provisioners) (some ∙ ap (λ (x : ℕ). Some (outcomes_of entries x)) number)
+    ∙ stated_has_none plan entries c k change kind (outcomes_of entries c) suit refl place at takes)
+    (number_at (outcomes_of entries) 0 (length plan.changes) c)
 
--- what is asked of a script that was read: each of its steps has provisioners only where it takes them, and only warns only
--- where it is a read
+-- The steps of a script that was read have provisioners only if they may, and only warn if they are
+-- reads.
 record Suited (plan : SavedPlan) (script : OutcomeMap) : Type 0 where
   provisions : ProvisionsCreates plan script
   reads : OnlyReadsWarn plan script
@@ -307,7 +308,7 @@ entries_have plan elements script e =
     of_entries (all_or_first (each_with_earlier (entry_at plan.changes) elements))
     (λ entries is. all_hold (Suits plan.changes) (λ (p : ℕ × Data). entry_at plan.changes (take p.0 elements) p.1) (enumerate_from 0 elements) entries (λ p one. entry_suits plan.changes (take p.0 elements) p.1 one) is) e
   where
-    of_entries : (r : Result (List Said) ScriptError) → ((entries : List Said) → r ≡ Ok entries → AllByRecursion (Suits plan.changes) entries)
+    of_entries : (r : Result (List ResolvedEntry) ScriptError) → ((entries : List ResolvedEntry) → r ≡ Ok entries → AllByRecursion (Suits plan.changes) entries)
         → (r >>= λ entries. unless_stuck entries (by_number (length plan.changes) entries)) ≡ Ok script → Suited plan script
     of_entries (Err refusal) suit e = absurd cc
     of_entries (Ok entries) suit e = subst (Suited plan) (unless_refused_ok (option_map NeverBegins (position_from (is_stuck (by_number (length plan.changes) entries)) 0 entries)) (by_number (length plan.changes) entries) script e).1 (record { provisions = numbered_has_none plan entries (suit entries refl); reads = numbered_reads plan entries (suit entries refl) })
@@ -322,7 +323,7 @@ tree_has plan d script e = of_elements (elements_of d) e
 
 read_suits : (plan : SavedPlan) (bytes : List ℕ) (script : OutcomeMap) → script_of plan bytes ≡ Ok script → Suited plan script
 unfolding script_of
-read_suits plan bytes script e = of_size (nat_lt max_bytes (length bytes)) (keeping_tree_of is_kept bytes) e
+read_suits plan bytes script e = of_size (nat_lt max_bytes (length bytes)) (mixed_tree_of is_verbatim_name bytes) e
   where
     of_size : (b : Bool) (o : Option Data) → cond b (Err TooLarge) (or_refuse NotJson o >>= script_of_tree plan) ≡ Ok script → Suited plan script
     of_size true o e = absurd cc

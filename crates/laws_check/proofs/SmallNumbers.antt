@@ -1,4 +1,4 @@
--- Events that can happen tell of small numbers.
+-- The numbers of events that can happen are small.
 use Rattle.std.proofs.Common.{◌≡◌, ◌≢◌, ℕ, zero, suc, ◌+◌, ◌-◌, ◌<◌, ◌≤◌, ◌^◌, ◌==◌, All, List, [], ◌∷◌, cond, filter, length, not, Bool, true, false, Option, Some, None, refl, ⊎_elim, nat_lt, slice_get, unwrap_or, arith}
 use Rattle.std.specs.Prelude.{◌&&◌, ◌||◌, IfSome}
 use Rattle.std.specs.List.{AllByRecursion, list_any, range_with_len}
@@ -12,7 +12,7 @@ use Rattle.apply_model.specs.declared.plan.step_kind.StepKind.TheVariants.{Creat
 use Rattle.apply_model.specs.declared.script.outcome.Outcome.{Outcome}
 use Rattle.apply_plan.specs.Plan.SavedPlan.{SavedPlan}
 use Rattle.apply_plan.specs.Script.Outcome.{IsBounded, default_outcome, fails, is_warned, took}
-use Rattle.apply_plan.specs.Script.OutcomeMap.{IsInRange, OutcomeMap, given_outcome, outcome_of}
+use Rattle.apply_plan.specs.Script.OutcomeMap.{IsInRange, OutcomeMap, stated_outcome, outcome_of}
 use Rattle.apply_model.proofs.Scripts.Limits.{in_time}
 use Rattle.apply_hooks.specs.Hooks.{max_hooks}
 use Rattle.apply_events.specs.declared.event.Event.{Event}
@@ -41,8 +41,8 @@ below_end s low (suc n) e = either (is_multiple_of_ten low) (λ later. below_end
     either true later e = first (low == s) refl (list_any (λ time. time == s) (filter is_multiple_of_ten (range_with_len (low + 1) n))) later e
     either false later e = let less : s < low + 1 + n = later e in omega arith
 
-at_end : (found : Bool) (s d : ℕ) → d ≤ 86400 → (found && (s == d)) ≡ true → s < 2 ^ 64
-at_end found s d short e = let is : s ≡ d = same s d (and_parts found (s == d) e).1 in omega arith
+at_end : (located : Bool) (s d : ℕ) → d ≤ 86400 → (located && (s == d)) ≡ true → s < 2 ^ 64
+at_end located s d short e = let is : s ≡ d = same s d (and_parts located (s == d) e).1 in omega arith
 
 what_small : (kind : StepKind) (outcome : Outcome) (what : What) → took kind outcome ≤ 86400 → can_happen kind outcome what ≡ true → IsSmall what
 what_small kind outcome Start short e = tt
@@ -64,10 +64,10 @@ a_day None bounded Delete = let none : took Delete default_outcome ≡ 0 = refl 
 a_day None bounded Read = let none : took Read default_outcome ≡ 0 = refl in omega arith
 a_day (Some outcome) bounded kind = in_time (Some outcome) bounded kind
 
-event_small : (script : OutcomeMap) (e : Event) (found : Option StepKind) → IsInRange script → option_map_or (λ kind. can_happen kind (outcome_of script e.change e.step) e.what) found false ≡ true → IsSmall e.what
+event_small : (script : OutcomeMap) (e : Event) (located : Option StepKind) → IsInRange script → option_map_or (λ kind. can_happen kind (outcome_of script e.change e.step) e.what) located false ≡ true → IsSmall e.what
 event_small script e None bounded happens = absurd cc
 event_small script e (Some kind) bounded happens =
-    what_small kind (outcome_of script e.change e.step) e.what (a_day (given_outcome script e.change e.step) (bounded e.change e.step) kind) happens
+    what_small kind (outcome_of script e.change e.step) e.what (a_day (stated_outcome script e.change e.step) (bounded e.change e.step) kind) happens
 
 all_small : (plan : SavedPlan) (script : OutcomeMap) (events : List Event) → IsInRange script → All (Fits plan script) events → AllByRecursion (λ (event : Event). IsSmall event.what) events
 all_small plan script [] bounded fit = tt

@@ -1,4 +1,5 @@
--- The objects of a stream are sound where the texts of its plan and its script are UTF-8, and its numbers fit 64 bits.
+-- The objects of a stream are sound if the texts of its plan and its script are UTF-8 and its
+-- numbers fit 64 bits.
 use Rattle.std.proofs.Common.{◌≡◌, ℕ, ◌+◌, ◌<◌, ◌^◌, List, [], ◌∷◌, ◌++◌, codes, cond, decimal, filter, flat_map, length, IsUtf8, Bool, true, false, not, Option, Some, None, refl, slice_get}
 use Rattle.std.specs.Prelude.{IfSome}
 use Rattle.std.specs.List.{AllByRecursion, enumerate_from}
@@ -24,8 +25,8 @@ use Rattle.apply_text.specs.declared.operation.Operation.TheVariants.{Apply, Des
 use Rattle.apply_text.specs.Elapsed.{elapsed_of}
 use Rattle.apply_text.specs.Latest.{latest_of}
 use Rattle.apply_text.specs.Lines.{message_object, typed}
-use Rattle.apply_text.specs.Message.{complete_message, diagnostic_message, end_id, event_message, halt_of, hook_message, id_note, name_of, output_of, provision_message, start_id, summary_message, told_failure, totals_text, warning_of}
-use Rattle.apply_text.specs.Moment.{moment_text}
+use Rattle.apply_text.specs.Message.{complete_message, diagnostic_message, end_id, event_message, halt_of, hook_message, id_suffix, name_of, output_of, provision_message, start_id, summary_message, failure_diag, totals_text, warning_of}
+use Rattle.apply_text.specs.UtcTimestamp.{timestamp_text}
 use Rattle.apply_text.specs.Objects.{changes_object, diagnostic_object, hook_object, provisioner_object}
 use Rattle.apply_text.specs.Order.{as_written, hook_messages_of, notes_of}
 use Rattle.apply_text.specs.Words.{action_word, noun_word, phase_words, start_word, still_word}
@@ -38,7 +39,7 @@ use Rattle.laws_check.proofs.SoundParts.{action_utf8, changes_sound, diagnostic_
 -- ---- messages
 
 message_sound : (level text name type_name : List ℕ) (seconds : ℕ) (body : Data) → IsUtf8 level → IsUtf8 text → IsUtf8 name → IsSound body → IsUtf8 type_name
-    → IsSound (message_object level text (moment_text seconds) (typed name body type_name))
+    → IsSound (message_object level text (timestamp_text seconds) (typed name body type_name))
 unfolding message_object
 message_sound level text name type_name seconds body how says named sound type_is = (
   IsUtf8-are_ascii (codes "@level") refl,
@@ -59,7 +60,7 @@ message_sound level text name type_name seconds body how says named sound type_i
 )
 
 module _ (change : ResourceChange) (has : HasChangeTexts change) (seconds : ℕ) where
-  -- a text behind the address
+  -- a text after the address
   addressed : (text : List ℕ) → IsUtf8 text → IsUtf8 (change.address ++ codes ": " ++ text)
   addressed text is = three change.address (codes ": ") text has.address (IsUtf8-are_ascii (codes ": ") refl) is
 
@@ -109,22 +110,22 @@ module _ (change : ResourceChange) (has : HasChangeTexts change) (seconds : ℕ)
   }
 
   -- a text with a name in it
-  named_text : (before name behind : List ℕ) → IsUtf8 before → IsUtf8 name → IsUtf8 behind → IsUtf8 (before ++ name ++ behind)
-  named_text before name behind first named last = three before name behind first named last
+  named_text : (before name after : List ℕ) → IsUtf8 before → IsUtf8 name → IsUtf8 after → IsUtf8 (before ++ name ++ after)
+  named_text before name after first named last = three before name after first named last
 
   -- a completion with any id
   pub complete_sound : (kind : StepKind) (s : ℕ) (id : Option (List ℕ)) → s < 2 ^ 64 → IfSome id IsUtf8 → IsSound (object_of seconds (complete_message change kind s id))
   complete_sound kind s id small named =
-      hook_line kind (noun_word kind ++ codes " complete after " ++ elapsed_of s ++ id_note id) (Some s) id (codes "apply_complete")
-      (two (noun_word kind ++ codes " complete after " ++ elapsed_of s) (id_note id)
+      hook_line kind (noun_word kind ++ codes " complete after " ++ elapsed_of s ++ id_suffix id) (Some s) id (codes "apply_complete")
+      (two (noun_word kind ++ codes " complete after " ++ elapsed_of s) (id_suffix id)
       (three (noun_word kind) (codes " complete after ") (elapsed_of s) (noun_utf8 kind) (IsUtf8-are_ascii (codes " complete after ") refl) (elapsed_utf8 s small))
       (note_utf8 id named))
       small named (IsUtf8-are_ascii (codes "apply_complete") refl)
 
   pub event_sound : (kind : StepKind) (outcome : Outcome) (what : What) → HasOutcomeTexts outcome → IsSmall what → IsSound (object_of seconds (event_message change kind outcome what))
   event_sound kind outcome Start texts small =
-      hook_line kind (start_word kind ++ codes "..." ++ id_note (start_id kind change)) None (start_id kind change) (codes "apply_start")
-      (three (start_word kind) (codes "...") (id_note (start_id kind change)) (start_utf8 kind) (IsUtf8-are_ascii (codes "...") refl) (note_utf8 (start_id kind change) (id_at_start kind)))
+      hook_line kind (start_word kind ++ codes "..." ++ id_suffix (start_id kind change)) None (start_id kind change) (codes "apply_start")
+      (three (start_word kind) (codes "...") (id_suffix (start_id kind change)) (start_utf8 kind) (IsUtf8-are_ascii (codes "...") refl) (note_utf8 (start_id kind change) (id_at_start kind)))
       tt (id_at_start kind) (IsUtf8-are_ascii (codes "apply_start") refl)
   event_sound kind outcome (Progress s) texts small =
       hook_line kind (codes "Still " ++ still_word kind ++ codes "... [" ++ elapsed_of s ++ codes " elapsed]") (Some s) None (codes "apply_progress")
@@ -137,7 +138,7 @@ module _ (change : ResourceChange) (has : HasChangeTexts change) (seconds : ℕ)
       hook_line kind (noun_word kind ++ codes " errored after " ++ elapsed_of s) (Some s) None (codes "apply_errored")
       (three (noun_word kind) (codes " errored after ") (elapsed_of s) (noun_utf8 kind) (IsUtf8-are_ascii (codes " errored after ") refl) (elapsed_utf8 s small))
       small tt (IsUtf8-are_ascii (codes "apply_errored") refl)
-  event_sound kind outcome ErrorNote texts small = error_line (told_failure outcome) texts.failure
+  event_sound kind outcome ErrorNote texts small = error_line (failure_diag outcome) texts.failure
   event_sound kind outcome WarnNote texts small =
       diagnostic_line (codes "warn") (codes "warning") (codes "Warning") (warning_of outcome.result) (IsUtf8-are_ascii (codes "warn") refl) (IsUtf8-are_ascii (codes "warning") refl) (IsUtf8-are_ascii (codes "Warning") refl) texts.warning
   event_sound kind outcome (Halted phase hook) texts small = error_line (halt_of kind phase hook) (halt_texts kind phase hook small)
@@ -206,9 +207,9 @@ pub all_both : {X : Type 0} (P : X → Type 0) (xs ys : List X) → AllByRecursi
 all_both P [] ys h g = g
 all_both P (x ∷ xs) ys h g = (h.0, all_both P xs ys h.1 g)
 
-pub all_kept : {X : Type 0} (P : X → Type 0) (test : X → Bool) (xs : List X) → AllByRecursion P xs → AllByRecursion P (filter test xs)
-all_kept P test [] h = tt
-all_kept P test (x ∷ xs) h = either (test x) (all_kept P test xs h.1)
+pub all_filtered : {X : Type 0} (P : X → Type 0) (test : X → Bool) (xs : List X) → AllByRecursion P xs → AllByRecursion P (filter test xs)
+all_filtered P test [] h = tt
+all_filtered P test (x ∷ xs) h = either (test x) (all_filtered P test xs h.1)
   where
     either : (b : Bool) → AllByRecursion P (filter test xs) → AllByRecursion P (cond b (x ∷ filter test xs) (filter test xs))
     either true rest = (h.0, rest)
@@ -223,8 +224,8 @@ module _ (plan : SavedPlan) (script : OutcomeMap) (has : HasTexts plan script) w
       of_step change texts None = tt
       of_step change texts (Some step) = (event_sound change texts seconds step (outcome_of script e.change e.step) e.what (has.outcomes e.change e.step) small, tt)
 
-      of_change : (found : Option ResourceChange) → slice_get plan.changes e.change ≡ found
-          → AllByRecursion IsSound (option_map_or (λ (change : ResourceChange). option_map_or (λ step. object_of seconds (event_message change step (outcome_of script e.change e.step) e.what) ∷ []) (slice_get change.steps e.step) []) found [])
+      of_change : (located : Option ResourceChange) → slice_get plan.changes e.change ≡ located
+          → AllByRecursion IsSound (option_map_or (λ (change : ResourceChange). option_map_or (λ step. object_of seconds (event_message change step (outcome_of script e.change e.step) e.what) ∷ []) (slice_get change.steps e.step) []) located [])
       of_change None is = tt
       of_change (Some change) is = of_step change (has.changes e.change change is) (slice_get change.steps e.step)
 
@@ -237,7 +238,7 @@ module _ (plan : SavedPlan) (script : OutcomeMap) (has : HasTexts plan script) w
   stream_sound start operation taken fits =
       let es = as_written taken in
       let small : AllByRecursion (λ (e : Event). IsSmall e.what) es =
-      all_both (λ (e : Event). IsSmall e.what) (hook_messages_of taken) (notes_of taken) (all_kept (λ (e : Event). IsSmall e.what) (λ e. not (is_note e.what)) taken fits.each) (all_kept (λ (e : Event). IsSmall e.what) (λ e. is_note e.what) taken fits.each) in
+      all_both (λ (e : Event). IsSmall e.what) (hook_messages_of taken) (notes_of taken) (all_filtered (λ (e : Event). IsSmall e.what) (λ e. not (is_note e.what)) taken fits.each) (all_filtered (λ (e : Event). IsSmall e.what) (λ e. is_note e.what) taken fits.each) in
       let last = object_of (start + latest_of es (length es)) (summary_message operation (totals_of plan taken)) in (
         version_sound plan start has.version,
         all_both IsSound (flat_map (λ p. objects_of plan script (start + latest_of es (p.0 + 1)) p.1) (enumerate_from 0 es)) (last ∷ [])

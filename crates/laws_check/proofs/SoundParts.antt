@@ -12,7 +12,7 @@ use Rattle.apply_hooks.specs.declared.phase.Phase.TheVariants.{Pre, PostDone, Po
 use Rattle.apply_events.specs.declared.counts.Counts.{Counts}
 use Rattle.apply_text.specs.declared.operation.Operation.{Operation}
 use Rattle.apply_text.specs.declared.operation.Operation.TheVariants.{Apply, Destroy}
-use Rattle.apply_text.specs.Message.{id_note}
+use Rattle.apply_text.specs.Message.{id_suffix}
 use Rattle.apply_text.specs.Objects.{changes_object, diagnostic_object, hook_object, operation_word, provisioner_object, resource_object}
 use Rattle.apply_text.specs.Words.{action_word, noun_word, phase_words, start_word, still_word}
 use Rattle.laws_check.specs.Sound.{IsSound}
@@ -56,7 +56,7 @@ phase_utf8 Pre = IsUtf8-are_ascii (phase_words Pre) refl
 phase_utf8 PostDone = IsUtf8-are_ascii (phase_words PostDone) refl
 phase_utf8 PostFailed = IsUtf8-are_ascii (phase_words PostFailed) refl
 
-pub note_utf8 : (id : Option (List ℕ)) → IfSome id IsUtf8 → IsUtf8 (id_note id)
+pub note_utf8 : (id : Option (List ℕ)) → IfSome id IsUtf8 → IsUtf8 (id_suffix id)
 note_utf8 None h = IsUtf8-nil
 note_utf8 (Some id) h = three (codes " [id=") id (codes "]") (IsUtf8-are_ascii (codes " [id=") refl) h (IsUtf8-are_ascii (codes "]") refl)
 

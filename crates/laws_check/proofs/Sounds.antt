@@ -1,19 +1,19 @@
--- The texts of moments and of seconds are ASCII.
+-- The texts of timestamps and of seconds are ASCII.
 use Rattle.std.proofs.Common.{ℕ, ◌/◌, ◌%◌, ◌<◌, ◌^◌, ◌++◌, codes, cond, decimal, IsUtf8, nat_lt, Bool, true, false, refl, arith}
 use Rattle.std.proofs.lemmas.Fmt.{IsAscii-decimal}
 use Rattle.std.proofs.lemmas.Str.{IsUtf8-append, IsUtf8-from_ascii}
 use Rattle.json.proofs.Printed.Utf8.{IsUtf8-are_ascii}
 use Rattle.apply_text.specs.Elapsed.{elapsed_of, minutes_text, seconds_text}
-use Rattle.apply_text.specs.Moment.{moment_text}
-use Rattle.apply_text_terraform.specs.Moment.{fine_text}
+use Rattle.apply_text.specs.UtcTimestamp.{timestamp_text}
+use Rattle.apply_text_terraform.specs.UtcTimestamp.{precise_timestamp_text}
 use Rattle.laws_check.proofs.BareTexts.{bare_utf8, fine_bare, moment_bare}
 
-pub moment_utf8 : (seconds : ℕ) → IsUtf8 (moment_text seconds)
-moment_utf8 seconds = bare_utf8 (moment_text seconds) (moment_bare seconds)
+pub moment_utf8 : (seconds : ℕ) → IsUtf8 (timestamp_text seconds)
+moment_utf8 seconds = bare_utf8 (timestamp_text seconds) (moment_bare seconds)
 
--- a moment with its decimals
-pub fine_utf8 : (seconds : ℕ) → IsUtf8 (fine_text seconds)
-fine_utf8 seconds = bare_utf8 (fine_text seconds) (fine_bare seconds)
+-- a timestamp with its decimals
+pub fine_utf8 : (seconds : ℕ) → IsUtf8 (precise_timestamp_text seconds)
+fine_utf8 seconds = bare_utf8 (precise_timestamp_text seconds) (fine_bare seconds)
 
 -- ---- how long something took
 

@@ -1,4 +1,4 @@
--- What happens to a step, by its events: its hook messages, and its notes.
+-- The events of a step: its hook messages, and its diagnostics.
 use Rattle.std.proofs.Common.{◌≡◌, ℕ, ◌+◌, ◌≤◌, List, [], ◌∷◌, ◌++◌, map, filter, Bool, true, false, cond, Option, Some, None, refl, sym, ap, ◌∙◌, subst, slice_get, option_map, option_to_list, append-nil, All, ◌⊎◌, arith}
 use Rattle.std.specs.Prelude.{◌&&◌, is_none, is_some, not}
 use Rattle.std.proofs.lemmas.Bool.{and_parts, not-true}
@@ -13,18 +13,18 @@ use Rattle.apply_events.specs.declared.what.What.TheVariants.{Start, WarnNote, H
 use Rattle.apply_events.specs.Diagnostics.{is_note}
 use Rattle.apply_events.specs.Step.{Step, kinds_of}
 use Rattle.apply_events.specs.StepEvents as told_in
-use Rattle.apply_events.specs.StepEvents.{end_of, endings, event, goes_on, halts, notes, phase_after, seconds_of, started, step_events, step_time, tells_end}
+use Rattle.apply_events.specs.StepEvents.{end_of, endings, event, goes_on, halts, notes, phase_after, seconds_of, start_events, step_events, step_time, emits_end}
 use Rattle.apply_text.specs.Order.{hook_messages_of, notes_of}
-use Rattle.laws_check.specs.Told.{action_of}
+use Rattle.laws_check.specs.ReadBack.{action_of}
 use Rattle.laws_check.proofs.Phases.{MayRun, Phase, between, under_way, unexplained}
-use Rattle.laws_check.proofs.BetweenSteps.{Passes, along_told, no_note}
+use Rattle.laws_check.proofs.BetweenSteps.{Passes, along_goes, no_note}
 use Rattle.laws_check.proofs.Deeds.{Leads, leads_on}
 
 -- ---- filters
 
-pub kept_both : (test : Event → Bool) (es fs : List Event) → filter test (es ++ fs) ≡ filter test es ++ filter test fs
-kept_both test [] fs = refl
-kept_both test (e ∷ es) fs = at (test e) (kept_both test es fs)
+pub filtered_both : (test : Event → Bool) (es fs : List Event) → filter test (es ++ fs) ≡ filter test es ++ filter test fs
+filtered_both test [] fs = refl
+filtered_both test (e ∷ es) fs = at (test e) (filtered_both test es fs)
   where
     at : (b : Bool) → filter test (es ++ fs) ≡ filter test es ++ filter test fs → cond b (e ∷ filter test (es ++ fs)) (filter test (es ++ fs)) ≡ cond b (e ∷ filter test es) (filter test es) ++ filter test fs
     at true is = ap (λ (l : List Event). e ∷ l) is
@@ -40,12 +40,12 @@ is_nothing (Some x) e = absurd cc
 abbrev pub IsOfKind : SavedPlan → StepKind → Step → Type 0
 IsOfKind plan kind s = slice_get (kinds_of plan s.change) s.number ≡ Some kind
 
--- it runs no provisioners, or it may
+-- the step runs no provisioners, or it may run some
 abbrev pub MayProvision : (may : Type 0) → StepKind → Step → Type 0
 MayProvision may kind s = (s.ran ≡ []) ⊎ MayRun may (action_of kind)
 
 module _ (may : Type 0) (plan : SavedPlan) (kind : StepKind) (w : ℕ) (s : Step) (is : IsOfKind plan kind s) (may_provision : MayProvision may kind s) where
-  halted : (phase : asked.Phase) (at : ℕ) (found : Option ℕ) → Leads may plan between (option_to_list (option_map (λ hook. event w s at (Halted phase hook)) found)) between
+  halted : (phase : asked.Phase) (at : ℕ) (located : Option ℕ) → Leads may plan between (option_to_list (option_map (λ hook. event w s at (Halted phase hook)) located)) between
   halted phase at None = refl
   halted phase at (Some hook) = (between, (kind, is, refl), refl)
 
@@ -58,9 +58,9 @@ module _ (may : Type 0) (plan : SavedPlan) (kind : StepKind) (w : ℕ) (s : Step
   leads_passed at p [] r h = h
   leads_passed at p (x ∷ xs) r h = (h.0, (kind, is, h.1), leads_passed at h.0 xs r h.2)
 
-  -- ---- hook messages, and the notes that stand behind those of all
+  -- ---- hook messages, and the diagnostics after all of them
 
-  -- where the change is behind the step's hook messages
+  -- where the change is after the step's hook messages
   abbrev pub phase_then : (halted_before fails : Bool) → Phase
   phase_then true fails = between
   phase_then false true = unexplained
@@ -70,11 +70,11 @@ module _ (may : Type 0) (plan : SavedPlan) (kind : StepKind) (w : ℕ) (s : Step
   end_leads true at last end fits = (unexplained, (kind, is, (refl, refl, fits, refl)), refl)
   end_leads false at last end fits = (between, (kind, is, (refl, refl, fits, refl)), refl)
 
-  hooks_told : (at : ℕ) → List Event
-  hooks_told at = event w s at Start ∷ [] ++ events_of at (told_in.between s) ++ event w s (at + seconds_of s) (end_of s.fails (seconds_of s)) ∷ []
+  hook_events : (at : ℕ) → List Event
+  hook_events at = event w s at Start ∷ [] ++ events_of at (told_in.between s) ++ event w s (at + seconds_of s) (end_of s.fails (seconds_of s)) ∷ []
 
-  notes_told : (at : ℕ) → List Event
-  notes_told at = map (λ what. event w s (at + seconds_of s) what) (notes s.fails s.warns) ++ halts w s (phase_after s.fails) (at + seconds_of s)
+  notes_have_texts : (at : ℕ) → List Event
+  notes_have_texts at = map (λ what. event w s (at + seconds_of s) what) (notes s.fails s.warns) ++ halts w s (phase_after s.fails) (at + seconds_of s)
 
   no_notes : (at : ℕ) (xs : List (ℕ × What)) → All (λ (x : ℕ × What). is_note x.1 ≡ false) xs → (hook_messages_of (events_of at xs) ≡ events_of at xs) × (notes_of (events_of at xs) ≡ [])
   unfolding events_of
@@ -93,14 +93,14 @@ module _ (may : Type 0) (plan : SavedPlan) (kind : StepKind) (w : ℕ) (s : Step
   only_end false true at end = (refl, refl)
   only_end false false at end = (refl, refl)
 
-  only_halt : (phase : asked.Phase) (at : ℕ) (found : Option ℕ) → (hook_messages_of (option_to_list (option_map (λ hook. event w s at (Halted phase hook)) found)) ≡ [])
-      × (notes_of (option_to_list (option_map (λ hook. event w s at (Halted phase hook)) found)) ≡ option_to_list (option_map (λ hook. event w s at (Halted phase hook)) found))
+  only_halt : (phase : asked.Phase) (at : ℕ) (located : Option ℕ) → (hook_messages_of (option_to_list (option_map (λ hook. event w s at (Halted phase hook)) located)) ≡ [])
+      × (notes_of (option_to_list (option_map (λ hook. event w s at (Halted phase hook)) located)) ≡ option_to_list (option_map (λ hook. event w s at (Halted phase hook)) located))
   only_halt phase at None = (refl, refl)
   only_halt phase at (Some hook) = (refl, refl)
 
-  -- of a step whose end is told
-  started_split : tells_end s.fails s.only_warns ≡ true → (at : ℕ) → (hook_messages_of (started w s at) ≡ hooks_told at) × (notes_of (started w s at) ≡ notes_told at)
-  unfolding hooks_told notes_told events_of
+  -- a step whose end has a message
+  started_split : emits_end s.fails s.only_warns ≡ true → (at : ℕ) → (hook_messages_of (start_events w s at) ≡ hook_events at) × (notes_of (start_events w s at) ≡ notes_have_texts at)
+  unfolding hook_events notes_have_texts events_of
   started_split ends at =
       let start = event w s at Start ∷ [] in
       let middle = map (λ (x : ℕ × What). event w s (at + x.0) x.1) (told_in.between s) in
@@ -114,18 +114,18 @@ module _ (may : Type 0) (plan : SavedPlan) (kind : StepKind) (w : ℕ) (s : Step
       let note : notes_of last ≡ map (λ what. event w s (at + seconds_of s) what) (notes s.fails s.warns) =
       ap (λ (x : List What). notes_of (map (λ what. event w s (at + seconds_of s) what) x)) are ∙ all.1 in
       let h = only_halt (phase_after s.fails) (at + seconds_of s) (s.halts (phase_after s.fails)) in (
-        kept_both (λ e. not (is_note e.what)) (start ++ middle ++ last) halt
-            ∙ ap (λ (x : List Event). x ++ hook_messages_of halt) (kept_both (λ e. not (is_note e.what)) (start ++ middle) last ∙ ap (λ (x : List Event). (start ++ x) ++ hook_messages_of last) m.0 ∙ ap (λ (x : List Event). (start ++ middle) ++ x) end)
+        filtered_both (λ e. not (is_note e.what)) (start ++ middle ++ last) halt
+            ∙ ap (λ (x : List Event). x ++ hook_messages_of halt) (filtered_both (λ e. not (is_note e.what)) (start ++ middle) last ∙ ap (λ (x : List Event). (start ++ x) ++ hook_messages_of last) m.0 ∙ ap (λ (x : List Event). (start ++ middle) ++ x) end)
             ∙ ap (λ (x : List Event). ((start ++ middle) ++ event w s (at + seconds_of s) (end_of s.fails (seconds_of s)) ∷ []) ++ x) h.0
             ∙ append-nil ((start ++ middle) ++ event w s (at + seconds_of s) (end_of s.fails (seconds_of s)) ∷ []),
-        kept_both (λ e. is_note e.what) (start ++ middle ++ last) halt
-            ∙ ap (λ (x : List Event). x ++ notes_of halt) (kept_both (λ e. is_note e.what) (start ++ middle) last ∙ ap (λ (x : List Event). x ++ notes_of last) m.1 ∙ note)
+        filtered_both (λ e. is_note e.what) (start ++ middle ++ last) halt
+            ∙ ap (λ (x : List Event). x ++ notes_of halt) (filtered_both (λ e. is_note e.what) (start ++ middle) last ∙ ap (λ (x : List Event). x ++ notes_of last) m.1 ∙ note)
             ∙ ap (λ (x : List Event). map (λ what. event w s (at + seconds_of s) what) (notes s.fails s.warns) ++ x) h.1,
       )
 
-  -- of a step that only warns nothing is told at its end but the warning
-  left_split : tells_end s.fails s.only_warns ≡ false → (at : ℕ) → (hook_messages_of (started w s at) ≡ event w s at Start ∷ events_of at (told_in.between s))
-      × (notes_of (started w s at) ≡ event w s (at + seconds_of s) WarnNote ∷ halts w s (phase_after s.fails) (at + seconds_of s))
+  -- a step that only warns has a warning in place of its end
+  left_split : emits_end s.fails s.only_warns ≡ false → (at : ℕ) → (hook_messages_of (start_events w s at) ≡ event w s at Start ∷ events_of at (told_in.between s))
+      × (notes_of (start_events w s at) ≡ event w s (at + seconds_of s) WarnNote ∷ halts w s (phase_after s.fails) (at + seconds_of s))
   unfolding events_of
   left_split leaves at =
       let start = event w s at Start ∷ [] in
@@ -138,49 +138,49 @@ module _ (may : Type 0) (plan : SavedPlan) (kind : StepKind) (w : ℕ) (s : Step
       let end : hook_messages_of last ≡ [] = ap (λ (x : List What). hook_messages_of (map (λ what. event w s (at + seconds_of s) what) x)) are in
       let note : notes_of last ≡ warning = ap (λ (x : List What). notes_of (map (λ what. event w s (at + seconds_of s) what) x)) are in
       let h = only_halt (phase_after s.fails) (at + seconds_of s) (s.halts (phase_after s.fails)) in (
-        kept_both (λ e. not (is_note e.what)) (start ++ middle ++ last) halt
-            ∙ ap (λ (x : List Event). x ++ hook_messages_of halt) (kept_both (λ e. not (is_note e.what)) (start ++ middle) last ∙ ap (λ (x : List Event). (start ++ x) ++ hook_messages_of last) m.0 ∙ ap (λ (x : List Event). (start ++ middle) ++ x) end)
+        filtered_both (λ e. not (is_note e.what)) (start ++ middle ++ last) halt
+            ∙ ap (λ (x : List Event). x ++ hook_messages_of halt) (filtered_both (λ e. not (is_note e.what)) (start ++ middle) last ∙ ap (λ (x : List Event). (start ++ x) ++ hook_messages_of last) m.0 ∙ ap (λ (x : List Event). (start ++ middle) ++ x) end)
             ∙ ap (λ (x : List Event). ((start ++ middle) ++ []) ++ x) h.0
             ∙ append-nil ((start ++ middle) ++ [])
             ∙ append-nil (start ++ middle),
-        kept_both (λ e. is_note e.what) (start ++ middle ++ last) halt
-            ∙ ap (λ (x : List Event). x ++ notes_of halt) (kept_both (λ e. is_note e.what) (start ++ middle) last ∙ ap (λ (x : List Event). x ++ notes_of last) m.1 ∙ note)
+        filtered_both (λ e. is_note e.what) (start ++ middle ++ last) halt
+            ∙ ap (λ (x : List Event). x ++ notes_of halt) (filtered_both (λ e. is_note e.what) (start ++ middle) last ∙ ap (λ (x : List Event). x ++ notes_of last) m.1 ∙ note)
             ∙ ap (λ (x : List Event). warning ++ x) h.1,
       )
 
-  -- it stays under way
-  pub left_hooks : tells_end s.fails s.only_warns ≡ false → (at : ℕ) → (told : ℕ) × Leads may plan between (hook_messages_of (started w s at)) (under_way (action_of kind) told false)
+  -- the step stays under way
+  pub left_hooks : emits_end s.fails s.only_warns ≡ false → (at : ℕ) → (elapsed : ℕ) × Leads may plan between (hook_messages_of (start_events w s at)) (under_way (action_of kind) elapsed false)
   left_hooks leaves at =
-      let told = along_told may (action_of kind) (seconds_of s) s.seconds_before s.ran may_provision (omega arith) in
+      let elapsed = along_goes may (action_of kind) (seconds_of s) s.seconds_before s.ran may_provision (omega arith) in
       let start = event w s at Start ∷ [] in
       let middle = events_of at (told_in.between s) in (
-        told.0,
-        subst (λ (es : List Event). Leads may plan between es (under_way (action_of kind) told.0 false)) (sym (left_split leaves at).0)
-            (leads_on may plan between (under_way (action_of kind) 0 false) (under_way (action_of kind) told.0 false) start middle (under_way (action_of kind) 0 false, (kind, is, refl), refl)
-            (leads_passed at (under_way (action_of kind) 0 false) (told_in.between s) (under_way (action_of kind) told.0 false) told.2)),
+        elapsed.0,
+        subst (λ (es : List Event). Leads may plan between es (under_way (action_of kind) elapsed.0 false)) (sym (left_split leaves at).0)
+            (leads_on may plan between (under_way (action_of kind) 0 false) (under_way (action_of kind) elapsed.0 false) start middle (under_way (action_of kind) 0 false, (kind, is, refl), refl)
+            (leads_passed at (under_way (action_of kind) 0 false) (told_in.between s) (under_way (action_of kind) elapsed.0 false) elapsed.2)),
       )
 
-  pub left_notes : tells_end s.fails s.only_warns ≡ false → (at told : ℕ) → Leads may plan (under_way (action_of kind) told false) (notes_of (started w s at)) (under_way (action_of kind) told false)
-  left_notes leaves at told =
+  pub left_notes : emits_end s.fails s.only_warns ≡ false → (at elapsed : ℕ) → Leads may plan (under_way (action_of kind) elapsed false) (notes_of (start_events w s at)) (under_way (action_of kind) elapsed false)
+  left_notes leaves at elapsed =
       subst (λ (es : List Event). Leads may plan p es p) (sym (left_split leaves at).1) (p, (kind, is, refl), halted_there (s.halts (phase_after s.fails)))
     where
       p : Phase
-      p = under_way (action_of kind) told false
+      p = under_way (action_of kind) elapsed false
 
-      halted_there : (found : Option ℕ) → Leads may plan p (option_to_list (option_map (λ hook. event w s (at + seconds_of s) (Halted (phase_after s.fails) hook)) found)) p
+      halted_there : (located : Option ℕ) → Leads may plan p (option_to_list (option_map (λ hook. event w s (at + seconds_of s) (Halted (phase_after s.fails) hook)) located)) p
       halted_there None = refl
       halted_there (Some hook) = (p, (kind, is, refl), refl)
 
-  hooks_ran : (at : ℕ) → Leads may plan between (hooks_told at) (phase_then false s.fails)
-  unfolding hooks_told
+  hooks_ran : (at : ℕ) → Leads may plan between (hook_events at) (phase_then false s.fails)
+  unfolding hook_events
   hooks_ran at =
-      let told = along_told may (action_of kind) (seconds_of s) s.seconds_before s.ran may_provision (omega arith) in
+      let elapsed = along_goes may (action_of kind) (seconds_of s) s.seconds_before s.ran may_provision (omega arith) in
       let start = event w s at Start ∷ [] in
       let middle = events_of at (told_in.between s) in
-      leads_on may plan between (under_way (action_of kind) told.0 false) (phase_then false s.fails) (start ++ middle) (event w s (at + seconds_of s) (end_of s.fails (seconds_of s)) ∷ [])
-      (leads_on may plan between (under_way (action_of kind) 0 false) (under_way (action_of kind) told.0 false) start middle (under_way (action_of kind) 0 false, (kind, is, refl), refl)
-      (leads_passed at (under_way (action_of kind) 0 false) (told_in.between s) (under_way (action_of kind) told.0 false) told.2))
-      (end_leads s.fails (at + seconds_of s) told.0 (seconds_of s) told.1)
+      leads_on may plan between (under_way (action_of kind) elapsed.0 false) (phase_then false s.fails) (start ++ middle) (event w s (at + seconds_of s) (end_of s.fails (seconds_of s)) ∷ [])
+      (leads_on may plan between (under_way (action_of kind) 0 false) (under_way (action_of kind) elapsed.0 false) start middle (under_way (action_of kind) 0 false, (kind, is, refl), refl)
+      (leads_passed at (under_way (action_of kind) 0 false) (told_in.between s) (under_way (action_of kind) elapsed.0 false) elapsed.2))
+      (end_leads s.fails (at + seconds_of s) elapsed.0 (seconds_of s) elapsed.1)
 
   -- the notes of a step end the change's course
   noted : (fails warns : Bool) (at : ℕ) → Leads may plan (phase_then false fails) (map (λ what. event w s at what) (notes fails warns)) between
@@ -188,47 +188,47 @@ module _ (may : Type 0) (plan : SavedPlan) (kind : StepKind) (w : ℕ) (s : Step
   noted false true at = (between, (kind, is, refl), refl)
   noted false false at = refl
 
-  -- those of a step behind which the change goes on leave it where it is
+  -- the diagnostics of a step that goes on leave the change where it is
   warned : (warns : Bool) (at : ℕ) (p : Phase) → Leads may plan p (map (λ what. event w s at what) (notes false warns)) p
   warned false at p = refl
   warned true at between = (between, (kind, is, refl), refl)
   warned true at unexplained = (unexplained, (kind, is, refl), refl)
   warned true at (under_way k t b) = (under_way k t b, (kind, is, refl), refl)
 
-  pub step_hooks : tells_end s.fails s.only_warns ≡ true → (at : ℕ) → Leads may plan between (hook_messages_of (step_events w s at)) (phase_then (is_some (s.halts Pre)) s.fails)
+  pub step_hooks : emits_end s.fails s.only_warns ≡ true → (at : ℕ) → Leads may plan between (hook_messages_of (step_events w s at)) (phase_then (is_some (s.halts Pre)) s.fails)
   step_hooks ends at = either (s.halts Pre)
     where
-      either : (found : Option ℕ) → Leads may plan between (hook_messages_of (cond (is_some found) (option_to_list (option_map (λ hook. event w s at (Halted Pre hook)) found)) (started w s at))) (phase_then (is_some found) s.fails)
+      either : (located : Option ℕ) → Leads may plan between (hook_messages_of (cond (is_some located) (option_to_list (option_map (λ hook. event w s at (Halted Pre hook)) located)) (start_events w s at))) (phase_then (is_some located) s.fails)
       either None = subst (λ (es : List Event). Leads may plan between es (phase_then false s.fails)) (sym (started_split ends at).0) (hooks_ran at)
       either (Some hook) = refl
 
-  pub step_notes : tells_end s.fails s.only_warns ≡ true → (at : ℕ) → Leads may plan (phase_then (is_some (s.halts Pre)) s.fails) (notes_of (step_events w s at)) between
-  unfolding notes_told
+  pub step_notes : emits_end s.fails s.only_warns ≡ true → (at : ℕ) → Leads may plan (phase_then (is_some (s.halts Pre)) s.fails) (notes_of (step_events w s at)) between
+  unfolding notes_have_texts
   step_notes ends at = either (s.halts Pre)
     where
-      either : (found : Option ℕ) → Leads may plan (phase_then (is_some found) s.fails) (notes_of (cond (is_some found) (option_to_list (option_map (λ hook. event w s at (Halted Pre hook)) found)) (started w s at))) between
+      either : (located : Option ℕ) → Leads may plan (phase_then (is_some located) s.fails) (notes_of (cond (is_some located) (option_to_list (option_map (λ hook. event w s at (Halted Pre hook)) located)) (start_events w s at))) between
       either None =
           subst (λ (es : List Event). Leads may plan (phase_then false s.fails) es between) (sym (started_split ends at).1)
           (leads_on may plan (phase_then false s.fails) between between (map (λ what. event w s (at + seconds_of s) what) (notes s.fails s.warns)) (halts w s (phase_after s.fails) (at + seconds_of s))
           (noted s.fails s.warns (at + seconds_of s)) (halted (phase_after s.fails) (at + seconds_of s) (s.halts (phase_after s.fails))))
       either (Some hook) = halted Pre at (Some hook)
 
-  -- a step behind which the change goes on
-  pub step_warns : tells_end s.fails s.only_warns ≡ true → goes_on s ≡ true → (at : ℕ) (p : Phase) → Leads may plan p (notes_of (step_events w s at)) p
-  unfolding notes_told
+  -- a step that goes on
+  pub step_warns : emits_end s.fails s.only_warns ≡ true → goes_on s ≡ true → (at : ℕ) (p : Phase) → Leads may plan p (notes_of (step_events w s at)) p
+  unfolding notes_have_texts
   step_warns ends on at p =
       let all = and_parts (is_none (s.halts Pre) && not s.fails) (is_none (s.halts PostDone)) on in
       let both = and_parts (is_none (s.halts Pre)) (not s.fails) all.0 in
       let pre : is_some (s.halts Pre) ≡ false = ap is_some (is_nothing (s.halts Pre) both.0) in
       let fine : s.fails ≡ false = not-true s.fails both.1 in
       let post : s.halts PostDone ≡ None = is_nothing (s.halts PostDone) all.1 in
-      let told : notes_of (step_events w s at) ≡ map (λ what. event w s (at + seconds_of s) what) (notes false s.warns) =
-      ap (λ (b : Bool). notes_of (cond b (halts w s Pre at) (started w s at))) pre
+      let elapsed : notes_of (step_events w s at) ≡ map (λ what. event w s (at + seconds_of s) what) (notes false s.warns) =
+      ap (λ (b : Bool). notes_of (cond b (halts w s Pre at) (start_events w s at))) pre
       ∙ (started_split ends at).1
       ∙ ap (λ (f : Bool). map (λ what. event w s (at + seconds_of s) what) (notes f s.warns) ++ halts w s (phase_after f) (at + seconds_of s)) fine
       ∙ ap (λ (o : Option ℕ). map (λ what. event w s (at + seconds_of s) what) (notes false s.warns) ++ option_to_list (option_map (λ hook. event w s (at + seconds_of s) (Halted PostDone hook)) o)) post
       ∙ append-nil (map (λ what. event w s (at + seconds_of s) what) (notes false s.warns)) in
-      subst (λ (es : List Event). Leads may plan p es p) (sym told) (warned s.warns (at + seconds_of s) p)
+      subst (λ (es : List Event). Leads may plan p es p) (sym elapsed) (warned s.warns (at + seconds_of s) p)
 
   pub goes_between : goes_on s ≡ true → phase_then (is_some (s.halts Pre)) s.fails ≡ between
   goes_between on =

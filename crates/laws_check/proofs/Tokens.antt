@@ -9,7 +9,7 @@ use Rattle.json.specs.Ascii as ascii
 use Rattle.json.specs.Word.{after_number, ends_word, head, is_operator, is_space, literal, number_before, word}
 use Rattle.json.specs.Lex.{Class, quote, backslash, operator, space, other, class, Lexeme, token, comma, colon, Mode, between, in_word, in_string, in_escape, Place, fresh, after_value, after_comma, after_key, begins_colon, if_allowed, lex, lex_byte, may_begin, may_close, operator_lexeme, place_token, punctuate, string_token, tokens}
 use Rattle.laws_check.proofs.Content.{content_utf8}
-use Rattle.laws_check.proofs.Cuts.{behind}
+use Rattle.laws_check.proofs.Cuts.{after}
 use Rattle.laws_check.proofs.NumberTexts.{IsRest, before_rest, number_rest}
 
 abbrev pub IsSpelt : Token → Type 0
@@ -45,8 +45,8 @@ number_spelt : (t : List ℕ) (o : Option (List ℕ)) → IfSome o (IsRest t) �
 number_spelt t None left = tt
 number_spelt t (Some rest) left = either (ends_word rest) (number (take (length t - length rest) t)) bad (before_rest t rest left) tt
 
-literal_spelt : (name : List ℕ) (found : Token) (t : List ℕ) → IsSpelt found → IsSpelt (literal name found t)
-literal_spelt name found t h = either (starts_with nat_eq t name && ends_word (drop (length name) t)) found bad h tt
+literal_spelt : (name : List ℕ) (located : Token) (t : List ℕ) → IsSpelt located → IsSpelt (literal name located t)
+literal_spelt name located t h = either (starts_with nat_eq t name && ends_word (drop (length name) t)) located bad h tt
 
 word_spelt : (t : List ℕ) → IsSpelt (word t)
 unfolding word
@@ -81,7 +81,7 @@ quote_is x e = eqb-true x 34 (of_tests (x == 34) (x == 92) (is_operator x) (is_s
     of_tests false false false true e = absurd cc
     of_tests false false false false e = absurd cc
 
--- ---- all lexemes, behind what was read of the text
+-- ---- all lexemes, after the part of the text that was read
 
 byte_read : (x : ℕ) (xs : List ℕ) (m : Mode) (c : Class) → (c ≡ quote → IsUtf8 xs) → ((next : Mode) → AreRead (lex next xs)) → AreRead (lex_byte m c x xs (λ next. lex next xs))
 byte_read x xs between quote text rest = (string_spelt xs (content plain xs) (text refl) refl, rest in_string)
@@ -105,7 +105,7 @@ all_read : (m : Mode) (p xs : List ℕ) → IsUtf8 (p ++ xs) → AreRead (lex m 
 unfolding lex
 all_read m p [] text = tt
 all_read m p (x ∷ xs) text =
-    byte_read x xs m (class x) (λ e. behind p x xs text (let is : x ≡ 34 = quote_is x e in omega arith))
+    byte_read x xs m (class x) (λ e. after p x xs text (let is : x ≡ 34 = quote_is x e in omega arith))
     (λ next. all_read next (p ++ x ∷ []) xs (subst IsUtf8 (sym (append_assoc p (x ∷ []) xs)) text))
 
 -- ---- the tokens

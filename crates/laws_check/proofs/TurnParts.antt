@@ -1,4 +1,4 @@
--- The events of a time line are those of whole steps, of each change one after another.
+-- Each change's events in a time line are those of whole steps, one after another.
 use Rattle.std.proofs.Common.{◌≡◌, ◌≢◌, ◌∙◌, ℕ, zero, suc, ◌+◌, ◌<◌, ◌≤◌, ◌==◌, ◌⊎◌, inl, inr, All, List, [], ◌∷◌, ◌++◌, append-nil, length, map, filter, Bool, true, false, cond, Some, None, refl, sym, ap, ap₂, subst, slice_get, ⊎_elim, arith, eq-eqb, ne_eqb}
 use Rattle.std.specs.Prelude.{◌&&◌, ◌||◌}
 use Rattle.std.specs.List.{enumerate_from, list_all, list_any}
@@ -14,7 +14,7 @@ use Rattle.apply_events.specs.Fits.{HasStep, IsApplied}
 use Rattle.apply_events.specs.Step.{Step, Work, kinds_applied, kinds_of, step_of, steps_of}
 use Rattle.apply_events.specs.StepEvents.{goes_on, step_events}
 use Rattle.apply_events.proofs.AppliedSteps.{few_applied}
-use Rattle.laws_run.specs.WaitLaws.{AreWhole, BeginWhereAllIsDone, HasFewSteps, StandBehindWhatTheyWaitFor, events_of, goes_on_if_begun, has_events, is_done_along, is_of_step}
+use Rattle.laws_run.specs.WaitingSteps.{AreWhole, BeginWhereAllIsDone, HasFewSteps, ComeAfterWhatTheyWaitFor, events_of, goes_on_if_begun, has_events, is_done_along, is_of_step}
 use Rattle.laws_check.specs.WholeSteps.{AreOfSteps, IsOfWholeSteps, events_of_change}
 
 -- ---- lists
@@ -44,21 +44,21 @@ or_right false b is = is
 abbrev named : (c k : ℕ) → Wait
 named c k = record { change = c; step = k }
 
--- of a change no event of the first step stands behind one of the second
-abbrev NoFirstBehind : (c : ℕ) → List Event → Type 0
-NoFirstBehind c es = (before behind : List Event) (e : Event) → es ≡ before ++ e ∷ behind → e.change ≡ c → e.step ≡ 1 → has_events behind (named c 0) ≡ false
+-- no event of a change's first step comes after an event of its second
+abbrev NoFirstAfter : (c : ℕ) → List Event → Type 0
+NoFirstAfter c es = (before after : List Event) (e : Event) → es ≡ before ++ e ∷ after → e.change ≡ c → e.step ≡ 1 → has_events after (named c 0) ≡ false
 
 abbrev HasFew : (c : ℕ) → List Event → Type 0
 HasFew c [] = Unit {0}
 HasFew c (e ∷ es) = (e.change ≡ c → e.step < 2) × HasFew c es
 
--- the events of the first step and then those of the second are all that it has
-two_parts : (c : ℕ) (es : List Event) → HasFew c es → NoFirstBehind c es → events_of_change c es ≡ events_of (named c 0) es ++ events_of (named c 1) es
+-- the change has the events of its first step, then those of its second, and no others
+two_parts : (c : ℕ) (es : List Event) → HasFew c es → NoFirstAfter c es → events_of_change c es ≡ events_of (named c 0) es ++ events_of (named c 1) es
 two_parts c [] few order = refl
 two_parts c (e ∷ es) few order =
     let first = events_of (named c 0) es in
     let second = events_of (named c 1) es in
-    let rest : events_of_change c es ≡ first ++ second = two_parts c es few.1 (λ before behind x is. order (e ∷ before) behind x (ap (λ (l : List Event). e ∷ l) is)) in
+    let rest : events_of_change c es ≡ first ++ second = two_parts c es few.1 (λ before after x is. order (e ∷ before) after x (ap (λ (l : List Event). e ∷ l) is)) in
     ⊎_elim
     (λ (same : ((e.change == c) ≡ true) × (e.change ≡ c)).
     ⊎_elim
@@ -131,7 +131,7 @@ module _ (work : Work) (events : List Event) (whole : AreWhole work events) (beg
       where
         either : (b : Bool) → has_events events (named c k) ≡ b → has_events events (named c k) ≡ false
         either false absent = absent
-        either true there = let one = whole (named c k) there in let found = one.is_step in absurd cc
+        either true there = let one = whole (named c k) there in let located = one.is_step in absurd cc
 
     -- the second step has events only where the first is done
     second_waits : IsApplied work.plan work.script c 1 → is_done_along work events (named c 0) ≡ false → part 1 ≡ []
@@ -183,7 +183,7 @@ module _ (work : Work) (events : List Event) (whole : AreWhole work events) (beg
 
 -- ---- all of it
 
-pub of_whole_steps : (work : Work) (events : List Event) → HasFewSteps work → AreWhole work events → StandBehindWhatTheyWaitFor work events → BeginWhereAllIsDone work events → IsOfWholeSteps work events
+pub of_whole_steps : (work : Work) (events : List Event) → HasFewSteps work → AreWhole work events → ComeAfterWhatTheyWaitFor work events → BeginWhereAllIsDone work events → IsOfWholeSteps work events
 of_whole_steps work events few whole stand begins =
     let planned = planned_in work events whole begins events (λ name there. there) in
     record {
@@ -200,14 +200,14 @@ of_whole_steps work events few whole stand begins =
       few_of c es (All-tail (λ e. HasStep work.plan e.change e.step) e es planned),
     )
 
-    order : (c : ℕ) → NoFirstBehind c events
-    order c before behind e is change step =
-        let waits : All (λ name. has_events behind name ≡ false) (waits_of work.script e.change e.step) = stand before behind e is in
+    order : (c : ℕ) → NoFirstAfter c events
+    order c before after e is change step =
+        let waits : All (λ name. has_events after name ≡ false) (waits_of work.script e.change e.step) = stand before after e is in
         let named_so : waits_of work.script e.change e.step ≡ waits_of work.script c 1 = ap₂ (λ (a k : ℕ). waits_of work.script a k) change step in
-        first (waits_of work.script c 1) refl (subst (All (λ name. has_events behind name ≡ false)) named_so waits)
+        first (waits_of work.script c 1) refl (subst (All (λ name. has_events after name ≡ false)) named_so waits)
       where
-        first : (ws : List Wait) → waits_of work.script c 1 ≡ ws → All (λ name. has_events behind name ≡ false) ws → has_events behind (named c 0) ≡ false
+        first : (ws : List Wait) → waits_of work.script c 1 ≡ ws → All (λ name. has_events after name ≡ false) ws → has_events after (named c 0) ≡ false
         first [] is none = absurd cc
         first (w ∷ ws) is none =
             let same : w ≡ named c 0 = cc in
-            subst (λ (x : Wait). has_events behind x ≡ false) same (All-head (λ name. has_events behind name ≡ false) w ws none)
+            subst (λ (x : Wait). has_events after x ≡ false) same (All-head (λ name. has_events after name ≡ false) w ws none)

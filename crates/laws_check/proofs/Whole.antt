@@ -1,4 +1,4 @@
--- The whole stream: the version, what happens, and the summary.
+-- The whole stream in the default form: version, events, and summary.
 use Rattle.std.proofs.Common.{◌≡◌, ◌≢◌, ℕ, ◌+◌, ◌<◌, List, [], ◌∷◌, ◌++◌, length, Bool, true, false, cond, Option, Some, None, Result, Ok, Err, refl, sym, ap, ◌∙◌, subst, ⊎_elim, is_some, count_by, arith, eq-eqb}
 use Rattle.std.specs.Prelude.{◌||◌}
 use Rattle.std.specs.List.{list_any}
@@ -10,12 +10,12 @@ use Rattle.stream_check.specs.declared.messages.action.Action.TheVariants.{Creat
 use Rattle.stream_check.specs.declared.messages.totals.Totals.{Totals}
 use Rattle.stream_check.specs.declared.rules.fault.Fault.{Fault}
 use Rattle.stream_check.specs.declared.rules.fault.Fault.TheVariants.{AfterSummary}
-use Rattle.stream_check.specs.declared.rules.standing.Standing.{Standing}
+use Rattle.stream_check.specs.declared.rules.address_state.AddressState.{AddressState}
 use Rattle.stream_check.specs.Lines.{end_of, is_plan_stream, next, summed, whole_of}
 use Rattle.stream_check.specs.Message.{Message, version, summary}
 use Rattle.stream_check.specs.Open.{any_open, stands_open}
 use Rattle.stream_check.specs.Results.{◌>>=◌}
-use Rattle.stream_check.specs.Standing.{pending_at, standing_of}
+use Rattle.stream_check.specs.AddressState.{pending_at, state_of}
 use Rattle.stream_check.specs.Tally.{completed_totals, is_error, is_plan_summary, is_summary, is_version, line_of, same_totals}
 use Rattle.stream_check.proofs.OpenSteps.{not_any_open}
 use Rattle.laws_check.specs.Passing.{plain, verdict_on, with_all}
@@ -24,8 +24,8 @@ use Rattle.laws_check.proofs.Fitting.{MatchesPending, nothing_fits}
 use Rattle.laws_check.proofs.Moves.{Agrees, shown_is}
 use Rattle.laws_check.proofs.Ordinary.{Anywhere}
 use Rattle.laws_check.proofs.Phases.{IsAtRest, Phase, between, under_way, shown}
-use Rattle.laws_check.proofs.Standings.{next_behind}
-use Rattle.laws_check.proofs.Turning.{Runs, behind, joined}
+use Rattle.laws_check.proofs.Standings.{next_after}
+use Rattle.laws_check.proofs.Turning.{Runs, followed_by, joined}
 
 -- ---- the begin
 
@@ -33,21 +33,21 @@ none_shown : (limit : ℕ) (addresses : ℕ → List ℕ) (phases : ℕ → Phas
 none_shown limit addresses phases a k rest =
     ⊎_elim
     (λ none. none)
-    (λ found. let seen = shown_is addresses phases a k found.0 found.1 found.3 in
-    absurd (let e : between ≡ under_way k found.1 seen.1 = sym (rest found.0 (let less : found.0 < 0 + limit = found.2 in omega arith)) ∙ seen.2 in cc))
+    (λ located. let seen = shown_is addresses phases a k located.0 located.1 located.3 in
+    absurd (let e : between ≡ under_way k located.1 seen.1 = sym (rest located.0 (let less : located.0 < 0 + limit = located.2 in omega arith)) ∙ seen.2 in cc))
     (none_or_some (shown addresses phases a k) 0 limit)
 
--- nor is any but a read where the changes are at rest
+-- if the changes are at rest, nothing is under way but reads
 none_left : (limit : ℕ) (addresses : ℕ → List ℕ) (phases : ℕ → Phase) (a : List ℕ) (k : Action) → k ≢ Read → ((c : ℕ) → c < limit → IsAtRest (phases c)) → counted (shown addresses phases a k) 0 limit ≡ 0
 none_left limit addresses phases a k other rest =
     ⊎_elim
     (λ none. none)
-    (λ found. let seen = shown_is addresses phases a k found.0 found.1 found.3 in
-    absurd (other (subst IsAtRest seen.2 (rest found.0 (let less : found.0 < 0 + limit = found.2 in omega arith)))))
+    (λ located. let seen = shown_is addresses phases a k located.0 located.1 located.3 in
+    absurd (other (subst IsAtRest seen.2 (rest located.0 (let less : located.0 < 0 + limit = located.2 in omega arith)))))
     (none_or_some (shown addresses phases a k) 0 limit)
 
 pub at_begin : (limit : ℕ) (addresses : ℕ → List ℕ) (Does : ℕ → Action → Type 0) (Provides : ℕ → Type 0) → Agrees limit addresses Anywhere Does Provides (λ c. between) (version ∷ [])
-unfolding standing_of
+unfolding state_of
 at_begin limit addresses Does Provides = record {
   open_steps = λ a k _. idle_at a k (none_shown limit addresses (λ c. between) a k (λ c less. refl));
   provisioners = λ a _ some. absurd cc;
@@ -58,7 +58,7 @@ at_begin limit addresses Does Provides = record {
   amid = (refl, refl, refl);
 }
   where
-    idle_at : (a : List ℕ) (k : Action) → counted (shown addresses (λ c. between) a k) 0 limit ≡ 0 → MatchesPending limit k (shown addresses (λ c. between) a k) (pending_at k (standing_of a (version ∷ [])))
+    idle_at : (a : List ℕ) (k : Action) → counted (shown addresses (λ c. between) a k) 0 limit ≡ 0 → MatchesPending limit k (shown addresses (λ c. between) a k) (pending_at k (state_of a (version ∷ [])))
     idle_at a Create none = none
     idle_at a Update none = none
     idle_at a Delete none = none
@@ -67,12 +67,12 @@ at_begin limit addresses Does Provides = record {
 
 -- ---- the end: nothing stands open but reads
 
--- of failures it is no matter
-pub closed_but : (r : Bool) (s : Standing) → s.create ≡ None → s.update ≡ None → s.delete ≡ None → s.refresh ≡ None → stands_open r false s ≡ false
+-- failures do not keep an address open
+pub closed_but : (r : Bool) (s : AddressState) → s.create ≡ None → s.update ≡ None → s.delete ≡ None → s.refresh ≡ None → stands_open r false s ≡ false
 closed_but true s c u d x = rw (c, u, d, x) refl
 closed_but false s c u d x = rw (c, u, d) refl
 
-closed_from : (r f : Bool) (s : Standing) → s.create ≡ None → s.update ≡ None → s.delete ≡ None → s.refresh ≡ None → s.failures ≡ None → stands_open r f s ≡ false
+closed_from : (r f : Bool) (s : AddressState) → s.create ≡ None → s.update ≡ None → s.delete ≡ None → s.refresh ≡ None → s.failures ≡ None → stands_open r f s ≡ false
 closed_from r false s c u d x y = closed_but r s c u d x
 closed_from true true s c u d x y = rw (c, u, d, x, y) refl
 closed_from false true s c u d x y = rw (c, u, d, y) refl
@@ -82,15 +82,15 @@ nothing None h = refl
 nothing (Some x) h = absurd (h refl)
 
 pub none_stands : (limit : ℕ) (addresses : ℕ → List ℕ) (Does : ℕ → Action → Type 0) (Provides : ℕ → Type 0) (phases : ℕ → Phase) (ms : List Message) → Agrees limit addresses Anywhere Does Provides phases ms → ((c : ℕ) → c < limit → IsAtRest (phases c))
-    → (k : Action) → k ≢ Read → (a : List ℕ) → pending_at k (standing_of a ms) ≡ None
-none_stands limit addresses Does Provides phases ms agrees rest k other a = nothing_fits limit k (shown addresses phases a k) (pending_at k (standing_of a ms)) (agrees.open_steps a k tt) (none_left limit addresses phases a k other rest)
+    → (k : Action) → k ≢ Read → (a : List ℕ) → pending_at k (state_of a ms) ≡ None
+none_stands limit addresses Does Provides phases ms agrees rest k other a = nothing_fits limit k (shown addresses phases a k) (pending_at k (state_of a ms)) (agrees.open_steps a k tt) (none_left limit addresses phases a k other rest)
 
 closed_at_end : (limit : ℕ) (addresses : ℕ → List ℕ) (Does : ℕ → Action → Type 0) (Provides : ℕ → Type 0) (phases : ℕ → Phase) (ms : List Message) → Agrees limit addresses Anywhere Does Provides phases ms → ((c : ℕ) → c < limit → IsAtRest (phases c))
-    → (r f : Bool) (a : List ℕ) → stands_open r f (standing_of a ms) ≡ false
+    → (r f : Bool) (a : List ℕ) → stands_open r f (state_of a ms) ≡ false
 closed_at_end limit addresses Does Provides phases ms agrees rest r f a =
     let none = λ (k : Action) (other : k ≢ Read). none_stands limit addresses Does Provides phases ms agrees rest k other a in
-    closed_from r f (standing_of a ms) (none Create (λ e. absurd cc)) (none Update (λ e. absurd cc)) (none Delete (λ e. absurd cc)) (none Refresh (λ e. absurd cc))
-    (nothing (standing_of a ms).failures (λ some. let found = agrees.failures a tt some in subst IsAtRest found.3 (rest found.0 found.1)))
+    closed_from r f (state_of a ms) (none Create (λ e. absurd cc)) (none Update (λ e. absurd cc)) (none Delete (λ e. absurd cc)) (none Refresh (λ e. absurd cc))
+    (nothing (state_of a ms).failures (λ some. let located = agrees.failures a tt some in subst IsAtRest located.3 (rest located.0 located.1)))
 
 -- ---- the summary
 
@@ -100,10 +100,10 @@ agree t = rw (eq-eqb t.added t.added refl, eq-eqb t.changed t.changed refl, eq-e
 pub next_summary : (t : Totals) (ms : List Message) → is_some (line_of is_version ms) ≡ true → line_of is_summary ms ≡ None → any_open ms ≡ false → t ≡ completed_totals ms → next ms (summary t) ≡ Ok (summary t ∷ ms)
 next_summary t ms begun unsummed closed same =
     let agrees : same_totals t (completed_totals ms) ≡ true = ap (same_totals t) (sym same) ∙ agree t in
-    next_behind ms (summary t) begun (λ first. ap (λ (o : Option ℕ). option_map_or (λ line. Err (AfterSummary line)) o (summed t ms)) unsummed ∙ rw (closed, agrees) refl)
+    next_after ms (summary t) begun (λ first. ap (λ (o : Option ℕ). option_map_or (λ line. Err (AfterSummary line)) o (summed t ms)) unsummed ∙ rw (closed, agrees) refl)
 
-still_closed : (t : Totals) (ms : List Message) (a : List ℕ) → standing_of a (summary t ∷ ms) ≡ standing_of a ms
-unfolding standing_of
+still_closed : (t : Totals) (ms : List Message) (a : List ℕ) → state_of a (summary t ∷ ms) ≡ state_of a ms
+unfolding state_of
 still_closed t ms a = refl
 
 -- a stream that is no plan's, and has a summary or an error
@@ -118,10 +118,10 @@ summed_up t ms = and-false (is_some (line_of is_plan_summary ms))
 
 -- ---- all messages
 
-pub accepted : (plans : Bool) (limit : ℕ) (addresses : ℕ → List ℕ) (Does : ℕ → Action → Type 0) (Provides : ℕ → Type 0) (ms : List Message) (t : Totals) → Runs limit addresses Anywhere Does Provides (version ∷ []) ms → t ≡ completed_totals (behind (version ∷ []) ms)
-    → verdict_on (plain plans) (version ∷ (ms ++ summary t ∷ [])) ≡ Ok (whole_of (plain plans) (summary t ∷ behind (version ∷ []) ms))
+pub accepted : (plans : Bool) (limit : ℕ) (addresses : ℕ → List ℕ) (Does : ℕ → Action → Type 0) (Provides : ℕ → Type 0) (ms : List Message) (t : Totals) → Runs limit addresses Anywhere Does Provides (version ∷ []) ms → t ≡ completed_totals (followed_by (version ∷ []) ms)
+    → verdict_on (plain plans) (version ∷ (ms ++ summary t ∷ [])) ≡ Ok (whole_of (plain plans) (summary t ∷ followed_by (version ∷ []) ms))
 accepted plans limit addresses Does Provides ms t runs totals =
-    let later = behind (version ∷ []) ms in
+    let later = followed_by (version ∷ []) ms in
     let agrees = runs.1.1 in
     let closed = closed_at_end limit addresses Does Provides runs.1.0 later agrees runs.1.2 in
     let last : next later (summary t) ≡ Ok (summary t ∷ later) = next_summary t later agrees.amid.0 agrees.amid.1 (not_any_open later (closed _ _)) totals in
@@ -130,19 +130,19 @@ accepted plans limit addresses Does Provides ms t runs totals =
     ap (λ (r : Result (List Message) Fault). r >>= end_of (plain plans)) (joined (version ∷ []) later ms (summary t ∷ []) runs.0 ∙ ap (λ (r : Result (List Message) Fault). r >>= λ all. with_all all []) last)
     ∙ whole_end plans all none (summed_up t later) refl
 
--- ---- what they tell
+-- ---- the messages
 
-pub counts_behind : (p : Message → Bool) (earlier ms : List Message) → count_by p (behind earlier ms) ≡ count_by p earlier + count_by p ms
-counts_behind p earlier [] = let none : count_by p [] ≡ 0 = refl in omega arith
-counts_behind p earlier (m ∷ ms) =
-    let rest = counts_behind p (m ∷ earlier) ms in
+pub counts_followed_by : (p : Message → Bool) (earlier ms : List Message) → count_by p (followed_by earlier ms) ≡ count_by p earlier + count_by p ms
+counts_followed_by p earlier [] = let none : count_by p [] ≡ 0 = refl in omega arith
+counts_followed_by p earlier (m ∷ ms) =
+    let rest = counts_followed_by p (m ∷ earlier) ms in
     let here = sum_by-cons (λ x. cond (p x) 1 0) m earlier in
     let there = sum_by-cons (λ x. cond (p x) 1 0) m ms in
     omega arith
 
-pub length_behind : (earlier ms : List Message) → length (behind earlier ms) ≡ length earlier + length ms
-length_behind earlier [] = omega arith
-length_behind earlier (m ∷ ms) = let rest = length_behind (m ∷ earlier) ms in omega arith
+pub length_followed_by : (earlier ms : List Message) → length (followed_by earlier ms) ≡ length earlier + length ms
+length_followed_by earlier [] = omega arith
+length_followed_by earlier (m ∷ ms) = let rest = length_followed_by (m ∷ earlier) ms in omega arith
 
 or_swapped : (a b c : Bool) → ((b || a) || c) ≡ (a || (b || c))
 or_swapped true true c = refl
@@ -150,10 +150,10 @@ or_swapped true false c = refl
 or_swapped false true c = refl
 or_swapped false false c = refl
 
-pub any_behind : (p : Message → Bool) (earlier ms : List Message) → list_any p (behind earlier ms) ≡ (list_any p earlier || list_any p ms)
-any_behind p earlier [] = or_false (list_any p earlier)
+pub any_followed_by : (p : Message → Bool) (earlier ms : List Message) → list_any p (followed_by earlier ms) ≡ (list_any p earlier || list_any p ms)
+any_followed_by p earlier [] = or_false (list_any p earlier)
   where
     or_false : (b : Bool) → b ≡ (b || false)
     or_false true = refl
     or_false false = refl
-any_behind p earlier (m ∷ ms) = any_behind p (m ∷ earlier) ms ∙ or_swapped (list_any p earlier) (p m) (list_any p ms)
+any_followed_by p earlier (m ∷ ms) = any_followed_by p (m ∷ earlier) ms ∙ or_swapped (list_any p earlier) (p m) (list_any p ms)

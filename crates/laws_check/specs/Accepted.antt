@@ -1,4 +1,4 @@
--- What a checker is to answer to the stream of some events.
+-- What a checker reads back from the stream of some events in the default form, and its verdict.
 use Rattle.std.specs.Prelude.{◌+◌, List, [], ◌∷◌, ◌++◌, false, length, nat_lt, None}
 use Rattle.apply_plan.specs.Plan.SavedPlan.{SavedPlan}
 use Rattle.stream_check.specs.declared.messages.totals.Totals.{Totals}
@@ -8,22 +8,24 @@ use Rattle.apply_events.specs.declared.counts.Counts.{Counts}
 use Rattle.apply_events.specs.declared.event.Event.{Event}
 use Rattle.apply_events.specs.Totals.{totals_of}
 use Rattle.apply_text.specs.Order.{as_written}
-use Rattle.laws_check.specs.Told.{all_told}
+use Rattle.laws_check.specs.ReadBack.{events_read_back}
 
--- the totals that a summary says
-abbrev pub totals_said : Counts → Totals
-totals_said counts = record { added = counts.added; changed = counts.changed; removed = counts.removed }
+-- the totals of the summary, by the counts of a run
+abbrev pub totals_of_counts : Counts → Totals
+totals_of_counts counts = record { added = counts.added; changed = counts.changed; removed = counts.removed }
 
--- what the stream of events that were taken tells: the version, the events as they are written, the summary
-abbrev pub stream_told : SavedPlan → (taken : List Event) → List Message
-stream_told plan taken =
-    version ∷ (all_told plan (as_written taken) ++ summary (totals_said (totals_of plan taken)) ∷ [])
+-- the messages of the stream of the events that were taken: the version, the events in the order in
+-- which they are written, the summary
+abbrev pub stream_read_back : SavedPlan → (taken : List Event) → List Message
+stream_read_back plan taken =
+    version ∷ (events_read_back plan (as_written taken) ++ summary (totals_of_counts (totals_of plan taken)) ∷ [])
 
--- the stream is whole: the totals are the events', it tells of an error where a step failed or was halted, and the
--- lines are those of the events, the version and the summary, none of which is passed over
+-- The stream is whole. The totals are those of the events, and there is an error if a step failed
+-- or was halted. There is a line for each event, one for the version and one for the summary. None
+-- is passed over.
 abbrev pub whole_stream : SavedPlan → (taken : List Event) → Whole
 whole_stream plan taken = record {
-  totals = totals_said (totals_of plan taken);
+  totals = totals_of_counts (totals_of plan taken);
   has_errors = nat_lt 0 ((totals_of plan taken).failed + (totals_of plan taken).halted);
   lines = length taken + 2;
   is_plan = false;

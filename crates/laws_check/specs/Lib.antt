@@ -9,6 +9,6 @@ pub mod Passing
 pub mod Plans
 pub mod Sound
 pub mod Texts
-pub mod Told
-pub mod ToldInForm
+pub mod ReadBack
+pub mod ReadBackInForm
 pub mod WholeSteps

@@ -1,4 +1,5 @@
--- Events of a run, change by change: those of its steps, one after another, each step whole.
+-- Events of a run, change by change: those of the change's steps, one after another, each step
+-- whole.
 use Rattle.std.specs.Prelude.{◌≡◌, ◌<◌, ◌==◌, ◌++◌, ◌⊎◌, ℕ, All, List, [], ◌∷◌, false, length, true}
 use Rattle.std.specs.List.{filter}
 use Rattle.apply_events.specs.declared.event.Event.{Event}
@@ -6,12 +7,13 @@ use Rattle.apply_events.specs.Fits.{HasStep}
 use Rattle.apply_events.specs.Step.{Step, Work, steps_of}
 use Rattle.apply_events.specs.StepEvents.{goes_on, step_events}
 
--- the events of one change
+-- the events of change c
 abbrev pub events_of_change : (c : ℕ) → List Event → List Event
 events_of_change c events = filter (λ (event : Event). event.change == c) events
 
--- the events are those of some steps, one after another: of each all that it has where it begins at some moment, whoever
--- applies it, and none behind a step that does not go on; from some step on there may be none
+-- The events are those of the first of these steps, one step after another. Each step has all
+-- events that it has if it starts at some time, whoever applies it. After a step that does not go
+-- on there are none.
 abbrev pub AreOfSteps : List Step → List Event → Type 0
 AreOfSteps [] events = events ≡ []
 AreOfSteps (step ∷ steps) events =

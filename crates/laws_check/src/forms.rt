@@ -1,4 +1,5 @@
-//! Laws of streams in Terraform's form. Each function only calls the laws that its own follows from.
+//! Laws of the end of a stream in Terraform's form. Each function calls the laws that its own law
+//! follows from: its contract is the law.
 
 ghost use Rattle.std.specs.Prelude.{◌≡◌, ℕ, List, false};
 ghost use Rattle.apply_events.specs.declared.counts.Counts.{Counts};
@@ -7,32 +8,34 @@ ghost use Rattle.apply_model.specs.declared.details.output.Output.{Output};
 ghost use Rattle.apply_text_terraform.specs.Lines.{outputs_text, summary_text};
 ghost use Rattle.apply_run.specs.declared.form_report.FormReport.{FormReport};
 ghost use Rattle.apply_run.specs.declared.options.Options.{Options};
-ghost use Rattle.apply_run.specs.Bytes.{Given};
-ghost use Rattle.apply_run.specs.InForm.{WasAppliedAsTold, WasAppliedAsToldInLanes};
-ghost use Rattle.apply_run.specs.Run.{Sight};
+ghost use Rattle.apply_run.specs.Bytes.{Inputs};
+ghost use Rattle.apply_run.specs.InForm.{WasAppliedAsTerraform, WasAppliedAsTerraformInLanes};
+ghost use Rattle.apply_run.specs.Run.{SinkState};
 ghost use Rattle.laws_check.specs.Levels.{HasAnEndOrAnError, is_error_line};
 
 use crate::applied::what_was_read_is_within_limits;
 use crate::laws::{a_run_is_of_whole_steps, a_time_line_is_of_whole_steps};
 
-/// A stream in Terraform's form that was written whole ends with a summary, and with it, of an apply, one line of outputs,
-/// exactly where none of its lines has the level `error`, be it one of events or a diagnostic of no step. That it tells of an
-/// error is reported exactly where one of them has. So it is by workers and in lanes.
+/// A whole stream in Terraform's form ends with a summary if and only if none of its lines has the
+/// level `error`. In an apply, one line of outputs follows the summary.
+///
+/// The lines are those of events and of diagnostics of no step. The report names an error if and
+/// only if a line has the level `error`. The law holds by workers and in lanes.
 pub fn a_stream_has_an_end_or_an_error()
-    ensures workers { (given : Given) (options : Options) (report : FormReport) (before after : Sight)
-        (applied : WasAppliedAsTold given options report before after)
-        → HasAnEndOrAnError applied.told options.start options.operation applied.streamed.events report.tells_error }
-    ensures lanes { (given : Given) (lanes start : ℕ) (operation : Operation) (report : FormReport) (before after : Sight)
-        (applied : WasAppliedAsToldInLanes given lanes start operation report before after)
-        → HasAnEndOrAnError applied.told start operation applied.streamed.events report.tells_error }
+    ensures workers { (given : Inputs) (options : Options) (report : FormReport) (before after : SinkState)
+        (applied : WasAppliedAsTerraform given options report before after)
+        → HasAnEndOrAnError applied.stated options.start options.operation applied.streamed.events report.contains_error }
+    ensures lanes { (given : Inputs) (lanes start : ℕ) (operation : Operation) (report : FormReport) (before after : SinkState)
+        (applied : WasAppliedAsTerraformInLanes given lanes start operation report before after)
+        → HasAnEndOrAnError applied.stated start operation applied.streamed.events report.contains_error }
 {
     a_run_is_of_whole_steps();
     what_was_read_is_within_limits();
     a_time_line_is_of_whole_steps();
 }
 
-/// The lines with which a stream ends never have the level `error`.
-pub fn no_end_tells_of_an_error()
+/// The lines at the end of a stream never have the level `error`.
+pub fn no_end_has_the_level_error()
     ensures summary { (start latest : ℕ) (operation : Operation) (counts : Counts) (imported : ℕ)
         → is_error_line (summary_text start latest operation counts imported) ≡ false }
     ensures outputs { (start latest : ℕ) (outputs : List Output)

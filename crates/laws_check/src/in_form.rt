@@ -1,12 +1,14 @@
-//! Laws of what a checker reads in a stream in Terraform's form. Each function does nothing or only calls the laws that its own
-//! follows from; its contract is the law.
+//! Laws of the messages that a checker reads back from a stream in Terraform's form.
+//!
+//! Each function does nothing, or calls the laws that its own law follows from: its contract is the
+//! law.
 
 ghost use Rattle.std.specs.Prelude.{◌≡◌, ◌<◌, ◌^◌, ℕ, Bool, List, [], ◌∷◌, is_ok, length, true, Option, None, Ok, IfSome, IsUtf8};
 ghost use Rattle.std.specs.List.{concat};
 ghost use Rattle.json.specs.Json.{Json};
 ghost use Rattle.json.specs.Tree.{HasNumbers};
 ghost use Rattle.serde_json.specs.Data.{Data};
-ghost use Rattle.apply_json.specs.Keeping.{own_text};
+ghost use Rattle.apply_json.specs.Verbatim.{verbatim};
 ghost use Rattle.apply_json.specs.Tree.{tree_of};
 ghost use Rattle.apply_model.specs.declared.details.change_details.ChangeDetails.{ChangeDetails};
 ghost use Rattle.apply_model.specs.declared.details.note.Note.{Note};
@@ -25,108 +27,128 @@ ghost use Rattle.apply_events.specs.Step.{Work};
 ghost use Rattle.apply_text.specs.declared.operation.Operation.{Operation};
 ghost use Rattle.apply_text.specs.Lines as default;
 ghost use Rattle.apply_text.specs.Message.{event_message};
-ghost use Rattle.apply_text.specs.Moment.{moment_text};
+ghost use Rattle.apply_text.specs.UtcTimestamp.{timestamp_text};
 ghost use Rattle.apply_text_terraform.specs.Escapes.{escaped};
 ghost use Rattle.apply_text_terraform.specs.Lines.{event_line, note_text, planned_text, summary_text, version_text};
-ghost use Rattle.apply_text_terraform.specs.Moment.{fine_text};
-ghost use Rattle.apply_writer.specs.Stream.Terraform.{Besides};
-ghost use Rattle.laws_check.specs.Accepted.{totals_said};
+ghost use Rattle.apply_text_terraform.specs.UtcTimestamp.{precise_timestamp_text};
+ghost use Rattle.apply_writer.specs.Stream.Terraform.{StreamExtras};
+ghost use Rattle.laws_check.specs.Accepted.{totals_of_counts};
 ghost use Rattle.laws_check.specs.Applied.{HasShortLines};
-ghost use Rattle.laws_check.specs.Forms.{AreKept, IsReadAs, TellsTheSame, said_in_form, told_diag};
+ghost use Rattle.laws_check.specs.Forms.{AreVerbatim, IsParsedAs, IsSameInBothForms, message_in_form, event_diagnostic};
 ghost use Rattle.laws_check.specs.Objects.{object_at};
 ghost use Rattle.laws_check.specs.Passing.{plain, verdict_on, with_all};
 ghost use Rattle.laws_check.specs.Plans.{ChangesAreWhole, IsOrdinary, ProvisionsCreates, WarnsOfReads};
 ghost use Rattle.laws_check.specs.Texts.{AreSmall, HasChangeTexts, HasOutcomeTexts, IsSmall};
-ghost use Rattle.laws_check.specs.ToldInForm.{
-  AllSay,
+ghost use Rattle.laws_check.specs.ReadBackInForm.{
+  AreReadBackAs,
   HasDetailTexts,
   HasNoteTexts,
-  SaysAlone,
-  form_told,
-  heard_in_form,
-  planned_told,
-  told_before_end,
-  told_of_note,
+  IsReadBackAs,
+  stream_read_back_in_form,
+  read_back_in_form,
+  planned_read_back,
+  read_back_before_end,
+  diagnostic_read_back,
   whole_in_form,
 };
 ghost use Rattle.laws_check.specs.WholeSteps.{IsOfWholeSteps};
 
-/// A value that is printed is read as the same tree with its escapes: each stands for the character that it is an escape of.
+/// A printed JSON value is read as the same tree with its escapes: each escape stands for its
+/// character.
 pub fn an_escaped_text_is_read_as_the_text()
-    ensures { (j : Json) → HasNumbers j → IsUtf8 (own_text j) → tree_of (escaped (own_text j)) ≡ tree_of (own_text j) }
+    ensures { (j : Json) → HasNumbers j → IsUtf8 (verbatim j) → tree_of (escaped (verbatim j)) ≡ tree_of (verbatim j) }
 {}
 
-/// Read back, the two lines of an event differ in the text of their moment alone, whatever escapes and order of members they have;
-/// but that at a completion Terraform's form tells the planned id where the script tells none, that it leaves the address out of
-/// what a provider says of a delete, and that it tells what is kept of a diagnostic, its range and its snippet. Where it tells no
-/// other id, leaves no address out, and nothing is kept, both say one message.
-pub fn both_forms_say_the_same_of_an_event()
+/// As they are read back, the two lines of an event differ only in the text of their timestamp, but
+/// for three things.
+///
+/// Terraform's form has the planned id at a completion for which the script states no id. It leaves
+/// the address out of what a provider reports of a delete. It has the range and the snippet of a
+/// diagnostic. `same`: without another id, a missing address, a range and a snippet, both lines
+/// have the same message.
+///
+/// `applystream`: the line in the default form. `terraform`: the line in Terraform's form. The
+/// escapes and the order of members do not matter.
+pub fn both_forms_have_the_same_message_for_an_event()
     ensures applystream { (change : ResourceChange) (step : StepKind) (outcome : Outcome) (what : What) (seconds : ℕ)
         → HasChangeTexts change → HasOutcomeTexts outcome → IsSmall what
-        → IsReadAs (default.message_line seconds (event_message change step outcome what))
-        (object_at (moment_text seconds) (event_message change step outcome what)) }
+        → IsParsedAs (default.message_line seconds (event_message change step outcome what))
+        (object_at (timestamp_text seconds) (event_message change step outcome what)) }
     ensures terraform { (change : ResourceChange) (step : StepKind) (outcome : Outcome) (planned : Option (List ℕ))
         (range snippet : Option Data) (what : What) (seconds : ℕ)
         → HasChangeTexts change → HasOutcomeTexts outcome → IsSmall what → IfSome planned IsUtf8
-        → AreKept (told_diag outcome what) range snippet
-        → IsReadAs (event_line seconds change step outcome planned what)
-        (object_at (fine_text seconds) (said_in_form change step outcome planned range snippet what)) }
+        → AreVerbatim (event_diagnostic outcome what) range snippet
+        → IsParsedAs (event_line seconds change step outcome planned what)
+        (object_at (precise_timestamp_text seconds) (message_in_form change step outcome planned range snippet what)) }
     ensures same { (change : ResourceChange) (step : StepKind) (outcome : Outcome) (planned : Option (List ℕ)) (what : What)
-        → TellsTheSame change step outcome planned what
-        → said_in_form change step outcome planned None None what ≡ event_message change step outcome what }
+        → IsSameInBothForms change step outcome planned what
+        → message_in_form change step outcome planned None None what ≡ event_message change step outcome what }
 {}
 
-/// A checker hears of the line of an event in Terraform's form what it hears of the default form's: the address, the action, the
-/// seconds, and what becomes of a provisioner. Of what a provider says of a delete it hears no address.
-pub fn every_line_of_an_event_is_heard()
+/// The line of an event in Terraform's form is read back as the same message as in the default
+/// form, but for one thing. What a provider reports of a delete has no address.
+///
+/// The message has the address, the action, the seconds, and the stage of a provisioner.
+pub fn every_line_of_an_event_is_read_back()
     ensures { (change : ResourceChange) (step : StepKind) (outcome : Outcome) (planned : Option (List ℕ))
         (range snippet : Option Data) (what : What) (seconds : ℕ)
         → HasChangeTexts change → HasOutcomeTexts outcome → IsSmall what → IfSome planned IsUtf8
-        → AreKept (told_diag outcome what) range snippet
-        → SaysAlone (event_line seconds change step outcome planned what) (heard_in_form change step outcome what) }
+        → AreVerbatim (event_diagnostic outcome what) range snippet
+        → IsReadBackAs (event_line seconds change step outcome planned what) (read_back_in_form change step outcome what) }
 {
-    both_forms_say_the_same_of_an_event();
+    both_forms_have_the_same_message_for_an_event();
 }
 
-/// So it hears of the first line the version, of the line of a planned change what its word plans, of a diagnostic of no step
-/// whether it is an error and of which address, and of the summary the totals.
-pub fn every_line_beside_the_events_is_heard()
-    ensures version { (plan : SavedPlan) (start : ℕ) → IsUtf8 plan.version → SaysAlone (version_text plan start) version }
+/// The other lines in Terraform's form are read back, too.
+///
+/// `version`: the first line has the version. `planned`: the line of a planned change has what its
+/// word plans. `note`: a diagnostic of no step has its severity and its address. `summary`: the
+/// summary has the totals.
+pub fn every_line_of_no_event_is_read_back()
+    ensures version { (plan : SavedPlan) (start : ℕ) → IsUtf8 plan.version → IsReadBackAs (version_text plan start) version }
     ensures planned { (change : ResourceChange) (details : ChangeDetails) (start : ℕ) → HasChangeTexts change → HasDetailTexts details
-        → AllSay (planned_text start change details ∷ []) (planned_told change details) }
+        → AreReadBackAs (planned_text start change details ∷ []) (planned_read_back change details) }
     ensures note { (note : Note) (start latest : ℕ) → HasNoteTexts note
-        → SaysAlone (note_text start latest note) (told_of_note note) }
+        → IsReadBackAs (note_text start latest note) (diagnostic_read_back note) }
     ensures summary { (start latest : ℕ) (operation : Operation) (counts : Counts) (imported : ℕ)
         → AreSmall counts → imported < 2 ^ 64
-        → SaysAlone (summary_text start latest operation counts imported) (summary (totals_said counts)) }
+        → IsReadBackAs (summary_text start latest operation counts imported) (summary (totals_of_counts counts)) }
 {}
 
-/// To lines that say messages, each its own, a checker answers as to the messages, where none is longer than 64 MiB.
-pub fn lines_are_judged_by_what_they_say()
-    ensures { (plans : Bool) (lines : List (List ℕ)) (messages : List Message) (whole : Whole) → AllSay lines messages
+/// The checker's verdict on lines is its verdict on their messages.
+///
+/// Each line is read back as one message, and no line is longer than 64 MiB.
+pub fn lines_are_judged_by_their_messages()
+    ensures { (plans : Bool) (lines : List (List ℕ)) (messages : List Message) (whole : Whole) → AreReadBackAs lines messages
         → HasShortLines (concat lines) → verdict_on (plain plans) messages ≡ Ok whole
         → verdict_of (plain plans) (cut_lines (concat lines)) ≡ Ok whole }
 {}
 
-/// What the messages of whole steps tell in Terraform's form before its end a checker takes: what is planned, then what happens, in
-/// the order in which it is written, then the diagnostics of no step. No more begins than is planned, and a read that failed, whose
-/// end is not told, stands open beside others. Of the plan it is asked besides that each change is planned, and does one thing to
-/// its object or replaces it.
-pub fn every_message_before_the_end_is_taken()
-    ensures { (work : Work) (besides : Besides) (events : List Event)
-        → IsOrdinary work.plan → ChangesAreWhole work.plan → length besides.details ≡ length work.plan.changes
+/// In Terraform's form the checker accepts each message of whole steps before the end of the
+/// stream.
+///
+/// The messages are those of planned changes, then those of events in the order in which they are
+/// written, then the diagnostics of no step. No more steps begin than are planned. A read that
+/// failed has no end in this form, and stays open next to others. Each change of the plan does one
+/// thing to its object or replaces the object.
+pub fn every_message_before_the_end_is_accepted()
+    ensures { (work : Work) (extras : StreamExtras) (events : List Event)
+        → IsOrdinary work.plan → ChangesAreWhole work.plan → length extras.details ≡ length work.plan.changes
         → ProvisionsCreates work.plan work.script → WarnsOfReads work.plan work.script
         → IsOfWholeSteps work events
-        → is_ok (with_all [] (version ∷ told_before_end work.plan work.script besides events)) ≡ true }
+        → is_ok (with_all [] (version ∷ read_back_before_end work.plan work.script extras events)) ≡ true }
 {}
 
-/// And all that they tell it accepts, with their totals, and as one with errors exactly where a step failed or was halted or a
-/// diagnostic of no step is an error. The error of a failed delete may name no address; no fewer errors name none than steps failed
-/// at addresses that no error names, so that no failure is left without one.
+/// In Terraform's form the checker accepts the messages of whole steps to the end of the stream,
+/// with their totals.
+///
+/// The verdict has an error if and only if a step failed, a step was halted, or a diagnostic of no
+/// step is an error. The error of a failed delete may name no address. At least as many errors name
+/// no address as steps failed at addresses that no error names. So each failure has an error.
 pub fn whole_steps_are_accepted_in_terraforms_form()
-    ensures { (plans : Bool) (work : Work) (besides : Besides) (operation : Operation) (events : List Event)
-        → IsOrdinary work.plan → ChangesAreWhole work.plan → length besides.details ≡ length work.plan.changes
+    ensures { (plans : Bool) (work : Work) (extras : StreamExtras) (operation : Operation) (events : List Event)
+        → IsOrdinary work.plan → ChangesAreWhole work.plan → length extras.details ≡ length work.plan.changes
         → ProvisionsCreates work.plan work.script → WarnsOfReads work.plan work.script → IsOfWholeSteps work events
-        → verdict_on (plain plans) (form_told work.plan work.script besides operation events)
-        ≡ Ok (whole_in_form work.plan work.script besides operation events) }
+        → verdict_on (plain plans) (stream_read_back_in_form work.plan work.script extras operation events)
+        ≡ Ok (whole_in_form work.plan work.script extras operation events) }
 {}

@@ -1,4 +1,4 @@
--- The laws of accepted plans.
+-- The laws of plans that were read.
 use Rattle.std.proofs.Common.{◌≡◌, ℕ, Bool, true, false, List, [], ◌∷◌, ◌++◌, length, cond, ltb, Option, Some, None, Ok, Err, refl, ap, subst, ◌∙◌}
 use Rattle.std.specs.Prelude.{◌&&◌, ◌||◌}
 use Rattle.std.specs.List.{AllByRecursion, list_any}
@@ -26,7 +26,7 @@ use Rattle.laws_run.proofs.RelativeAddresses.{relative_joins}
 use Rattle.apply_plan.proofs.Results.{bind_ok, done, guard_ok, ok_is, or_refuse_ok}
 use Rattle.apply_plan.proofs.Plans.WholeList.{changes_one_by_one}
 
--- an accepted plan is that of a tree, and what its elements lead to
+-- a plan that was read is made of a tree, element by element
 pub record IsOfTree (bytes : List ℕ) (plan : SavedPlan) : Type 0 where
   pub tree : Data
   pub tree_is : tree_of bytes ≡ Some tree
@@ -50,14 +50,15 @@ read_from bytes plan e =
       made = changes_one_by_one top.0.elements ∙ listed.1 ∙ ap (λ (p : SavedPlan). done p.changes) (ok_is _ plan listed.2);
     }
 
--- a property that holds of no change and is kept by each further one holds of all changes of a plan
-kept : (P : List ResourceChange → Type 0) → ((earlier : List ResourceChange) (d : Data) (change : ResourceChange) → change_after earlier d ≡ Ok change → P earlier → P (earlier ++ change ∷ []))
+-- a property that holds of no changes and is preserved by each further change holds of all changes
+-- of a plan
+holds_of_all : (P : List ResourceChange → Type 0) → ((earlier : List ResourceChange) (d : Data) (change : ResourceChange) → change_after earlier d ≡ Ok change → P earlier → P (earlier ++ change ∷ []))
     → (elements : Items) (earlier all : List ResourceChange) → P earlier → made_after change_after earlier elements ≡ Ok all → P all
 unfolding made_after
-kept P step no_items earlier all holds e = subst P (ok_is earlier all e) holds
-kept P step (item d ds) earlier all holds e =
+holds_of_all P step no_items earlier all holds e = subst P (ok_is earlier all e) holds
+holds_of_all P step (item d ds) earlier all holds e =
     let first = bind_ok (change_after earlier d) (λ change. made_after change_after (earlier ++ change ∷ []) ds) all e in
-    kept P step ds (earlier ++ first.0 ∷ []) all (step earlier d first.0 first.1 holds) first.2
+    holds_of_all P step ds (earlier ++ first.0 ∷ []) all (step earlier d first.0 first.1 holds) first.2
 
 -- ---- each object once
 
@@ -97,7 +98,7 @@ is_new earlier d change e =
 pub each_once : (bytes : List ℕ) (plan : SavedPlan) → plan_of bytes ≡ Ok plan → NamesEachObjectOnce plan.changes
 each_once bytes plan e =
     let read = read_from bytes plan e in
-    kept NamesEachObjectOnce (λ earlier d change h once. once_push earlier change once (is_new earlier d change h)) read.header.elements [] plan.changes tt read.made
+    holds_of_all NamesEachObjectOnce (λ earlier d change h once. once_push earlier change once (is_new earlier d change h)) read.header.elements [] plan.changes tt read.made
 
 -- ---- relative addresses
 
@@ -110,11 +111,11 @@ has_relative earlier d change e =
     let formed = bind_ok (or_refuse (BadChange n) (element_of d)) _ planned.0 planned.1 in
     let stepped = bind_ok (or_refuse (BadActions n) (steps_of_actions formed.0.actions)) _ planned.0 formed.2 in
     let placed = bind_ok (or_refuse (BadAddress n) (relative_address formed.0.module_address formed.0.address)) _ planned.0 stepped.2 in
-    let found = or_refuse_ok (BadAddress n) (relative_address formed.0.module_address formed.0.address) placed.0 placed.1 in
+    let located = or_refuse_ok (BadAddress n) (relative_address formed.0.module_address formed.0.address) placed.0 placed.1 in
     subst HasRelativeAddress (ok_is planned.0 change new.1)
-    (subst HasRelativeAddress (ok_is (change_of formed.0 stepped.0) planned.0 placed.2) (relative_joins (change_of formed.0 stepped.0) placed.0 found))
+    (subst HasRelativeAddress (ok_is (change_of formed.0 stepped.0) planned.0 placed.2) (relative_joins (change_of formed.0 stepped.0) placed.0 located))
 
 pub all_joined : (bytes : List ℕ) (plan : SavedPlan) → plan_of bytes ≡ Ok plan → AllByRecursion HasRelativeAddress plan.changes
 all_joined bytes plan e =
     let read = read_from bytes plan e in
-    kept (AllByRecursion HasRelativeAddress) (λ earlier d change h all. All-push HasRelativeAddress earlier change all (has_relative earlier d change h)) read.header.elements [] plan.changes tt read.made
+    holds_of_all (AllByRecursion HasRelativeAddress) (λ earlier d change h all. All-push HasRelativeAddress earlier change all (has_relative earlier d change h)) read.header.elements [] plan.changes tt read.made

@@ -1,5 +1,5 @@
--- At each place of a time line where steps wait for others at most as many steps have an event before it and one after it as there are
--- lanes: a step is in one lane, which has all its events in a row.
+-- At each place of a time line no more steps have an event before it and an event after it than
+-- there are lanes. Steps may wait for others.
 use Rattle.std.proofs.Common.{◌≡◌, ◌≢◌, ◌⊎◌, ℕ, ◌+◌, ◌<◌, ◌≤◌, nat_eq, Bool, true, false, ◌&&◌, List, [], ◌∷◌, ◌++◌, All, cond, get_or, nat_le, nat_lt, sum_by, sym, refl, ap, ap₂, ◌∙◌, subst, ⊎_elim, inl, inr, arith, eq-eqb, ne_eqb}
 use Rattle.std.specs.Prelude.{◌||◌}
 use Rattle.std.specs.List.{Contains, list_any, range_with_len}
@@ -11,22 +11,22 @@ use Rattle.std.proofs.lemmas.List.FromFn.{get_or-range_with_len, length-range_wi
 use Rattle.std.proofs.lemmas.List.Sums.{get_or-le-sum_by, sum_by-cons, sum_by-le, sum_by-le-sum_by}
 use Rattle.apply_model.specs.declared.script.wait.Wait.{Wait}
 use Rattle.apply_events.specs.declared.event.Event.{Event}
-use Rattle.apply_events.specs.declared.lanes.taken.Taken.{Taken}
+use Rattle.apply_events.specs.declared.lanes.turn.StartedTurn.{StartedTurn}
 use Rattle.apply_events.specs.ChangeEvents.{in_turn}
 use Rattle.apply_events.specs.Interleaving.{IsInterleaving}
 use Rattle.apply_events.specs.OfWorker.{of_worker}
 use Rattle.apply_events.specs.Step.{Step, Work}
 use Rattle.apply_events.specs.StepEvents.{step_events, step_time}
-use Rattle.apply_events.specs.Waits.TimeLine.{InOrder, Precedes, lane_turns, moment_of, turn_events}
+use Rattle.apply_events.specs.Waits.TimeLine.{InOrder, Precedes, lane_turns, lane_time_of, turn_events}
 use Rattle.apply_events.specs.Waits.Turn.{begun_steps}
 use Rattle.apply_events.proofs.Joined.{of_worker-append}
 use Rattle.apply_events.proofs.StepNumbers.{AreNumbered}
-use Rattle.apply_events.proofs.Waits.Found.{found, lane_in}
+use Rattle.apply_events.proofs.Waits.Located.{answer, lane_in}
 use Rattle.apply_events.proofs.Waits.Members.{any_in, in_any, in_cases, in_filter, in_head, in_tail, not_in_none}
-use Rattle.apply_events.proofs.Waits.Once.{AreTurns, one_event, taken_in_list, turns_tail}
+use Rattle.apply_events.proofs.Waits.Once.{AreTurns, one_event, started_in_list, turns_tail}
 use Rattle.apply_events.proofs.Waits.TurnEvents.{of_step, of_turn, step_of_event}
 use Rattle.apply_events.proofs.Waits.TurnSteps.{all_at, begun_numbered, numbered_in}
-use Rattle.laws_run.specs.WaitLaws.{has_events, is_of_step}
+use Rattle.laws_run.specs.WaitingSteps.{has_events, is_of_step}
 use Rattle.laws_run.proofs.Along.{no_later}
 use Rattle.laws_run.specs.StepsUnderWay.{is_on_both_sides, is_step_under_way_at}
 use Rattle.laws_run.proofs.OpenInLanes.{all_range, bit, bit_le, sum_none, sum_plus}
@@ -48,7 +48,7 @@ or_none : (a b : Bool) → b ≡ false → (a || b) ≡ a
 or_none true b is = refl
 or_none false b is = is
 
--- one bit is no more than another where it needs what makes the same of both
+-- a bit is at most another bit if the first one set sets the other one
 no_more : (a b c d : Bool) → (a ≡ true → b ≡ true → c && d ≡ true) → bit (a && b) ≤ bit (c && d)
 no_more true true c d more = let on : bit (c && d) ≡ 1 = ap bit (more refl refl) in omega arith
 no_more true false c d more = omega arith
@@ -85,7 +85,7 @@ apart_has name es fs apart first second =
     apart e.0 f.0 e.1 f.1 (here.0 ∙ sym there.0) (here.1 ∙ sym there.1)
 
 -- two lists that are joined, cut at another place
-record CutBehind {A : Type 0} (es fs front rest : List A) : Type 0 where
+record CutAfter {A : Type 0} (es fs front rest : List A) : Type 0 where
   middle : List A
   front_is : front ≡ es ++ middle
   rest_is : fs ≡ middle ++ rest
@@ -95,14 +95,14 @@ record CutBefore {A : Type 0} (es fs front rest : List A) : Type 0 where
   front_is : es ≡ front ++ middle
   rest_is : rest ≡ middle ++ fs
 
-cut : {A : Type 0} (es fs front rest : List A) → es ++ fs ≡ front ++ rest → CutBehind es fs front rest ⊎ CutBefore es fs front rest
+cut : {A : Type 0} (es fs front rest : List A) → es ++ fs ≡ front ++ rest → CutAfter es fs front rest ⊎ CutBefore es fs front rest
 cut [] fs front rest e = inl (record { middle = front; front_is = refl; rest_is = e })
 cut (x ∷ es) fs [] rest e = inr (record { middle = x ∷ es; front_is = refl; rest_is = sym e })
 cut (x ∷ es) fs (y ∷ front) rest e =
     let same : x ≡ y = cc in
     let later : es ++ fs ≡ front ++ rest = cc in
     ⊎_elim
-    (λ (c : CutBehind es fs front rest). inl (record { middle = c.middle; front_is = ap₂ (λ a l. a ∷ l) (sym same) c.front_is; rest_is = c.rest_is }))
+    (λ (c : CutAfter es fs front rest). inl (record { middle = c.middle; front_is = ap₂ (λ a l. a ∷ l) (sym same) c.front_is; rest_is = c.rest_is }))
     (λ (c : CutBefore es fs front rest). inr (record { middle = c.middle; front_is = ap₂ (λ a l. a ∷ l) same c.front_is; rest_is = c.rest_is }))
     (cut es fs front rest later)
 
@@ -112,7 +112,7 @@ module _ (xs : List Wait) (each : (c k : ℕ) → sum_by (λ x. bit (is_step x c
   abbrev on_both_sides : (front rest : List Event) → ℕ
   on_both_sides front rest = sum_by (λ x. bit (is_on_both_sides front rest x)) xs
 
-  -- at each place of these events one step at most has events on both sides
+  -- at each place of these events at most one step has events on both sides
   abbrev OneAtATime : List Event → Type 0
   OneAtATime es = (front rest : List Event) → es ≡ front ++ rest → on_both_sides front rest ≤ 1
 
@@ -139,34 +139,34 @@ module _ (xs : List Wait) (each : (c k : ℕ) → sum_by (λ x. bit (is_step x c
 
   one_in_both : (es fs : List Event) → AreApart es fs → OneAtATime es → OneAtATime fs → OneAtATime (es ++ fs)
   one_in_both es fs apart first second front rest is = ⊎_elim
-      (λ (c : CutBehind es fs front rest).
+      (λ (c : CutAfter es fs front rest).
       let m = c.middle in
       let less = sum_by-le-sum_by (λ x. bit (is_on_both_sides front rest x)) (λ x. bit (is_on_both_sides m rest x)) xs (λ x.
-      no_more (has_events front x) (has_events rest x) (has_events m x) (has_events rest x) (λ before behind. behind_first x m before behind c.front_is c.rest_is)) in
+      no_more (has_events front x) (has_events rest x) (has_events m x) (has_events rest x) (λ before after. after_first x m before after c.front_is c.rest_is)) in
       let one = second m rest c.rest_is in
       omega arith)
       (λ (c : CutBefore es fs front rest).
       let m = c.middle in
       let less = sum_by-le-sum_by (λ x. bit (is_on_both_sides front rest x)) (λ x. bit (is_on_both_sides front m x)) xs (λ x.
-      no_more (has_events front x) (has_events rest x) (has_events front x) (has_events m x) (λ before behind. before_second x m before behind c.front_is c.rest_is)) in
+      no_more (has_events front x) (has_events rest x) (has_events front x) (has_events m x) (λ before after. before_second x m before after c.front_is c.rest_is)) in
       let one = first front m c.front_is in
       omega arith)
       (cut es fs front rest is)
     where
-      -- what has events behind the place has none among the first
-      behind_first : (x : Wait) (m : List Event) → has_events front x ≡ true → has_events rest x ≡ true → front ≡ es ++ m → fs ≡ m ++ rest → (has_events m x && has_events rest x) ≡ true
-      behind_first x m before behind front_is rest_is =
-          let later : has_events fs x ≡ true = ap (λ l. has_events l x) rest_is ∙ has_back x m rest behind in
+      -- a step with events after the place has none among the first
+      after_first : (x : Wait) (m : List Event) → has_events front x ≡ true → has_events rest x ≡ true → front ≡ es ++ m → fs ≡ m ++ rest → (has_events m x && has_events rest x) ≡ true
+      after_first x m before after front_is rest_is =
+          let later : has_events fs x ≡ true = ap (λ l. has_events l x) rest_is ∙ has_back x m rest after in
           let some : (has_events es x || has_events m x) ≡ true = sym (has-append x es m) ∙ sym (ap (λ l. has_events l x) front_is) ∙ before in ⊎_elim
           (λ (yes : has_events es x ≡ true). absurd (apart_has x es fs apart yes later))
-          (λ (no : has_events es x ≡ false). both (has_events m x) (has_events rest x) (sym (ap (λ b. b || has_events m x) no) ∙ some) behind)
+          (λ (no : has_events es x ≡ false). both (has_events m x) (has_events rest x) (sym (ap (λ b. b || has_events m x) no) ∙ some) after)
           (cases_Bool (has_events es x))
 
       -- what has events before the place has none among the second
       before_second : (x : Wait) (m : List Event) → has_events front x ≡ true → has_events rest x ≡ true → es ≡ front ++ m → rest ≡ m ++ fs → (has_events front x && has_events m x) ≡ true
-      before_second x m before behind front_is rest_is =
+      before_second x m before after front_is rest_is =
           let earlier : has_events es x ≡ true = ap (λ l. has_events l x) front_is ∙ has_front x front m before in
-          let some : (has_events m x || has_events fs x) ≡ true = sym (has-append x m fs) ∙ sym (ap (λ l. has_events l x) rest_is) ∙ behind in ⊎_elim
+          let some : (has_events m x || has_events fs x) ≡ true = sym (has-append x m fs) ∙ sym (ap (λ l. has_events l x) rest_is) ∙ after in ⊎_elim
           (λ (yes : has_events fs x ≡ true). absurd (apart_has x es fs apart earlier yes))
           (λ (no : has_events fs x ≡ false). both (has_events front x) (has_events m x) before (sym (or_none (has_events m x) (has_events fs x) no) ∙ some))
           (cases_Bool (has_events fs x))
@@ -188,13 +188,13 @@ module _ (xs : List Wait) (each : (c k : ℕ) → sum_by (λ x. bit (is_step x c
       (one_in_step lane moment s) (one_in_turn lane (n + 1) later steps numbered.1)
 
   module _ (w : Work) where
-    lane_apart : (taken : List Taken) (one : Taken) (lane : ℕ) → AreTurns w (one ∷ taken) → AreApart (lane_turns w taken lane) (turn_events w one)
+    lane_apart : (taken : List StartedTurn) (one : StartedTurn) (lane : ℕ) → AreTurns w (one ∷ taken) → AreApart (lane_turns w taken lane) (turn_events w one)
     lane_apart taken one lane ok e f here there change step =
         let other = lane_in w taken lane e here in
         let same : other.0 ≡ one = one_event w (one ∷ taken) other.0 one e f ok (in_tail one taken other.0 other.1) (in_head one taken) (of_turn w other.0 e other.3) (of_turn w one f there) change step in
-        true≢false (sym (taken_in_list taken other.0 one.turn other.1 (ap (λ (x : Taken). x.turn) same)) ∙ ok.once [] taken one refl)
+        true≢false (sym (started_in_list taken other.0 one.turn other.1 (ap (λ (x : StartedTurn). x.turn) same)) ∙ ok.once [] taken one refl)
 
-    one_in_lane : (taken : List Taken) (lane : ℕ) → AreTurns w taken → OneAtATime (lane_turns w taken lane)
+    one_in_lane : (taken : List StartedTurn) (lane : ℕ) → AreTurns w taken → OneAtATime (lane_turns w taken lane)
     one_in_lane [] lane ok = one_in_none
     one_in_lane (one ∷ taken) lane ok = of_lane (nat_eq one.lane lane) (one_in_lane taken lane (turns_tail w one taken ok)) (lane_apart taken one lane ok)
       where
@@ -206,20 +206,20 @@ module _ (xs : List Wait) (each : (c k : ℕ) → sum_by (λ x. bit (is_step x c
 
     -- ---- in all lanes
 
-    module _ (n : ℕ) (taken : List Taken) (front rest : List Event) (line : IsInterleaving n (lane_turns w taken) (front ++ rest)) (ok : AreTurns w taken) where
+    module _ (n : ℕ) (taken : List StartedTurn) (front rest : List Event) (line : IsInterleaving n (lane_turns w taken) (front ++ rest)) (ok : AreTurns w taken) where
       -- a step that has events on both sides has them in a lane
       some_lane : (x : Wait) → has_events front x ≡ true → has_events rest x ≡ true → (lane : ℕ) × (lane < n) × (is_on_both_sides (of_worker lane front) (of_worker lane rest) x ≡ true)
-      some_lane x before behind =
+      some_lane x before after =
           let events = front ++ rest in
           let e = in_any (is_of_step x) front before in
-          let f = in_any (is_of_step x) rest behind in
+          let f = in_any (is_of_step x) rest after in
           let first = Contains-append_left front rest e.0 e.1 in
-          let its = found w n taken events line e.0 first in
-          let other = found w n taken events line f.0 (Contains-append_right front rest f.0 f.1) in
+          let its = answer w n taken events line e.0 first in
+          let other = answer w n taken events line f.0 (Contains-append_right front rest f.0 f.1) in
           let here = of_name x e.0 e.2 in let there = of_name x f.0 f.2 in
           let same : its.one ≡ other.one = one_event w taken its.one other.one e.0 f.0 ok its.there other.there its.of other.of (here.0 ∙ sym there.0) (here.1 ∙ sym there.1) in
           let lane = e.0.worker in
-          let alike : f.0.worker ≡ lane = other.of.worker ∙ sym (ap (λ (t : Taken). t.lane) same) ∙ sym its.of.worker in (
+          let alike : f.0.worker ≡ lane = other.of.worker ∙ sym (ap (λ (t : StartedTurn). t.lane) same) ∙ sym its.of.worker in (
             lane,
             all_at (λ (g : Event). g.worker < n) events e.0 line.named first,
             both (has_events (of_worker lane front) x) (has_events (of_worker lane rest) x)
@@ -263,9 +263,9 @@ module _ (xs : List Wait) (each : (c k : ℕ) → sum_by (λ x. bit (is_step x c
           let size = length-range_with_len 0 n in
           omega arith
 
--- ---- at a moment
+-- ---- at a time
 
--- what comes by a moment stands before what comes later
+-- an event by a time stands before each later event
 pub record IsCutAt (moment : ℕ) (events : List Event) : Type 0 where
   pub front : List Event
   pub rest : List Event
@@ -273,7 +273,7 @@ pub record IsCutAt (moment : ℕ) (events : List Event) : Type 0 where
   pub by_then : (e : Event) → Contains front e → e.at ≤ moment
   pub later : (e : Event) → Contains rest e → moment < e.at
 
-pub cut_at : (taken : List Taken) (moment : ℕ) (events : List Event) → InOrder (moment_of taken) events → IsCutAt moment events
+pub cut_at : (taken : List StartedTurn) (moment : ℕ) (events : List Event) → InOrder (lane_time_of taken) events → IsCutAt moment events
 cut_at taken moment [] order = record {
   front = [];
   rest = [];
@@ -307,14 +307,14 @@ cut_at taken moment (x ∷ events) order = ⊎_elim
     from_then : (e : Event) → Contains (x ∷ events) e → moment < x.at → moment < e.at
     from_then e there late = ⊎_elim
         (λ (is : x ≡ e). subst (λ (y : Event). moment < y.at) is late)
-        (λ (there' : Contains events e). let low = no_later taken x e (all_at (Precedes (moment_of taken) x) events e order.0 there') in omega arith)
+        (λ (there' : Contains events e). let low = no_later taken x e (all_at (Precedes (lane_time_of taken) x) events e order.0 there') in omega arith)
         (in_cases x events e there)
 
--- a step with an event by the moment, and one later, has events on both sides
+-- a step with an event by the time and a later event has events on both sides
 pub both_sides_at : (moment : ℕ) (events : List Event) (its : IsCutAt moment events) (x : Wait) → bit (is_step_under_way_at moment events x) ≤ bit (is_on_both_sides its.front its.rest x)
 both_sides_at moment events its x =
     no_more (list_any by_then events) (list_any later events) (has_events its.front x) (has_events its.rest x) (λ first second.
-    both (has_events its.front x) (has_events its.rest x) (before first) (behind second))
+    both (has_events its.front x) (has_events its.rest x) (before first) (after second))
   where
     by_then : Event → Bool
     by_then e = is_of_step x e && nat_le e.at moment
@@ -331,8 +331,8 @@ both_sides_at moment events its x =
         (λ (there : Contains its.rest e.0). absurd (let late = its.later e.0 there in omega arith))
         (Contains-append_cases its.front its.rest e.0 (subst (λ l. Contains l e.0) its.are e.1))
 
-    behind : list_any later events ≡ true → has_events its.rest x ≡ true
-    behind is =
+    after : list_any later events ≡ true → has_events its.rest x ≡ true
+    after is =
         let e = in_any later events is in
         let parts = and_parts (is_of_step x e.0) (nat_lt moment e.0.at) e.2 in
         let late = ltb-true moment e.0.at parts.1 in ⊎_elim

@@ -1,4 +1,4 @@
--- A step ends once.
+-- A step ends at most once.
 use Rattle.std.proofs.Common.{◌≡◌, ℕ, zero, suc, ◌+◌, ◌<◌, ◌≤◌, nat_eq, All, Bool, true, false, ◌&&◌, ◌||◌, List, [], ◌∷◌, ◌++◌, cond, length, map, Option, Some, None, refl, ap, arith, ◌⊎◌, inl, inr, ⊎_elim}
 use Rattle.std.specs.Prelude.{count_by, is_some, option_map, option_to_list}
 use Rattle.std.proofs.lemmas.Bool.Decides.{eqb_tells}
@@ -15,7 +15,7 @@ use Rattle.apply_events.specs.ChangeEvents.{begun, change_events, in_turn}
 use Rattle.apply_events.specs.Laws.{ends_step}
 use Rattle.apply_events.specs.Provisions.{provision_end}
 use Rattle.apply_events.specs.Step.{Step, Work, steps_of}
-use Rattle.apply_events.specs.StepEvents.{between, end_of, endings, event, halts, notes, phase_after, seconds_of, started, step_events, step_time, tells_end}
+use Rattle.apply_events.specs.StepEvents.{between, end_of, endings, event, halts, notes, phase_after, seconds_of, start_events, step_events, step_time, emits_end}
 use Rattle.apply_events.specs.Totals.{is_complete, is_errored}
 use Rattle.apply_events.proofs.Provisions.{all_along}
 use Rattle.apply_events.proofs.Rising.{Rises, Rises-le}
@@ -39,7 +39,7 @@ and-false : (b : Bool) → (b && false) ≡ false
 and-false true = refl
 and-false false = refl
 
-count-halts : (k w : ℕ) (s : Step) (phase : Phase) (at : ℕ) (found : Option ℕ) → count_by (ends_step k) (option_to_list (option_map (λ hook. event w s at (Halted phase hook)) found)) ≡ 0
+count-halts : (k w : ℕ) (s : Step) (phase : Phase) (at : ℕ) (located : Option ℕ) → count_by (ends_step k) (option_to_list (option_map (λ hook. event w s at (Halted phase hook)) located)) ≡ 0
 count-halts k w s phase at None = refl
 count-halts k w s phase at (Some hook) = rw (and-false (nat_eq s.number k)) refl
 
@@ -53,10 +53,10 @@ notes_end_nothing false true k w s at = rw (and-false (nat_eq s.number k)) refl
 notes_end_nothing false false k w s at = refl
 
 count-endings : (k w : ℕ) (s : Step) (at : ℕ) → count_by (ends_step k) (map (λ what. event w s at what) (endings s)) ≤ 1
-count-endings k w s at = either (tells_end s.fails s.only_warns)
+count-endings k w s at = either (emits_end s.fails s.only_warns)
   where
-    told : count_by (ends_step k) (map (λ what. event w s at what) (end_of s.fails (seconds_of s) ∷ notes s.fails s.warns)) ≤ 1
-    told =
+    emitted_once : count_by (ends_step k) (map (λ what. event w s at what) (end_of s.fails (seconds_of s) ∷ notes s.fails s.warns)) ≤ 1
+    emitted_once =
         let first : cond (ends_step k (event w s at (end_of s.fails (seconds_of s)))) 1 0 ≤ 1 = at_most_one (ends_step k (event w s at (end_of s.fails (seconds_of s)))) in
         let rest : count_by (ends_step k) (map (λ what. event w s at what) (notes s.fails s.warns)) ≡ 0 = notes_end_nothing s.fails s.warns k w s at in
         let e : count_by (ends_step k) (map (λ what. event w s at what) (end_of s.fails (seconds_of s) ∷ notes s.fails s.warns)) ≡ cond (ends_step k (event w s at (end_of s.fails (seconds_of s)))) 1 0 + count_by (ends_step k) (map (λ what. event w s at what) (notes s.fails s.warns)) =
@@ -64,7 +64,7 @@ count-endings k w s at = either (tells_end s.fails s.only_warns)
         omega arith
 
     either : (b : Bool) → count_by (ends_step k) (map (λ what. event w s at what) (cond b (end_of s.fails (seconds_of s) ∷ notes s.fails s.warns) (WarnNote ∷ []))) ≤ 1
-    either true = told
+    either true = emitted_once
     either false = let none : count_by (ends_step k) (map (λ what. event w s at what) (WarnNote ∷ [])) ≡ 0 = rw (and-false (nat_eq s.number k)) refl in omega arith
 
 -- what happens before the end is no end
@@ -88,8 +88,8 @@ between_ends_nothing s = all_along (λ x. (is_complete x.1 || is_errored x.1) �
     end_is_none : (i : ℕ) (p : Provisioner) → (is_complete (provision_end i p) || is_errored (provision_end i p)) ≡ false
     end_is_none i p = elim (has_failed p) as (λ b. (is_complete (cond b (ProvisionErrored i) (ProvisionComplete i)) || is_errored (cond b (ProvisionErrored i) (ProvisionComplete i))) ≡ false) [ true ↦ refl | false ↦ refl ]
 
-count-started : (k w : ℕ) (s : Step) (at : ℕ) → count_by (ends_step k) (started w s at) ≤ 1
-count-started k w s at =
+count-start_events : (k w : ℕ) (s : Step) (at : ℕ) → count_by (ends_step k) (start_events w s at) ≤ 1
+count-start_events k w s at =
     let start = event w s at Start ∷ [] in
     let progress = map (λ (p : ℕ × What). event w s (at + p.0) p.1) (between s) in
     let ends = map (λ what. event w s (at + (seconds_of s)) what) (endings s) in
@@ -106,8 +106,8 @@ count-started k w s at =
 count-step : (k w : ℕ) (s : Step) (at : ℕ) → count_by (ends_step k) (step_events w s at) ≤ 1
 count-step k w s at = count-step-at k w s at (s.halts Pre)
   where
-    count-step-at : (k w : ℕ) (s : Step) (at : ℕ) (found : Option ℕ) → count_by (ends_step k) (cond (is_some found) (option_to_list (option_map (λ hook. event w s at (Halted Pre hook)) found)) (started w s at)) ≤ 1
-    count-step-at k w s at None = count-started k w s at
+    count-step-at : (k w : ℕ) (s : Step) (at : ℕ) (located : Option ℕ) → count_by (ends_step k) (cond (is_some located) (option_to_list (option_map (λ hook. event w s at (Halted Pre hook)) located)) (start_events w s at)) ≤ 1
+    count-step-at k w s at None = count-start_events k w s at
     count-step-at k w s at (Some hook) = let none : count_by (ends_step k) (option_to_list (option_map (λ hook. event w s at (Halted Pre hook)) (Some hook))) ≡ 0 = count-halts k w s Pre at (Some hook) in omega arith
 
 -- events of later steps end no earlier one

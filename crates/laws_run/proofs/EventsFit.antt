@@ -24,17 +24,18 @@ use Rattle.apply_events.specs.declared.event.Event.{Event}
 use Rattle.apply_events.specs.declared.what.What.{What}
 use Rattle.apply_events.specs.declared.what.What.TheVariants.{Start, Complete, Errored, ErrorNote, WarnNote, Halted}
 use Rattle.apply_events.specs.ChangeEvents.{begun, change_events, in_turn, span_of}
-use Rattle.apply_events.specs.Fits.{can_happen, happens, last_moment, max_span, may_be_asked}
+use Rattle.apply_events.specs.Fits.{can_happen, happens, latest_second, max_span, may_be_asked}
 use Rattle.apply_events.specs.Laws.{AllFit, IsWithinLimits, NamesEachOnce}
 use Rattle.apply_events.specs.Step.{Work, address_of, has_warning, kinds_applied, step_of}
-use Rattle.apply_events.specs.StepEvents.{between, end_of, endings, event, goes_on, halts, notes, phase_after, seconds_of, started, step_events, step_time, tells_end}
+use Rattle.apply_events.specs.StepEvents.{between, end_of, endings, event, goes_on, halts, notes, phase_after, seconds_of, start_events, step_events, step_time, emits_end}
 use Rattle.apply_events.specs.WorkerEvents.{worker_events}
-use Rattle.apply_events.proofs.Moments.{change_rises, moment_of, span_short, worker_in_time}
-use Rattle.laws_run.proofs.ProvisionsFit.{CanHappenTo, along_happens, found_at, found_next}
+use Rattle.apply_events.proofs.Moments.{change_rises, lane_time_of, span_short, worker_in_time}
+use Rattle.laws_run.proofs.ProvisionsFit.{CanHappenTo, along_happens, found_at, next_located}
 use Rattle.apply_events.proofs.Rising.{Rises-at_most, Rises-higher}
 use Rattle.apply_events.proofs.WorkerLists.{change_planned, worker_planned}
 
--- it can happen to its step, which is applied, as the script has that step end
+-- the event can happen: its step is applied, and may have the event with the outcome that the
+-- script states
 abbrev pub CanHappen : Work → Event → Type 0
 CanHappen work e = IsTrue (happens work.plan work.script e)
 
@@ -56,10 +57,10 @@ warns (Failed diag) h = absurd cc
 warns (Warned diag) h = refl
 
 all-endings : (kind : StepKind) (outcome : Outcome)
-    → All (Suits kind outcome) (cond (tells_end (fails outcome) (is_warned outcome.result)) (end_of (fails outcome) (took kind outcome) ∷ notes (fails outcome) (has_warning outcome.result)) (WarnNote ∷ []))
+    → All (Suits kind outcome) (cond (emits_end (fails outcome) (is_warned outcome.result)) (end_of (fails outcome) (took kind outcome) ∷ notes (fails outcome) (has_warning outcome.result)) (WarnNote ∷ []))
 all-endings kind outcome =
     let P = Suits kind outcome in
-    let ends : (failed warned : Bool) → List What = λ failed warned. cond (tells_end failed warned) (end_of failed (took kind outcome) ∷ notes failed (has_warning outcome.result)) (WarnNote ∷ []) in
+    let ends : (failed warned : Bool) → List What = λ failed warned. cond (emits_end failed warned) (end_of failed (took kind outcome) ∷ notes failed (has_warning outcome.result)) (WarnNote ∷ []) in
     elim (fails outcome) as (λ b. fails outcome ≡ b → All P (ends b (is_warned outcome.result))) [
       | true ↦ λ fails_so. All-cons P (Errored (took kind outcome)) (ErrorNote ∷ []) (both (fails outcome) (nat_eq (took kind outcome) (took kind outcome)) fails_so (itself (took kind outcome))) (All-cons P ErrorNote [] fails_so (All-nil P))
       | false ↦ λ fails_so.
@@ -79,16 +80,16 @@ asked_after : (fails : Bool) → may_be_asked fails (phase_after fails) ≡ true
 asked_after true = refl
 asked_after false = refl
 
--- a hook that halts is one of those that there are
+-- a hook that halts is one of the hooks
 abbrev IsFew : Option ℕ → Type 0
-IsFew found = IfSome found (λ hook. nat_lt hook max_hooks ≡ true)
+IsFew located = IfSome located (λ hook. nat_lt hook max_hooks ≡ true)
 
-few-found : (found : Option ℕ) (count : ℕ) → ((hook : ℕ) → found ≡ Some hook → hook < count) → count ≤ max_hooks → IsFew found
-few-found None count below few = tt
-few-found (Some hook) count below few = let less : hook < count = below hook refl in lt-ltb hook max_hooks (omega arith)
+few-located : (located : Option ℕ) (count : ℕ) → ((hook : ℕ) → located ≡ Some hook → hook < count) → count ≤ max_hooks → IsFew located
+few-located None count below few = tt
+few-located (Some hook) count below few = let less : hook < count = below hook refl in lt-ltb hook max_hooks (omega arith)
 
 few-halting : (hooks : List (List Rule)) (call : Call) → length hooks ≤ max_hooks → IsFew (first_halting hooks call)
-few-halting hooks call few = few-found (first_halting hooks call) (length hooks) (λ hook is. (position-Some (λ rules. is_halt (verdict_of rules call)) hooks hook [] is).0) few
+few-halting hooks call few = few-located (first_halting hooks call) (length hooks) (λ hook is. (position-Some (λ rules. is_halt (verdict_of rules call)) hooks hook [] is).0) few
 
 few-step : (work : Work) (c n : ℕ) (kind : StepKind) (phase : Phase) → length work.hooks ≤ max_hooks → IsFew ((step_of work c n kind).halts phase)
 few-step work c n kind phase few = few-halting work.hooks (record { phase = phase; kind = kind; address = address_of work.plan c }) few
@@ -101,19 +102,19 @@ IsAt work c n kind = slice_get (kinds_applied work.plan work.script c) n ≡ Som
 of_applied : (work : Work) (w c n : ℕ) (kind : StepKind) (at : ℕ) (what : What) → IsAt work c n kind → Suits kind (outcome_of work.script c n) what
     → CanHappen work (event w (step_of work c n kind) at what)
 of_applied work w c n kind at what here suits =
-    ap (λ found. option_map_or (λ one. can_happen one (outcome_of work.script c n) what) found false) here ∙ suits
+    ap (λ located. option_map_or (λ one. can_happen one (outcome_of work.script c n) what) located false) here ∙ suits
 
-all-halts : (work : Work) (w c n : ℕ) (kind : StepKind) (phase : Phase) (at : ℕ) (found : Option ℕ) → IsAt work c n kind
-    → may_be_asked (fails (outcome_of work.script c n)) phase ≡ true → IsFew found
-    → All (CanHappen work) (option_to_list (option_map (λ hook. event w (step_of work c n kind) at (Halted phase hook)) found))
+all-halts : (work : Work) (w c n : ℕ) (kind : StepKind) (phase : Phase) (at : ℕ) (located : Option ℕ) → IsAt work c n kind
+    → may_be_asked (fails (outcome_of work.script c n)) phase ≡ true → IsFew located
+    → All (CanHappen work) (option_to_list (option_map (λ hook. event w (step_of work c n kind) at (Halted phase hook)) located))
 all-halts work w c n kind phase at None here asked few = All-nil (CanHappen work)
 all-halts work w c n kind phase at (Some hook) here asked few =
     All-cons (CanHappen work) (event w (step_of work c n kind) at (Halted phase hook)) []
     (of_applied work w c n kind at (Halted phase hook) here (both (may_be_asked (fails (outcome_of work.script c n)) phase) (nat_lt hook max_hooks) asked few))
     (All-nil (CanHappen work))
 
-all-started : (work : Work) (w c n : ℕ) (kind : StepKind) (at : ℕ) → IsAt work c n kind → length work.hooks ≤ max_hooks → All (CanHappen work) (started w (step_of work c n kind) at)
-all-started work w c n kind at here few =
+all-start_events : (work : Work) (w c n : ℕ) (kind : StepKind) (at : ℕ) → IsAt work c n kind → length work.hooks ≤ max_hooks → All (CanHappen work) (start_events w (step_of work c n kind) at)
+all-start_events work w c n kind at here few =
     let s = step_of work c n kind in
     let outcome = outcome_of work.script c n in
     let progress = map (λ (p : ℕ × What). event w s (at + p.0) p.1) (between s) in
@@ -131,14 +132,14 @@ all-started work w c n kind at here few =
 pub all-step : (work : Work) (w c n : ℕ) (kind : StepKind) (at : ℕ) → IsAt work c n kind → length work.hooks ≤ max_hooks → All (CanHappen work) (step_events w (step_of work c n kind) at)
 all-step work w c n kind at here few = all-step-at work w c n kind at ((step_of work c n kind).halts Pre) here (few-step work c n kind Pre few) few
   where
-    all-step-at : (work : Work) (w c n : ℕ) (kind : StepKind) (at : ℕ) (found : Option ℕ) → IsAt work c n kind → IsFew found → length work.hooks ≤ max_hooks
-        → All (CanHappen work) (cond (is_some found) (option_to_list (option_map (λ hook. event w (step_of work c n kind) at (Halted Pre hook)) found)) (started w (step_of work c n kind) at))
-    all-step-at work w c n kind at None here low few = all-started work w c n kind at here few
+    all-step-at : (work : Work) (w c n : ℕ) (kind : StepKind) (at : ℕ) (located : Option ℕ) → IsAt work c n kind → IsFew located → length work.hooks ≤ max_hooks
+        → All (CanHappen work) (cond (is_some located) (option_to_list (option_map (λ hook. event w (step_of work c n kind) at (Halted Pre hook)) located)) (start_events w (step_of work c n kind) at))
+    all-step-at work w c n kind at None here low few = all-start_events work w c n kind at here few
     all-step-at work w c n kind at (Some hook) here low few = all-halts work w c n kind Pre at (Some hook) here refl low
 
 -- ---- what happens to the steps of changes
 
--- these kinds are those of the steps that are applied from step n on
+-- the kinds of the steps that are applied from step n on
 all-steps : (work : Work) (w c n : ℕ) (kinds : List StepKind) (at : ℕ) → drop n (kinds_applied work.plan work.script c) ≡ kinds → length work.hooks ≤ max_hooks
     → All (CanHappen work) (in_turn (step_events w) step_time (begun (map (λ p. step_of work c p.0 p.1) (enumerate_from n kinds))) at)
 all-steps work w c n [] at here few = All-nil (CanHappen work)
@@ -148,7 +149,7 @@ all-steps work w c n (kind ∷ kinds) at here few =
     All-append (CanHappen work) (step_events w s at) (in_turn (step_events w) step_time (cond (goes_on s) others []) (at + step_time s))
     (all-step work w c n kind at (found_at (kinds_applied work.plan work.script c) n kind kinds here) few)
     (elim (goes_on s) as (λ b. All (CanHappen work) (in_turn (step_events w) step_time (cond b others []) (at + step_time s))) [
-      | true ↦ all-steps work w c (n + 1) kinds (at + step_time s) (rw add-one (found_next (kinds_applied work.plan work.script c) n kind kinds here)) few
+      | true ↦ all-steps work w c (n + 1) kinds (at + step_time s) (rw add-one (next_located (kinds_applied work.plan work.script c) n kind kinds here)) few
       | false ↦ All-nil (CanHappen work)
     ])
 
@@ -162,10 +163,10 @@ changes_happen work w (c ∷ changes) at few =
 
 -- ---- with the plan's steps, and in time
 
-pub change_fits : (work : Work) (w c at : ℕ) → IsWithinLimits work → length work.hooks ≤ max_hooks → at + max_span ≤ last_moment → AllFit work (change_events work w c at)
+pub change_fits : (work : Work) (w c at : ℕ) → IsWithinLimits work → length work.hooks ≤ max_hooks → at + max_span ≤ latest_second → AllFit work (change_events work w c at)
 change_fits work w c at read few early k d less =
     let short : span_of work c ≤ max_span = span_short work c read in
-    let in_time = Rises-at_most moment_of at last_moment (change_events work w c at) (Rises-higher moment_of at (at + span_of work c) last_moment (change_events work w c at) (omega arith) (change_rises work w c at)) in
+    let in_time = Rises-at_most lane_time_of at latest_second (change_events work w c at) (Rises-higher lane_time_of at (at + span_of work c) latest_second (change_events work w c at) (omega arith) (change_rises work w c at)) in
     record { of_plan = record { has_step = change_planned work w c at k d less; in_time = in_time k d less }; happens = change_happens work w c at few k d less }
 
 pub worker_fits : (work : Work) (w : ℕ) (changes : List ℕ) → IsWithinLimits work → length work.hooks ≤ max_hooks → NamesEachOnce work changes → AllFit work (worker_events work w changes)

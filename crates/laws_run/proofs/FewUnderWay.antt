@@ -1,4 +1,4 @@
--- No more steps are under way than lanes, at a place of the events of a time line and at a moment.
+-- No more steps are under way than there are lanes, at each place of a time line and at each time.
 use Rattle.std.proofs.Common.{ℕ, ◌<◌, ◌≤◌, List, [], ◌∷◌, ◌++◌, All, refl, subst, ⊎_elim, arith}
 use Rattle.std.proofs.lemmas.Bool.{cases_lt}
 use Rattle.std.proofs.lemmas.List.Elements.{All-head}
@@ -9,14 +9,14 @@ use Rattle.apply_events.specs.Step.{Work}
 use Rattle.apply_events.specs.Waits.Schedule.{schedule}
 use Rattle.apply_events.specs.Waits.TimeLine.{IsTimeLine, lane_turns}
 use Rattle.apply_events.proofs.Waits.Once.{AreTurns}
-use Rattle.apply_events.proofs.Waits.TakenUp.{taken_up}
+use Rattle.apply_events.proofs.Waits.StartedTurns.{were_started}
 use Rattle.laws_run.specs.StepsUnderWay.{is_on_both_sides, is_step_under_way_at, steps_on_both_sides, steps_of_plan, steps_under_way_at}
 use Rattle.laws_run.proofs.OpenInLanes.{bit, sum_none}
 use Rattle.laws_run.proofs.BothSides.{both_sides_at, cut_at, few_on_both_sides}
 use Rattle.laws_run.proofs.StepsOnce.{each_step_once}
 
 turns_of_schedule : (work : Work) (n : ℕ) → 0 < n → AreTurns work (schedule work n)
-turns_of_schedule work n some = let up = taken_up work n some in record { known = up.known; once = up.once }
+turns_of_schedule work n some = let up = were_started work n some in record { known = up.known; once = up.once }
 
 -- no lane has no event
 none_without_lanes : (work : Work) (n : ℕ) (front rest : List Event) → n ≤ 0 → All (λ e. e.worker < n) (front ++ rest) → steps_on_both_sides work front rest ≤ n

@@ -1,4 +1,4 @@
--- The first hook that halts is the one that halts and has none before it that does.
+-- The first hook that halts a call halts it, and no hook before it does.
 use Rattle.std.proofs.Common.{◌≡◌, ℕ, ◌<◌, List, [], length, Some, true, false, refl, ap, arith}
 use Rattle.std.specs.List.{position_or_len}
 use Rattle.std.proofs.lemmas.Grind.{common_steps}
@@ -21,8 +21,8 @@ continue-from_false Halt h = cc
 continue-from_false Continue h = refl
 
 pub is_first_halting : (hooks : List (List Rule)) (call : Call) (number : ℕ) → first_halting hooks call ≡ Some number → IsFirstHalting hooks call number
-is_first_halting hooks call number told =
-    let first = position-Some (λ rules. is_halt (verdict_of rules call)) hooks number [] told in
+is_first_halting hooks call number named =
+    let first = position-Some (λ rules. is_halt (verdict_of rules call)) hooks number [] named in
     record { below = first.0; halts = halt-from_true _ first.1; before = λ earlier low. continue-from_false _ (first.2 earlier low) }
 
 -- a place that passes and has none before it that does is where the search stops

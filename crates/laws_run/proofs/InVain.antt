@@ -1,15 +1,15 @@
--- What waits in vain has no events, and no other step that could begin has none.
+-- A step that waits in vain has no events, and each other step that could begin has some.
 use Rattle.std.proofs.Common.{◌≡◌, ◌⊎◌, ℕ, zero, suc, ◌*◌, ◌<◌, ◌≤◌, Bool, true, false, ◌&&◌, List, [], ◌∷◌, length, refl, sym, ap, ◌∙◌, subst, ⊎_elim, inl, inr, arith}
 use Rattle.std.specs.Prelude.{◌↔◌, not}
 use Rattle.std.specs.List.{Contains, list_all}
 use Rattle.std.proofs.lemmas.Bool.{cases_Bool, cases_lt, true≢false}
 use Rattle.apply_model.specs.declared.script.wait.Wait.{Wait}
-use Rattle.apply_model.specs.Script.Waits.{begins_within, waits_of, waits_told}
+use Rattle.apply_model.specs.Script.Waits.{begins_within, waits_of, stated_waits}
 use Rattle.apply_events.specs.declared.event.Event.{Event}
 use Rattle.apply_events.specs.Fits.{HasStep, IsApplied}
 use Rattle.apply_events.specs.Step.{Work, kinds_applied}
-use Rattle.laws_run.specs.WaitLaws.{BeginWhereAllIsDone, HasFewSteps, LeaveOutNoneWithoutNeed, LeaveOutWhatWaitsInVain, NamesSteps, WaitsInVain, goes_on_if_begun, has_events, has_stopped, is_done_along, skips}
-use Rattle.laws_run.specs.WaitLaws.WaitsInVain.{for_skipped, for_stopped, for_waiting}
+use Rattle.laws_run.specs.WaitingSteps.{BeginWhereAllIsDone, HasFewSteps, LeaveOutNoneWithoutNeed, LeaveOutWhatWaitsInVain, NamesSteps, WaitsInVain, goes_on_if_begun, has_events, has_stopped, is_done_along, skips}
+use Rattle.laws_run.specs.WaitingSteps.WaitsInVain.{for_skipped, for_stopped, for_waiting}
 use Rattle.apply_events.proofs.Waits.Members.{in_all, in_cases, in_head, in_tail}
 use Rattle.laws_run.proofs.Named.{named}
 use Rattle.laws_run.proofs.Skipped.{not_applied, one_skipped, waits_same}
@@ -43,9 +43,9 @@ stopped_is true true is off = absurd (true≢false off)
 stopped_is true false is off = refl
 stopped_is false b is off = absurd (true≢false (sym is))
 
-begins_waited : (script : _) (rounds c k : ℕ) → begins_within script (suc rounds) c k ≡ true → (name : Wait) → Contains (waits_told script c k) name → begins_within script rounds name.change name.step ≡ true
+begins_waited : (script : _) (rounds c k : ℕ) → begins_within script (suc rounds) c k ≡ true → (name : Wait) → Contains (stated_waits script c k) name → begins_within script rounds name.change name.step ≡ true
 unfolding begins_within
-begins_waited script rounds c k is name there = in_all (λ (wait : Wait). begins_within script rounds wait.change wait.step) (waits_told script c k) name is there
+begins_waited script rounds c k is name there = in_all (λ (wait : Wait). begins_within script rounds wait.change wait.step) (stated_waits script c k) name is there
 
 none_within : (script : _) (c k : ℕ) → begins_within script zero c k ≡ true → ⊥
 unfolding begins_within
@@ -72,7 +72,7 @@ module _ (w : Work) (events : List Event) (few : HasFewSteps w) (exact : BeginWh
   none_if_skipped : (name : Wait) → HasStep w.plan name.change name.step → skips w.script name ≡ true → has_events events name ≡ false
   none_if_skipped name has skipped = none_unless_applied name (not_applied w name.change name.step (let most = few name.change in omega arith) skipped)
 
-  -- nor has what waits for a step that is not done
+  -- a step that waits for a step that is not done has no events
   none_if_waited : (name waited : Wait) → Contains (waits_of w.script name.change name.step) waited → is_done_along w events waited ≡ false → has_events events name ≡ false
   none_if_waited name waited there off = ⊎_elim
       (λ (is : name.step < length (kinds_applied w.plan w.script name.change)).
@@ -90,9 +90,9 @@ module _ (w : Work) (events : List Event) (few : HasFewSteps w) (exact : BeginWh
       none_if_waited name waited there
       (no_if_first (has_events events waited) (goes_on_if_begun w waited) (none_in_vain waited vain (known name.change name.step waited has there)))
 
-  -- a step that is not applied, and not skipped, stands behind one that is skipped
-  behind_skipped : (c k : ℕ) → HasStep w.plan c k → (IsApplied w.plan w.script c k → ⊥) → skips w.script (record { change = c; step = k }) ≡ false → WaitsInVain w events (record { change = c; step = k })
-  behind_skipped c k has never off = by_place k has never off (one_skipped w c k has (few c) never)
+  -- a step that is neither applied nor skipped comes after a skipped step
+  after_skipped : (c k : ℕ) → HasStep w.plan c k → (IsApplied w.plan w.script c k → ⊥) → skips w.script (record { change = c; step = k }) ≡ false → WaitsInVain w events (record { change = c; step = k })
+  after_skipped c k has never off = by_place k has never off (one_skipped w c k has (few c) never)
     where
       by_place : (k : ℕ) → HasStep w.plan c k → (IsApplied w.plan w.script c k → ⊥) → skips w.script (record { change = c; step = k }) ≡ false
           → (j : ℕ) × (j ≤ k) × (skips w.script (record { change = c; step = j }) ≡ true) → WaitsInVain w events (record { change = c; step = k })
@@ -109,7 +109,8 @@ module _ (w : Work) (events : List Event) (few : HasFewSteps w) (exact : BeginWh
           let same : suc j ≡ k = omega arith in
           absurd (true≢false (sym skipped ∙ ap (λ m. skips w.script (record { change = c; step = m })) same ∙ off))
 
-  -- a step that is applied, and has no events, waits in vain, if what it waits for does or is skipped where it has none
+  -- A step that is applied and has no events waits in vain. Each step without events that it waits
+  -- for is skipped or waits in vain.
   applied_in_vain : (rounds : ℕ) (name : Wait) → begins_within w.script (suc rounds) name.change name.step ≡ true → HasStep w.plan name.change name.step → has_events events name ≡ false
       → IsApplied w.plan w.script name.change name.step → skips w.script name ≡ false
       → ((other : Wait) → begins_within w.script rounds other.change other.step ≡ true → HasStep w.plan other.change other.step → has_events events other ≡ false
@@ -118,12 +119,12 @@ module _ (w : Work) (events : List Event) (few : HasFewSteps w) (exact : BeginWh
   applied_in_vain rounds name begins has none is off others =
       let waited = one_not (is_done_along w events) (waits_of w.script name.change name.step) (sym (exact name.change name.step is) ∙ none) in
       let other = waited.0 in
-      let told : Contains (waits_told w.script name.change name.step) other = subst (λ names. Contains names other) (sym (waits_same w.script name.change name.step off)) waited.1 in ⊎_elim
+      let stated : Contains (stated_waits w.script name.change name.step) other = subst (λ names. Contains names other) (sym (waits_same w.script name.change name.step off)) waited.1 in ⊎_elim
       (λ (some : has_events events other ≡ true). for_stopped name other waited.1 (stopped_is (has_events events other) (goes_on_if_begun w other) some waited.2))
       (λ (nothing : has_events events other ≡ false). ⊎_elim
       (λ (skipped : skips w.script other ≡ true). for_skipped name other waited.1 skipped)
       (λ (vain : WaitsInVain w events other). for_waiting name other waited.1 vain)
-      (others other (begins_waited w.script rounds name.change name.step begins other told) (known name.change name.step other has waited.1) nothing))
+      (others other (begins_waited w.script rounds name.change name.step begins other stated) (known name.change name.step other has waited.1) nothing))
       (cases_Bool (has_events events other))
 
   in_vain : (rounds : ℕ) (name : Wait) → begins_within w.script rounds name.change name.step ≡ true → HasStep w.plan name.change name.step → has_events events name ≡ false
@@ -133,7 +134,7 @@ module _ (w : Work) (events : List Event) (few : HasFewSteps w) (exact : BeginWh
       (λ (skipped : skips w.script name ≡ true). inl skipped)
       (λ (off : skips w.script name ≡ false). inr (⊎_elim
       (λ (is : name.step < length (kinds_applied w.plan w.script name.change)). applied_in_vain rounds name begins has none is off (in_vain rounds))
-      (λ (past : length (kinds_applied w.plan w.script name.change) ≤ name.step). behind_skipped name.change name.step has (λ is. omega arith) off)
+      (λ (past : length (kinds_applied w.plan w.script name.change) ≤ name.step). after_skipped name.change name.step has (λ is. omega arith) off)
       (cases_lt name.step (length (kinds_applied w.plan w.script name.change)))))
       (cases_Bool (skips w.script name))
 

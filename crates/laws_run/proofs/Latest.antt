@@ -1,4 +1,4 @@
--- The latest moment so far never falls, and is an event's own where moments never fall.
+-- The latest time so far never falls, and is the event's own time if times never fall.
 use Rattle.std.proofs.Common.{◌≡◌, ℕ, zero, suc, ◌+◌, ◌<◌, ◌≤◌, List, [], ◌∷◌, ◌++◌, get_or, length, map, take, add-one, arith, not}
 use Rattle.std.specs.Prelude.{IfSome, max, fold, slice_get}
 use Rattle.std.specs.List.Sorted.{IsNonDecreasingBy}
@@ -23,21 +23,21 @@ never_falls events i j few = from events 0 i j few
 
 -- ---- an event's own
 
--- where the first of some events, along which moments never fall, comes no earlier than what was so far
-own_from : (events behind : List Event) (a i : ℕ) → IsNonDecreasingBy (λ (event : Event). event.at) events
+-- for events whose times never fall, the first no earlier than the latest time so far
+own_from : (events after : List Event) (a i : ℕ) → IsNonDecreasingBy (λ (event : Event). event.at) events
     → ((d : Event) → 0 < length events → a ≤ (get_or events 0 d).at)
-    → IfSome (slice_get events i) (λ event. fold max a (map (λ (event : Event). event.at) (take (suc i) (events ++ behind))) ≡ event.at)
-own_from [] behind a i rise first = tt
-own_from (event ∷ events) behind a zero rise first = let low : a ≤ event.at = first event (omega arith) in omega arith
-own_from (event ∷ events) behind a (suc i) rise first =
+    → IfSome (slice_get events i) (λ event. fold max a (map (λ (event : Event). event.at) (take (suc i) (events ++ after))) ≡ event.at)
+own_from [] after a i rise first = tt
+own_from (event ∷ events) after a zero rise first = let low : a ≤ event.at = first event (omega arith) in omega arith
+own_from (event ∷ events) after a (suc i) rise first =
     let low : a ≤ event.at = first event (omega arith) in
-    own_from events behind (max a event.at) i
+    own_from events after (max a event.at) i
     (λ j k d le lt. rise (suc j) (suc k) d (omega arith) (omega arith))
     (λ d some. let next : event.at ≤ (get_or events 0 d).at = rise 0 1 d (omega arith) (omega arith) in omega arith)
 
-own_moment : (events behind : List Event) (i : ℕ) → IsNonDecreasingBy (λ (event : Event). event.at) events
-    → IfSome (slice_get events i) (λ event. latest_of (events ++ behind) (i + 1) ≡ event.at)
-own_moment events behind i rise = rw (add-one i) (own_from events behind 0 i rise (λ d some. omega arith))
+own_moment : (events after : List Event) (i : ℕ) → IsNonDecreasingBy (λ (event : Event). event.at) events
+    → IfSome (slice_get events i) (λ event. latest_of (events ++ after) (i + 1) ≡ event.at)
+own_moment events after i rise = rw (add-one i) (own_from events after 0 i rise (λ d some. omega arith))
 
 pub own_of_hook_message : (taken : List Event) (i : ℕ) → IsNonDecreasingBy (λ (event : Event). event.at) taken
     → IfSome (slice_get (hook_messages_of taken) i) (λ event. latest_of (as_written taken) (i + 1) ≡ event.at)

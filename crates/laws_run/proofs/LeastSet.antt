@@ -7,9 +7,8 @@ use Rattle.std.proofs.lemmas.List.Sums.{count_by-le-length, sum_by-cons}
 use Rattle.apply_model.specs.declared.script.wait.Wait.{Wait}
 use Rattle.apply_model.specs.Script.OutcomeMap.{OutcomeMap}
 use Rattle.apply_model.specs.Script.Waits as waits
-use Rattle.apply_model.specs.Script.Waits.{begins_within, waits_told}
-use Rattle.laws_run.specs.Waits.{CouldBegin, WaitsWithin}
-use Rattle.laws_run.specs.Waits.{could_begin}
+use Rattle.apply_model.specs.Script.Waits.{begins_within, stated_waits}
+use Rattle.laws_run.specs.Scripts.{CouldBegin, WaitsWithin, waits_could_begin}
 
 both_true : (a b : Bool) → (a && b) ≡ true → (a ≡ true) × (b ≡ true)
 both_true true b e = (refl, e)
@@ -31,13 +30,13 @@ all_from p (x ∷ xs) each = and_true (p x) (list_all p xs) (each 0 x refl) (all
 abbrev begins : OutcomeMap → ℕ → Wait → Bool
 begins script rounds wait = begins_within script rounds wait.change wait.step
 
-later : (script : OutcomeMap) (rounds c k : ℕ) → ((i : ℕ) (wait : Wait) → slice_get (waits_told script c k) i ≡ Some wait → begins script rounds wait ≡ true) → begins_within script (suc rounds) c k ≡ true
+later : (script : OutcomeMap) (rounds c k : ℕ) → ((i : ℕ) (wait : Wait) → slice_get (stated_waits script c k) i ≡ Some wait → begins script rounds wait ≡ true) → begins_within script (suc rounds) c k ≡ true
 unfolding begins_within
-later script rounds c k each = all_from (begins script rounds) (waits_told script c k) each
+later script rounds c k each = all_from (begins script rounds) (stated_waits script c k) each
 
-before : (script : OutcomeMap) (rounds c k i : ℕ) (wait : Wait) → begins_within script (suc rounds) c k ≡ true → slice_get (waits_told script c k) i ≡ Some wait → begins script rounds wait ≡ true
+before : (script : OutcomeMap) (rounds c k i : ℕ) (wait : Wait) → begins_within script (suc rounds) c k ≡ true → slice_get (stated_waits script c k) i ≡ Some wait → begins script rounds wait ≡ true
 unfolding begins_within
-before script rounds c k i wait e at = all_at (begins script rounds) (waits_told script c k) i wait e at
+before script rounds c k i wait e at = all_at (begins script rounds) (stated_waits script c k) i wait e at
 
 never : (script : OutcomeMap) (c k : ℕ) → begins_within script 0 c k ≡ true → ⊥
 unfolding begins_within
@@ -46,7 +45,7 @@ never script c k e = absurd cc
 -- what begins within some rounds could begin
 could : (script : OutcomeMap) (rounds c k : ℕ) → begins_within script rounds c k ≡ true → CouldBegin script c k
 could script zero c k e = absurd (never script c k e)
-could script (suc rounds) c k e = could_begin c k (λ i wait at. could script rounds wait.change wait.step (before script rounds c k i wait e at))
+could script (suc rounds) c k e = waits_could_begin c k (λ i wait at. could script rounds wait.change wait.step (before script rounds c k i wait e at))
 
 next_round : (script : OutcomeMap) (rounds c k : ℕ) → begins_within script rounds c k ≡ true → begins_within script (suc rounds) c k ≡ true
 next_round script zero c k e = absurd (never script c k e)
@@ -173,7 +172,7 @@ module _ (script : OutcomeMap) (within : WaitsWithin script) where
       (settled_or (2 * length script))
 
   least : (c k : ℕ) → c < length script → k < 2 → CouldBegin script c k → waits.could_begin script c k ≡ true
-  least c k below low (could_begin _ _ each) =
+  least c k below low (waits_could_begin _ _ each) =
       closed (2 * length script) settled_then c k below low (later script (2 * length script) c k (λ i wait at.
       let there = within c k i wait below low at in least wait.change wait.step there.0 there.1 (each i wait at)))
 

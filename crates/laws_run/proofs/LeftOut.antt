@@ -1,4 +1,4 @@
--- A step has events exactly where each step that it waits for is done.
+-- A step has events if and only if each step that it waits for is done.
 use Rattle.std.proofs.Common.{◌≡◌, ℕ, zero, suc, ◌+◌, ◌<◌, ◌≤◌, Bool, true, false, ◌&&◌, List, [], ◌∷◌, cond, length, map, Option, Some, None, refl, sym, ap, ◌∙◌, subst, ⊎_elim, inl, inr, arith, eqb, eq-eqb}
 use Rattle.std.specs.Prelude.{option_map, slice_get}
 use Rattle.std.specs.List.{Contains, enumerate_from, list_all, range_with_len}
@@ -10,27 +10,27 @@ use Rattle.apply_events.specs.Fits.{IsApplied}
 use Rattle.apply_events.specs.Interleaving.{IsInterleaving}
 use Rattle.apply_events.specs.Step.{Step, Work, kinds_applied, step_of, steps_of}
 use Rattle.apply_events.specs.StepEvents.{goes_on}
-use Rattle.apply_events.specs.declared.lanes.taken.Taken.{Taken}
-use Rattle.apply_events.specs.Waits.Done.{done_at, done_by, done_in, first_found, later_if_both, ready_at}
-use Rattle.apply_events.specs.declared.lanes.moment.Moment.{Moment}
-use Rattle.apply_events.specs.Waits.Moment.{first_moment, later_of, next_round}
+use Rattle.apply_events.specs.declared.lanes.turn.StartedTurn.{StartedTurn}
+use Rattle.apply_events.specs.Waits.Done.{done_at, done_by, done_in, first_some, later_if_both, ready_at}
+use Rattle.apply_events.specs.declared.lanes.lane_time.LaneTime.{LaneTime}
+use Rattle.apply_events.specs.Waits.LaneTime.{first_lane_time, later_of, next_round}
 use Rattle.laws_run.proofs.Named.{named}
 use Rattle.apply_model.specs.declared.script.wait.Wait.{Wait}
 use Rattle.apply_model.specs.Script.Waits.{waits_of}
-use Rattle.apply_events.specs.Waits.Schedule.{is_taken}
-use Rattle.apply_events.specs.Waits.TakenUp.{WereTakenUp}
+use Rattle.apply_events.specs.Waits.Schedule.{is_started}
+use Rattle.apply_events.specs.Waits.StartedTurns.{WereStarted}
 use Rattle.apply_events.specs.Waits.TimeLine.{lane_turns}
 use Rattle.apply_events.specs.declared.lanes.turn.Turn.{Turn}
 use Rattle.apply_events.specs.Waits.Turn.{begun_steps, single, turns, turns_of, waits_of_turn, whole}
-use Rattle.laws_run.specs.WaitLaws.{BeginWhereAllIsDone, HasFewSteps, goes_on_if_begun, has_events, is_done_along, is_of_step}
-use Rattle.laws_run.proofs.Behind.{are_turns, eq_from, is_waited_for, no_names, none_named, single_count, waits_are}
+use Rattle.laws_run.specs.WaitingSteps.{BeginWhereAllIsDone, HasFewSteps, goes_on_if_begun, has_events, is_done_along, is_of_step}
+use Rattle.laws_run.proofs.AfterWaits.{are_turns, eq_from, is_waited_for, no_names, none_named, single_count, waits_are}
 use Rattle.apply_events.proofs.AppliedSteps.{applied_planned, few_applied}
 use Rattle.apply_events.proofs.StepNumbers.{steps_of-numbered}
-use Rattle.apply_events.proofs.Waits.Found.{IsFound, found, told}
+use Rattle.apply_events.proofs.Waits.Located.{IsLocated, answer, emitted}
 use Rattle.apply_events.proofs.Waits.Members.{all_in, any_in, in_all, in_any, in_cases, in_flat_map, in_head, in_tail, not_in_none}
 use Rattle.apply_events.proofs.Waits.Once.{AreTurns, IsTurnOf, in_list, is_split, known_turn}
-use Rattle.apply_events.proofs.Waits.TurnEvents.{done_then, done_there, turn_has}
-use Rattle.apply_events.proofs.Waits.TurnSteps.{all_at, begun_of_change, first_begins, has_two, length-steps_of, numbered_in, second_begins, second_behind_first, step_at_number}
+use Rattle.apply_events.proofs.Waits.TurnEvents.{done_then, done_in_turn, turn_has}
+use Rattle.apply_events.proofs.Waits.TurnSteps.{all_at, begun_of_change, first_begins, has_two, length-steps_of, numbered_in, second_begins, second_after_first, step_at_number}
 
 -- ---- the turn of a step
 
@@ -66,37 +66,37 @@ turn_among w c (suc k) has true is =
 
 has_turn : (w : Work) (c k : ℕ) → IsApplied w.plan w.script c k → HasTurn w c k
 has_turn w c k has =
-    let found = turn_among w c k has (is_split w c) refl in
+    let answer = turn_among w c k has (is_split w c) refl in
     let lt = known_change w.plan.changes c k (applied_planned w.plan w.script c k has) in
     record {
-      turn = found.0;
-      known = in_flat_map (turns_of w) (range_with_len 0 (length w.plan.changes)) c found.0 (in_range 0 (length w.plan.changes) c (omega arith) (omega arith)) found.1;
-      of_change = found.2;
-      low = found.3;
-      high = found.4;
-      which = found.5;
+      turn = answer.0;
+      known = in_flat_map (turns_of w) (range_with_len 0 (length w.plan.changes)) c answer.0 (in_range 0 (length w.plan.changes) c (omega arith) (omega arith)) answer.1;
+      of_change = answer.2;
+      low = answer.3;
+      high = answer.4;
+      which = answer.5;
     }
 
 -- ---- where all that a turn waits for is done it is ready
 
-some_first : (first rest : Option Moment) → (first ≡ None → (at : Moment) × (rest ≡ Some at)) → (at : Moment) × (first_found first rest ≡ Some at)
+some_first : (first rest : Option LaneTime) → (first ≡ None → (at : LaneTime) × (rest ≡ Some at)) → (at : LaneTime) × (first_some first rest ≡ Some at)
 some_first (Some a) rest h = (a, refl)
 some_first None rest h = h refl
 
-some_at : (w : Work) (taken : List Taken) (one : Taken) (name : Wait) (m : Moment) → Contains taken one → done_in w one name ≡ Some m → (at : Moment) × (done_at w taken name ≡ Some at)
+some_at : (w : Work) (taken : List StartedTurn) (one : StartedTurn) (name : Wait) (m : LaneTime) → Contains taken one → done_in w one name ≡ Some m → (at : LaneTime) × (done_at w taken name ≡ Some at)
 some_at w [] one name m there is = absurd (not_in_none one there)
 some_at w (x ∷ taken) one name m there is = some_first (done_in w x name) (done_at w taken name) (λ its. ⊎_elim
-    (λ (same : x ≡ one). let both : done_in w one name ≡ None = sym (ap (λ (y : Taken). done_in w y name) same) ∙ its in absurd cc)
+    (λ (same : x ≡ one). let both : done_in w one name ≡ None = sym (ap (λ (y : StartedTurn). done_in w y name) same) ∙ its in absurd cc)
     (λ (later : Contains taken one). some_at w taken one name m later is)
     (in_cases x taken one there))
 
-both_some : (a b : Option Moment) (p q : Moment) → a ≡ Some p → b ≡ Some q → (at : Moment) × (later_if_both (option_map next_round a) b ≡ Some at)
+both_some : (a b : Option LaneTime) (p q : LaneTime) → a ≡ Some p → b ≡ Some q → (at : LaneTime) × (later_if_both (option_map next_round a) b ≡ Some at)
 both_some a b p q is is' =
     (later_of (next_round p) q, ap (λ x. later_if_both (option_map next_round x) b) is ∙ ap (later_if_both (Some (next_round p))) is')
 
-ready_some : (w : Work) (taken : List Taken) (names : List Wait) → ((name : Wait) → Contains names name → (at : Moment) × (done_at w taken name ≡ Some at))
-    → (at : Moment) × (done_by w taken names ≡ Some at)
-ready_some w taken [] h = (first_moment, refl)
+ready_some : (w : Work) (taken : List StartedTurn) (names : List Wait) → ((name : Wait) → Contains names name → (at : LaneTime) × (done_at w taken name ≡ Some at))
+    → (at : LaneTime) × (done_by w taken names ≡ Some at)
+ready_some w taken [] h = (first_lane_time, refl)
 ready_some w taken (name ∷ names) h =
     let here = h name (in_head name names) in
     let rest = ready_some w taken names (λ other there. h other (in_tail name names other there)) in
@@ -109,7 +109,7 @@ same_tests true b p q = sym (p refl)
 same_tests false true p q = q refl
 same_tests false false p q = refl
 
-module _ (w : Work) (n : ℕ) (taken : List Taken) (events : List Event) (up : WereTakenUp w n taken) (line : IsInterleaving n (lane_turns w taken) events) where
+module _ (w : Work) (n : ℕ) (taken : List StartedTurn) (events : List Event) (up : WereStarted w n taken) (line : IsInterleaving n (lane_turns w taken) events) where
   turns_ok : AreTurns w taken
   turns_ok = are_turns w n taken events up line
 
@@ -127,7 +127,7 @@ module _ (w : Work) (n : ℕ) (taken : List Taken) (events : List Event) (up : W
   pub only_applied : (name : Wait) → has_events events name ≡ true → IsApplied w.plan w.script name.change name.step
   only_applied name some =
       let e = has_is name some in
-      let its = found w n taken events line e.0 e.1 in
+      let its = answer w n taken events line e.0 e.1 in
       let turn = its.one.turn in
       let s = its.of.step.0 in
       let high = (numbered_in 0 (steps_of w turn.change) s (steps_of-numbered w turn.change) (begun_of_change w turn s its.of.step.1)).1 in
@@ -140,21 +140,21 @@ module _ (w : Work) (n : ℕ) (taken : List Taken) (events : List Event) (up : W
   goes_at turn s name there change step =
       ap (λ c. option_map_or goes_on (slice_get (steps_of w c) name.step) false) change
       ∙ ap (λ k. option_map_or goes_on (slice_get (steps_of w turn.change) k) false) step
-      ∙ ap (λ found. option_map_or goes_on found false) (step_at_number w turn.change s (begun_of_change w turn s there))
+      ∙ ap (λ answer. option_map_or goes_on answer false) (step_at_number w turn.change s (begun_of_change w turn s there))
 
-  done_along : (one : Taken) (s : Step) (name : Wait) → Contains taken one → Contains (begun_steps w one.turn) s → goes_on s ≡ true → name.change ≡ one.turn.change → name.step ≡ s.number
+  done_along : (one : StartedTurn) (s : Step) (name : Wait) → Contains taken one → Contains (begun_steps w one.turn) s → goes_on s ≡ true → name.change ≡ one.turn.change → name.step ≡ s.number
       → is_done_along w events name ≡ true
   done_along one s name there begins on change step =
       let e = turn_has w one s begins in
       and_from (has_events events name) (goes_on_if_begun w name)
-      (has_yes e.0 name (told w n taken events line one e.0 up.in_lanes there e.1) (e.3 ∙ sym change) (e.2 ∙ sym step))
+      (has_yes e.0 name (emitted w n taken events line one e.0 up.in_lanes there e.1) (e.3 ∙ sym change) (e.2 ∙ sym step))
       (goes_at one.turn s name begins change step ∙ on)
 
-  along_done : (name : Wait) → is_done_along w events name ≡ true → (one : Taken) × Contains taken one × (m : Moment) × (done_in w one name ≡ Some m)
+  along_done : (name : Wait) → is_done_along w events name ≡ true → (one : StartedTurn) × Contains taken one × (m : LaneTime) × (done_in w one name ≡ Some m)
   along_done name is =
       let both = and_parts (has_events events name) (goes_on_if_begun w name) is in
       let e = has_is name both.0 in
-      let its = found w n taken events line e.0 e.1 in
+      let its = answer w n taken events line e.0 e.1 in
       let s = its.of.step.0 in
       let change : name.change ≡ its.one.turn.change = sym e.2 ∙ its.of.change in
       let step : name.step ≡ s.number = sym e.3 ∙ its.of.step.2 in
@@ -163,14 +163,14 @@ module _ (w : Work) (n : ℕ) (taken : List Taken) (events : List Event) (up : W
 
   -- ---- what has events waits for what is done
 
-  waited_done : (one : Taken) (name : Wait) → Contains taken one → Contains (waits_of_turn w one.turn) name → is_done_along w events name ≡ true
+  waited_done : (one : StartedTurn) (name : Wait) → Contains taken one → Contains (waits_of_turn w one.turn) name → is_done_along w events name ≡ true
   waited_done one name there waits =
       let waited = is_waited_for w n taken one name up there waits in
-      let done = done_there w waited.other name waited.moment waited.done in
+      let done = done_in_turn w waited.other name waited.moment waited.done in
       done_along waited.other done.step.0 name waited.there done.step.1 done.step.3 (sym done.change) (sym done.step.2)
 
   module _ (few : HasFewSteps w) where
-    all_done : (e : Event) (k : ℕ) (name : Wait) → (its : IsFound w taken e) → IsTurnOf w its.one.turn.change its.one.turn → e.step ≡ k → Contains (waits_of w.script e.change k) name
+    all_done : (e : Event) (k : ℕ) (name : Wait) → (its : IsLocated w taken e) → IsTurnOf w its.one.turn.change its.one.turn → e.step ≡ k → Contains (waits_of w.script e.change k) name
         → is_done_along w events name ≡ true
     all_done e k name its (inr split) number waits =
         let count : its.one.turn.count ≡ 1 = single_count split.1 in
@@ -190,7 +190,7 @@ module _ (w : Work) (n : ℕ) (taken : List Taken) (events : List Event) (up : W
         let two = has_two w c (omega arith) (omega arith) in
         let s = its.of.step.0 in
         let second : s.number ≡ 1 = sym its.of.step.2 ∙ number ∙ omega arith in
-        let earlier = second_behind_first w c two s (subst (λ t. Contains (begun_steps w t) s) all.1 its.of.step.1) second in
+        let earlier = second_after_first w c two s (subst (λ t. Contains (begun_steps w t) s) all.1 its.of.step.1) second in
         done_along its.one (step_of w c 0 two.first) name its.there (subst (λ t. Contains (begun_steps w t) (step_of w c 0 two.first)) (sym all.1) earlier.0) earlier.1
         (sym (ap (λ (x : Wait). x.change) here) ∙ its.of.change) (sym (ap (λ (x : Wait). x.step) here) ∙ omega arith))
         (λ (named_there : Contains (named w e.change (suc k)) name).
@@ -202,7 +202,7 @@ module _ (w : Work) (n : ℕ) (taken : List Taken) (events : List Event) (up : W
     only_where_done : (c k : ℕ) → has_events events (record { change = c; step = k }) ≡ true → list_all (is_done_along w events) (waits_of w.script c k) ≡ true
     only_where_done c k some =
         let e = has_is (record { change = c; step = k }) some in
-        let its = found w n taken events line e.0 e.1 in
+        let its = answer w n taken events line e.0 e.1 in
         all_in (is_done_along w events) (waits_of w.script c k) (λ name waits.
         all_done e.0 k name its (known_turn w taken its.one turns_ok its.there) e.3 (subst (λ x. Contains (waits_of w.script x k) name) (sym e.2) waits))
 
@@ -215,18 +215,18 @@ module _ (w : Work) (n : ℕ) (taken : List Taken) (events : List Event) (up : W
         let some : 0 < turn.count = omega arith in
         let waits : waits_of_turn w turn ≡ waits_of w.script c k = waits_are w turn c k its.of_change first some in
         let ready = ready_some w taken (waits_of_turn w turn) (λ name there.
-        let found = along_done name (in_all (is_done_along w events) (waits_of w.script c k) name done (subst (λ l. Contains l name) waits there)) in
-        some_at w taken found.0 name found.2 found.1 found.3) in
-        let is : is_taken taken turn ≡ true = ⊎_elim
-        (λ (yes : is_taken taken turn ≡ true). yes)
-        (λ (no : is_taken taken turn ≡ false).
-        let never : ready_at w taken turn ≡ None = all_at (λ t. is_taken taken t ≡ false → ready_at w taken t ≡ None) (turns w) turn up.left_out its.known no in
+        let answer = along_done name (in_all (is_done_along w events) (waits_of w.script c k) name done (subst (λ l. Contains l name) waits there)) in
+        some_at w taken answer.0 name answer.2 answer.1 answer.3) in
+        let is : is_started taken turn ≡ true = ⊎_elim
+        (λ (yes : is_started taken turn ≡ true). yes)
+        (λ (no : is_started taken turn ≡ false).
+        let never : ready_at w taken turn ≡ None = all_at (λ t. is_started taken t ≡ false → ready_at w taken t ≡ None) (turns w) turn up.left_out its.known no in
         let both : None ≡ Some ready.0 = sym never ∙ ready.1 in absurd cc)
-        (cases_Bool (is_taken taken turn)) in
+        (cases_Bool (is_started taken turn)) in
         let one = in_list w taken turn turns_ok its.known is in
         let s = first_begins w turn some (subst (λ x. turn.first < length (kinds_applied w.plan w.script x)) (sym its.of_change) (let lt : k < length (kinds_applied w.plan w.script c) = has in omega arith)) in
         let e = turn_has w one.0 s.0 (subst (λ t. Contains (begun_steps w t) s.0) (sym one.2) s.1) in
-        has_yes e.0 (record { change = c; step = k }) (told w n taken events line one.0 e.0 up.in_lanes one.1 e.1)
+        has_yes e.0 (record { change = c; step = k }) (emitted w n taken events line one.0 e.0 up.in_lanes one.1 e.1)
         (e.3 ∙ ap (λ (t : Turn). t.change) one.2 ∙ its.of_change) (e.2 ∙ s.2 ∙ first)
 
     where_done : (c k : ℕ) (its : HasTurn w c k) → IsTurnOf w c its.turn → IsApplied w.plan w.script c k → list_all (is_done_along w events) (waits_of w.script c k) ≡ true
@@ -242,7 +242,7 @@ module _ (w : Work) (n : ℕ) (taken : List Taken) (events : List Event) (up : W
         let is : is_done_along w events before ≡ true = in_all (is_done_along w events) (waits_of w.script c (suc k)) before done (in_head before (named w c (suc k))) in
         let both = and_parts (has_events events before) (goes_on_if_begun w before) is in
         let e = has_is before both.0 in
-        let of = found w n taken events line e.0 e.1 in
+        let of = answer w n taken events line e.0 e.1 in
         let none : k ≡ 0 = omega arith in
         let on : goes_on (step_of w c 0 two.first) ≡ true =
         sym (ap (λ kinds. option_map_or goes_on (slice_get (map (λ p. step_of w c p.0 p.1) (enumerate_from 0 kinds)) 0) false) two.are)
@@ -250,7 +250,7 @@ module _ (w : Work) (n : ℕ) (taken : List Taken) (events : List Event) (up : W
         let same : of.one.turn.change ≡ c = sym of.of.change ∙ e.2 in
         let turn : of.one.turn ≡ whole w c = whole_is c of.one.turn all.0 (subst (λ x. IsTurnOf w x of.one.turn) same (known_turn w taken of.one turns_ok of.there)) in
         let next = turn_has w of.one (step_of w c 1 two.second) (subst (λ t. Contains (begun_steps w t) (step_of w c 1 two.second)) (sym turn) (second_begins w c two on)) in
-        has_yes next.0 (record { change = c; step = suc k }) (told w n taken events line of.one next.0 up.in_lanes of.there next.1)
+        has_yes next.0 (record { change = c; step = suc k }) (emitted w n taken events line of.one next.0 up.in_lanes of.there next.1)
         (next.3 ∙ same) (next.2 ∙ omega arith)
       where
         whole_is : (c : ℕ) (turn : Turn) → is_split w c ≡ false → IsTurnOf w c turn → turn ≡ whole w c

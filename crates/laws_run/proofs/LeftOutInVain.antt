@@ -1,4 +1,5 @@
--- Of a plan and a script that were read what waits in vain is left out, and nothing else; and so it is of a plan without a script.
+-- Only steps that are skipped or wait in vain are left out. The plan was read, and the script was
+-- read or there is none.
 use Rattle.std.proofs.Common.{◌≡◌, ◌⊎◌, ℕ, zero, suc, All, Bool, true, false, ◌&&◌, List, [], ◌∷◌, Option, Some, None, Ok, refl, sym, ap, ◌∙◌, subst, ⊎_elim, inl, inr}
 use Rattle.std.specs.Prelude.{◌*◌, IfSome, length, option_and_then, slice_get, unwrap_or}
 use Rattle.std.specs.List.{list_all}
@@ -9,7 +10,7 @@ use Rattle.apply_model.specs.declared.script.script_step.ScriptStep.{ScriptStep}
 use Rattle.apply_model.specs.declared.script.wait.Wait.{Wait}
 use Rattle.apply_model.specs.Plan.SavedPlan.{SavedPlan}
 use Rattle.apply_model.specs.Script.Outcome.{IsBounded, default_outcome}
-use Rattle.apply_model.specs.Script.OutcomeMap.{IsInRange, OutcomeMap, given_step, outcome_of, said_at}
+use Rattle.apply_model.specs.Script.OutcomeMap.{IsInRange, OutcomeMap, stated_step, outcome_of, stated_steps}
 use Rattle.apply_model.specs.Script.Step.{after_of, answer_to}
 use Rattle.apply_model.specs.Script.Waits.{begins_within}
 use Rattle.apply_events.specs.declared.event.Event.{Event}
@@ -17,23 +18,23 @@ use Rattle.apply_events.specs.Fits.{HasStep, IsApplied}
 use Rattle.apply_events.specs.Step.{Work}
 use Rattle.apply_events.proofs.Waits.Members.{in_any}
 use Rattle.apply_events.proofs.Waits.TurnSteps.{all_at}
-use Rattle.laws_run.specs.WaitLaws.{BeginWhereAllIsDone, HasFewSteps, NamesSteps, WaitsInVain, has_events, has_stopped, is_of_step, skips}
-use Rattle.laws_run.specs.WaitLaws.WaitsInVain.{for_skipped, for_stopped, for_waiting}
+use Rattle.laws_run.specs.WaitingSteps.{BeginWhereAllIsDone, HasFewSteps, NamesSteps, WaitsInVain, has_events, has_stopped, is_of_step, skips}
+use Rattle.laws_run.specs.WaitingSteps.WaitsInVain.{for_skipped, for_stopped, for_waiting}
 use Rattle.laws_run.proofs.InVain.{leave_out_within}
 use Rattle.apply_plan.specs.Script.OutcomeMap.{script_of}
 use Rattle.apply_run.specs.Bytes.{given_script}
-use Rattle.laws_run.specs.ReadScripts.{CanAllBegin, LeaveOutJustWhatWaitsInVain, LeaveOutNone}
+use Rattle.laws_run.specs.Scripts.{CanAllBegin, LeaveOutJustWhatWaitsInVain, LeaveOutNone}
 use Rattle.laws_run.proofs.ReadScripts.{read_in_range}
 use Rattle.laws_run.proofs.BothSides.{of_name}
 
 -- ---- without a script
 
-nothing_said : (c : ℕ) → said_at [] c ≡ None
+nothing_said : (c : ℕ) → stated_steps [] c ≡ None
 nothing_said zero = refl
 nothing_said (suc c) = refl
 
-nothing_given : (c k : ℕ) → given_step [] c k ≡ None
-nothing_given c k = ap (λ (said : Option (List ScriptStep)). option_and_then (λ (steps : List ScriptStep). slice_get steps k) said) (nothing_said c)
+nothing_given : (c k : ℕ) → stated_step [] c k ≡ None
+nothing_given c k = ap (λ (stated : Option (List ScriptStep)). option_and_then (λ (steps : List ScriptStep). slice_get steps k) stated) (nothing_said c)
 
 -- a step waits for the one before it alone
 none_begins : (c k : ℕ) → begins_within [] (suc k) c k ≡ true
@@ -48,7 +49,7 @@ outcome_names_none P None none = All-nil P
 outcome_names_none P (Some step) none = absurd cc
 
 none_names : (plan : SavedPlan) (c k : ℕ) → All (λ (name : Wait). HasStep plan name.change name.step) (outcome_of [] c k).after
-none_names plan c k = outcome_names_none (λ (name : Wait). HasStep plan name.change name.step) (given_step [] c k) (nothing_given c k)
+none_names plan c k = outcome_names_none (λ (name : Wait). HasStep plan name.change name.step) (stated_step [] c k) (nothing_given c k)
 
 pub none_in_range : IsInRange []
 none_in_range c k = subst (λ (o : Option ScriptStep). IfSome (option_and_then answer_to o) IsBounded) (sym (nothing_given c k)) tt

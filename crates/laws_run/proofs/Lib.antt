@@ -1,7 +1,7 @@
 mod AcceptedPlans
 mod AlikePlans
 pub mod Along
-pub mod Behind
+pub mod AfterWaits
 mod BothSides
 pub mod ByAnyLanes
 pub mod Chains

@@ -10,10 +10,10 @@ use Rattle.apply_model.specs.declared.script.wait.Wait.{Wait}
 use Rattle.apply_model.specs.Script.Outcome.{default_outcome}
 use Rattle.apply_model.specs.Script.OutcomeMap.{outcome_of}
 use Rattle.apply_model.specs.Script.Step.{answer_to}
-use Rattle.apply_model.specs.Script.Waits.{has_a_wait, has_waits, say_a_wait}
+use Rattle.apply_model.specs.Script.Waits.{has_a_wait, has_waits, states_a_wait}
 use Rattle.apply_events.specs.Step.{Work}
 
--- those that it names for step k of change c
+-- the steps that the script names for step k of change c
 abbrev pub named : Work → (c k : ℕ) → List Wait
 named w c k = (outcome_of w.script c k).after
 
@@ -36,20 +36,20 @@ no_list : (names : List Wait) → names_some names ≡ false → names ≡ []
 no_list [] none = refl
 no_list (name ∷ names) none = absurd (true≢false (sym (lt-ltb 0 (length (name ∷ names)) (omega arith)) ∙ none))
 
-step_names_none : (found : Option ScriptStep) → option_map_or has_a_wait found false ≡ false → (unwrap_or (option_and_then answer_to found) default_outcome).after ≡ []
+step_names_none : (located : Option ScriptStep) → option_map_or has_a_wait located false ≡ false → (unwrap_or (option_and_then answer_to located) default_outcome).after ≡ []
 step_names_none None none = refl
 step_names_none (Some (Answered outcome)) none = no_list outcome.after none
 step_names_none (Some (Skipped after)) none = refl
 
-said_names_none : (said : Option (List ScriptStep)) (k : ℕ) → say_a_wait said ≡ false
-    → (unwrap_or (option_and_then answer_to (option_and_then (λ (steps : List ScriptStep). slice_get steps k) said)) default_outcome).after ≡ []
-said_names_none None k none = refl
-said_names_none (Some steps) k none = step_names_none (slice_get steps k) (get_none has_a_wait steps k none)
+stated_names_none : (stated : Option (List ScriptStep)) (k : ℕ) → states_a_wait stated ≡ false
+    → (unwrap_or (option_and_then answer_to (option_and_then (λ (steps : List ScriptStep). slice_get steps k) stated)) default_outcome).after ≡ []
+stated_names_none None k none = refl
+stated_names_none (Some steps) k none = step_names_none (slice_get steps k) (get_none has_a_wait steps k none)
 
-script_names_none : (found : Option (Option (List ScriptStep))) (k : ℕ) → option_map_or say_a_wait found false ≡ false
-    → (unwrap_or (option_and_then answer_to (option_and_then (λ (steps : List ScriptStep). slice_get steps k) (option_and_then (λ (said : Option (List ScriptStep)). said) found))) default_outcome).after ≡ []
+script_names_none : (located : Option (Option (List ScriptStep))) (k : ℕ) → option_map_or states_a_wait located false ≡ false
+    → (unwrap_or (option_and_then answer_to (option_and_then (λ (steps : List ScriptStep). slice_get steps k) (option_and_then (λ (stated : Option (List ScriptStep)). stated) located))) default_outcome).after ≡ []
 script_names_none None k none = refl
-script_names_none (Some said) k none = said_names_none said k none
+script_names_none (Some stated) k none = stated_names_none stated k none
 
 pub names_none : (w : Work) → has_waits w.script ≡ false → (c k : ℕ) → named w c k ≡ []
-names_none w none c k = script_names_none (slice_get w.script c) k (get_none say_a_wait w.script c none)
+names_none w none c k = script_names_none (slice_get w.script c) k (get_none states_a_wait w.script c none)

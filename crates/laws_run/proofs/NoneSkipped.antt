@@ -1,4 +1,4 @@
--- No event is of a step that is skipped, or of one behind it in its change.
+-- No event is of a skipped step, or of a step after a skipped step in the same change.
 use Rattle.std.proofs.Common.{◌≡◌, ◌≢◌, ℕ, ◌<◌, ◌≤◌, All, List, [], Some, get_or, length, take, sym, ap, subst, ⊎_elim, arith}
 use Rattle.std.specs.Option.{option_map_or}
 use Rattle.std.proofs.lemmas.Bool.{cases_lt}
@@ -15,15 +15,15 @@ use Rattle.apply_events.proofs.WorkerLists.{IsOfApplied, worker_applied}
 
 pub of_workers : (work : Work) (workers : ℕ) (lists : List (List ℕ)) (events : List Event)
     → IsInterleaving workers (λ worker. worker_events work worker (get_or lists worker [])) events → All (IsOfApplied work) events
-of_workers work workers lists events told = all_parts (IsOfApplied work) events (λ w. ⊎_elim
-    (λ (lt : w < workers). subst (All (IsOfApplied work)) (sym (told.parts w lt)) (worker_applied work w (get_or lists w [])))
-    (λ (ge : workers ≤ w). subst (All (IsOfApplied work)) (sym (nobody_else workers events told.named w ge)) (All-nil (IsOfApplied work)))
+of_workers work workers lists events interleaved = all_parts (IsOfApplied work) events (λ w. ⊎_elim
+    (λ (lt : w < workers). subst (All (IsOfApplied work)) (sym (interleaved.parts w lt)) (worker_applied work w (get_or lists w [])))
+    (λ (ge : workers ≤ w). subst (All (IsOfApplied work)) (sym (nobody_else workers events interleaved.named w ge)) (All-nil (IsOfApplied work)))
     (cases_lt w workers))
 
 pub in_no_lane : (work : Work) (n : ℕ) (events : List Event) → n ≤ 0 → All (λ e. e.worker < n) events → All (IsOfApplied work) events
 in_no_lane work n events none named = All-weaker (λ (e : Event). e.worker < n) (IsOfApplied work) (λ e lt. absurd (omega arith)) events named
 
--- such a change has no step that is applied
+-- no step of a change is applied if its first step is skipped
 no_step : (work : Work) (c k : ℕ) → first_skipped work.script c ≡ Some 0 → IsApplied work.plan work.script c k → ⊥
 no_step work c k is applied =
     let none : length (kinds_applied work.plan work.script c) ≡ 0 = ap (λ first. length (option_map_or (λ j. take j (kinds_of work.plan c)) first (kinds_of work.plan c))) is in

@@ -5,7 +5,7 @@ use Rattle.apply_model.specs.declared.script.wait.Wait.{Wait}
 use Rattle.apply_events.specs.declared.event.Event.{Event}
 use Rattle.apply_events.specs.Step.{Step, Work, steps_of}
 use Rattle.apply_events.specs.StepEvents.{goes_on}
-use Rattle.laws_run.specs.WaitLaws.{OnlyWarns, goes_on_if_begun, has_events, is_done_along}
+use Rattle.laws_run.specs.WaitingSteps.{OnlyWarns, goes_on_if_begun, has_events, is_done_along}
 
 and_one : (b : Bool) → (b && true) ≡ b
 and_one true = refl

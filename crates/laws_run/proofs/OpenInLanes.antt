@@ -1,5 +1,5 @@
--- At each place of a time line where steps wait for others at most as many changes, or steps, are under way as there are lanes: in a
--- lane all steps that have started are over, except the last.
+-- At each place of a time line no more changes, and no more steps, are under way than there are
+-- lanes. Steps may wait for others.
 use Rattle.std.proofs.Common.{◌≡◌, ℕ, zero, suc, ◌+◌, ◌-◌, ◌<◌, ◌≤◌, nat_eq, Bool, true, false, ◌&&◌, List, [], ◌∷◌, ◌++◌, All, cond, drop, length, map, nat_lt, sum_by, take, sym, refl, ap, ◌∙◌, subst, ⊎_elim, arith, lt-ltb, le-ltb, Option, Some, None}
 use Rattle.std.specs.Prelude.{◌||◌, is_some, not, option_map, option_to_list}
 use Rattle.std.specs.List.{enumerate_from, range_with_len}
@@ -17,7 +17,7 @@ use Rattle.apply_model.specs.Script.OutcomeMap.{outcome_of}
 use Rattle.apply_hooks.specs.declared.phase.Phase.{Phase}
 use Rattle.apply_hooks.specs.declared.phase.Phase.TheVariants.{Pre}
 use Rattle.apply_events.specs.declared.event.Event.{Event}
-use Rattle.apply_events.specs.declared.lanes.taken.Taken.{Taken}
+use Rattle.apply_events.specs.declared.lanes.turn.StartedTurn.{StartedTurn}
 use Rattle.apply_events.specs.declared.lanes.turn.Turn.{Turn}
 use Rattle.apply_events.specs.declared.what.What.{What}
 use Rattle.apply_events.specs.declared.what.What.TheVariants.{Halted, ProvisionComplete, ProvisionErrored, Start, WarnNote}
@@ -26,7 +26,7 @@ use Rattle.apply_events.specs.Interleaving.{IsInterleaving, lists_of}
 use Rattle.apply_events.specs.OfWorker.{of_worker}
 use Rattle.apply_events.specs.Provisions.{provision_end}
 use Rattle.apply_events.specs.Step.{Step, Work, kinds_applied, step_of, steps_of}
-use Rattle.apply_events.specs.StepEvents.{between, end_of, endings, event, goes_on, halts, notes, phase_after, seconds_of, started, step_events, step_time, tells_end}
+use Rattle.apply_events.specs.StepEvents.{between, end_of, endings, event, goes_on, halts, notes, phase_after, seconds_of, start_events, step_events, step_time, emits_end}
 use Rattle.apply_events.specs.Waits.TimeLine.{lane_turns, turn_events}
 use Rattle.apply_events.specs.Waits.Turn.{begun_steps}
 use Rattle.apply_events.proofs.Interleaved.{summed}
@@ -91,9 +91,9 @@ IsQuiet what = (is_start what ≡ false) × (is_end what ≡ false) × (is_warni
 abbrev Quiet : Event → Type 0
 Quiet e = IsQuiet e.what
 
-quiet_found : (w at : ℕ) (s : Step) (phase : Phase) (found : Option ℕ) → All Quiet (option_to_list (option_map (λ hook. event w s at (Halted phase hook)) found))
-quiet_found w at s phase None = All-nil Quiet
-quiet_found w at s phase (Some hook) = All-cons Quiet (event w s at (Halted phase hook)) [] (refl, refl, refl) (All-nil Quiet)
+quiet_hook : (w at : ℕ) (s : Step) (phase : Phase) (located : Option ℕ) → All Quiet (option_to_list (option_map (λ hook. event w s at (Halted phase hook)) located))
+quiet_hook w at s phase None = All-nil Quiet
+quiet_hook w at s phase (Some hook) = All-cons Quiet (event w s at (Halted phase hook)) [] (refl, refl, refl) (All-nil Quiet)
 
 quiet_between : (w at : ℕ) (s : Step) → All Quiet (map (λ (p : ℕ × What). event w s (at + p.0) p.1) (between s))
 quiet_between w at s =
@@ -109,45 +109,45 @@ over_with_none work e quiet =
     let warned = only_warns (outcome_of work.script e.change e.step) in
     ap (λ b. b || (is_warning e.what && warned)) quiet.1 ∙ ap (λ b. b && warned) quiet.2
 
--- ---- steps as they are said
+-- ---- steps agree with the script
 
 -- the step only warns exactly where its outcome does
-abbrev IsSaid : Work → Step → Type 0
-IsSaid work s = only_warns (outcome_of work.script s.change s.number) ≡ (s.only_warns && not s.fails)
+abbrev IsConsistent : Work → Step → Type 0
+IsConsistent work s = only_warns (outcome_of work.script s.change s.number) ≡ (s.only_warns && not s.fails)
 
-abbrev AreSaid : Work → List Step → Type 0
-AreSaid work [] = Unit {0}
-AreSaid work (s ∷ steps) = IsSaid work s × AreSaid work steps
+abbrev AreConsistent : Work → List Step → Type 0
+AreConsistent work [] = Unit {0}
+AreConsistent work (s ∷ steps) = IsConsistent work s × AreConsistent work steps
 
-steps_said : (work : Work) (c n : ℕ) (kinds : List StepKind) → AreSaid work (map (λ p. step_of work c p.0 p.1) (enumerate_from n kinds))
-steps_said work c n [] = tt
-steps_said work c n (kind ∷ kinds) = (refl, steps_said work c (n + 1) kinds)
+steps_stated : (work : Work) (c n : ℕ) (kinds : List StepKind) → AreConsistent work (map (λ p. step_of work c p.0 p.1) (enumerate_from n kinds))
+steps_stated work c n [] = tt
+steps_stated work c n (kind ∷ kinds) = (refl, steps_stated work c (n + 1) kinds)
 
-drop_said : (work : Work) (k : ℕ) (steps : List Step) → AreSaid work steps → AreSaid work (drop k steps)
-drop_said work zero steps said = said
-drop_said work (suc k) [] said = tt
-drop_said work (suc k) (s ∷ steps) said = drop_said work k steps said.1
+drop_stated : (work : Work) (k : ℕ) (steps : List Step) → AreConsistent work steps → AreConsistent work (drop k steps)
+drop_stated work zero steps stated = stated
+drop_stated work (suc k) [] stated = tt
+drop_stated work (suc k) (s ∷ steps) stated = drop_stated work k steps stated.1
 
-take_said : (work : Work) (k : ℕ) (steps : List Step) → AreSaid work steps → AreSaid work (take k steps)
-take_said work zero steps said = tt
-take_said work (suc k) [] said = tt
-take_said work (suc k) (s ∷ steps) said = (said.0, take_said work k steps said.1)
+take_stated : (work : Work) (k : ℕ) (steps : List Step) → AreConsistent work steps → AreConsistent work (take k steps)
+take_stated work zero steps stated = tt
+take_stated work (suc k) [] stated = tt
+take_stated work (suc k) (s ∷ steps) stated = (stated.0, take_stated work k steps stated.1)
 
-begun_said : (work : Work) (steps : List Step) → AreSaid work steps → AreSaid work (begun steps)
-begun_said work [] said = tt
-begun_said work (s ∷ steps) said = (said.0, elim (goes_on s) as (λ b. AreSaid work (cond b (begun steps) [])) [ true ↦ begun_said work steps said.1 | false ↦ tt ])
+begun_stated : (work : Work) (steps : List Step) → AreConsistent work steps → AreConsistent work (begun steps)
+begun_stated work [] stated = tt
+begun_stated work (s ∷ steps) stated = (stated.0, elim (goes_on s) as (λ b. AreConsistent work (cond b (begun steps) [])) [ true ↦ begun_stated work steps stated.1 | false ↦ tt ])
 
-turn_said : (work : Work) (turn : Turn) → AreSaid work (begun_steps work turn)
-turn_said work turn =
-    begun_said work (take turn.count (drop turn.first (steps_of work turn.change)))
-    (take_said work turn.count (drop turn.first (steps_of work turn.change))
-    (drop_said work turn.first (steps_of work turn.change) (steps_said work turn.change 0 (kinds_applied work.plan work.script turn.change))))
+turn_stated : (work : Work) (turn : Turn) → AreConsistent work (begun_steps work turn)
+turn_stated work turn =
+    begun_stated work (take turn.count (drop turn.first (steps_of work turn.change)))
+    (take_stated work turn.count (drop turn.first (steps_of work turn.change))
+    (drop_stated work turn.first (steps_of work turn.change) (steps_stated work turn.change 0 (kinds_applied work.plan work.script turn.change))))
 
 take_none : (k : ℕ) → take {A = Event} k [] ≡ []
 take_none zero = refl
 take_none (suc k) = refl
 
--- ---- some things that events are of: changes, or steps; `at` says whether one is that of a change's number and a step's
+-- ---- changes or steps that events belong to; `at` tests the number of a change and the number of a step
 
 module _ {X : Type 0} (at : X → ℕ → ℕ → Bool) (work : Work) where
   abbrev pub starts : X → List Event → ℕ
@@ -199,50 +199,50 @@ module _ {X : Type 0} (at : X → ℕ → ℕ → Bool) (work : Work) where
 
   -- the end alone counts, or the warning of a step that only warns
   endings_balance : (x : X) (w moment : ℕ) (s : Step) (fails only warns : Bool) → only_warns (outcome_of work.script s.change s.number) ≡ (only && not fails)
-      → starts x (event w s 0 Start ∷ []) + starts x (map (λ what. event w s moment what) (cond (tells_end fails only) (end_of fails (seconds_of s) ∷ notes fails warns) (WarnNote ∷ [])))
-      ≡ ends x (event w s 0 Start ∷ []) + ends x (map (λ what. event w s moment what) (cond (tells_end fails only) (end_of fails (seconds_of s) ∷ notes fails warns) (WarnNote ∷ [])))
-  endings_balance x w moment s true only warns said = elim (at x s.change s.number) as (λ b. 0 + bit (b && true) + (0 + bit (b && false) + bit (b && false)) ≡ 0 + bit (b && false) + (0 + bit (b && true) + bit (b && false))) [ true ↦ refl | false ↦ refl ]
-  endings_balance x w moment s false false true said =
-      subst (λ y. 0 + bit (at x s.change s.number && true) + (0 + bit (at x s.change s.number && false) + bit (at x s.change s.number && false)) ≡ 0 + bit (at x s.change s.number && false) + (0 + bit (at x s.change s.number && true) + bit (at x s.change s.number && y))) (sym said)
+      → starts x (event w s 0 Start ∷ []) + starts x (map (λ what. event w s moment what) (cond (emits_end fails only) (end_of fails (seconds_of s) ∷ notes fails warns) (WarnNote ∷ [])))
+      ≡ ends x (event w s 0 Start ∷ []) + ends x (map (λ what. event w s moment what) (cond (emits_end fails only) (end_of fails (seconds_of s) ∷ notes fails warns) (WarnNote ∷ [])))
+  endings_balance x w moment s true only warns stated = elim (at x s.change s.number) as (λ b. 0 + bit (b && true) + (0 + bit (b && false) + bit (b && false)) ≡ 0 + bit (b && false) + (0 + bit (b && true) + bit (b && false))) [ true ↦ refl | false ↦ refl ]
+  endings_balance x w moment s false false true stated =
+      subst (λ y. 0 + bit (at x s.change s.number && true) + (0 + bit (at x s.change s.number && false) + bit (at x s.change s.number && false)) ≡ 0 + bit (at x s.change s.number && false) + (0 + bit (at x s.change s.number && true) + bit (at x s.change s.number && y))) (sym stated)
       (elim (at x s.change s.number) as (λ b. 0 + bit (b && true) + (0 + bit (b && false) + bit (b && false)) ≡ 0 + bit (b && false) + (0 + bit (b && true) + bit (b && false))) [ true ↦ refl | false ↦ refl ])
-  endings_balance x w moment s false false false said = elim (at x s.change s.number) as (λ b. 0 + bit (b && true) + (0 + bit (b && false)) ≡ 0 + bit (b && false) + (0 + bit (b && true))) [ true ↦ refl | false ↦ refl ]
-  endings_balance x w moment s false true warns said =
-      subst (λ y. 0 + bit (at x s.change s.number && true) + (0 + bit (at x s.change s.number && false)) ≡ 0 + bit (at x s.change s.number && false) + (0 + bit (at x s.change s.number && y))) (sym said)
+  endings_balance x w moment s false false false stated = elim (at x s.change s.number) as (λ b. 0 + bit (b && true) + (0 + bit (b && false)) ≡ 0 + bit (b && false) + (0 + bit (b && true))) [ true ↦ refl | false ↦ refl ]
+  endings_balance x w moment s false true warns stated =
+      subst (λ y. 0 + bit (at x s.change s.number && true) + (0 + bit (at x s.change s.number && false)) ≡ 0 + bit (at x s.change s.number && false) + (0 + bit (at x s.change s.number && y))) (sym stated)
       (elim (at x s.change s.number) as (λ b. 0 + bit (b && true) + (0 + bit (b && false)) ≡ 0 + bit (b && false) + (0 + bit (b && true))) [ true ↦ refl | false ↦ refl ])
 
-  started_balanced : (x : X) (w moment : ℕ) (s : Step) → IsSaid work s → Balanced x (started w s moment)
-  started_balanced x w moment s said =
+  started_balanced : (x : X) (w moment : ℕ) (s : Step) → IsConsistent work s → Balanced x (start_events w s moment)
+  started_balanced x w moment s stated =
       let first = event w s moment Start in
-      let told = map (λ (p : ℕ × What). event w s (moment + p.0) p.1) (between s) in
+      let emitted = map (λ (p : ℕ × What). event w s (moment + p.0) p.1) (between s) in
       let last = map (λ what. event w s (moment + seconds_of s) what) (endings s) in
       let halt = halts w s (phase_after s.fails) (moment + seconds_of s) in
-      let quiet = quiet_balanced x told (quiet_between w moment s) in
-      let after = quiet_balanced x halt (quiet_found w (moment + seconds_of s) s (phase_after s.fails) (s.halts (phase_after s.fails))) in
-      let whole = endings_balance x w (moment + seconds_of s) s s.fails s.only_warns s.warns said in
-      let a = starts-cons x first (told ++ last ++ halt) in let b = ends-cons x first (told ++ last ++ halt) in
-      let d = starts-append x (told ++ last) halt in let e = ends-append x (told ++ last) halt in
-      let f = starts-append x told last in let g = ends-append x told last in
+      let quiet = quiet_balanced x emitted (quiet_between w moment s) in
+      let after = quiet_balanced x halt (quiet_hook w (moment + seconds_of s) s (phase_after s.fails) (s.halts (phase_after s.fails))) in
+      let whole = endings_balance x w (moment + seconds_of s) s s.fails s.only_warns s.warns stated in
+      let a = starts-cons x first (emitted ++ last ++ halt) in let b = ends-cons x first (emitted ++ last ++ halt) in
+      let d = starts-append x (emitted ++ last) halt in let e = ends-append x (emitted ++ last) halt in
+      let f = starts-append x emitted last in let g = ends-append x emitted last in
       let alone : starts x (event w s 0 Start ∷ []) ≡ bit (at x s.change s.number && true) = starts-cons x (event w s 0 Start) [] ∙ omega arith in
       let nothing : ends x (event w s 0 Start ∷ []) ≡ bit (at x s.change s.number && false) = ends-cons x (event w s 0 Start) [] ∙ omega arith in
       omega arith
 
-  step_balanced : (x : X) (w moment : ℕ) (s : Step) → IsSaid work s → Balanced x (step_events w s moment)
-  step_balanced x w moment s said = with_halt (s.halts Pre)
+  step_balanced : (x : X) (w moment : ℕ) (s : Step) → IsConsistent work s → Balanced x (step_events w s moment)
+  step_balanced x w moment s stated = with_halt (s.halts Pre)
     where
-      with_halt : (found : Option ℕ) → Balanced x (cond (is_some found) (option_to_list (option_map (λ hook. event w s moment (Halted Pre hook)) found)) (started w s moment))
-      with_halt None = started_balanced x w moment s said
-      with_halt (Some hook) = quiet_balanced x (event w s moment (Halted Pre hook) ∷ []) (quiet_found w moment s Pre (Some hook))
+      with_halt : (located : Option ℕ) → Balanced x (cond (is_some located) (option_to_list (option_map (λ hook. event w s moment (Halted Pre hook)) located)) (start_events w s moment))
+      with_halt None = started_balanced x w moment s stated
+      with_halt (Some hook) = quiet_balanced x (event w s moment (Halted Pre hook) ∷ []) (quiet_hook w moment s Pre (Some hook))
 
-  steps_balanced : (x : X) (w moment : ℕ) (steps : List Step) → AreSaid work steps → Balanced x (in_turn (step_events w) step_time steps moment)
-  steps_balanced x w moment [] said = refl
-  steps_balanced x w moment (s ∷ steps) said =
+  steps_balanced : (x : X) (w moment : ℕ) (steps : List Step) → AreConsistent work steps → Balanced x (in_turn (step_events w) step_time steps moment)
+  steps_balanced x w moment [] stated = refl
+  steps_balanced x w moment (s ∷ steps) stated =
       balanced_append x (step_events w s moment) (in_turn (step_events w) step_time steps (moment + step_time s))
-      (step_balanced x w moment s said.0) (steps_balanced x w (moment + step_time s) steps said.1)
+      (step_balanced x w moment s stated.0) (steps_balanced x w (moment + step_time s) steps stated.1)
 
-  turn_balanced : (x : X) (one : Taken) → Balanced x (turn_events work one)
-  turn_balanced x one = steps_balanced x one.lane one.begin.second (begun_steps work one.turn) (turn_said work one.turn)
+  turn_balanced : (x : X) (one : StartedTurn) → Balanced x (turn_events work one)
+  turn_balanced x one = steps_balanced x one.lane one.begin.second (begun_steps work one.turn) (turn_stated work one.turn)
 
-  lane_balanced : (x : X) (taken : List Taken) (lane : ℕ) → Balanced x (lane_turns work taken lane)
+  lane_balanced : (x : X) (taken : List StartedTurn) (lane : ℕ) → Balanced x (lane_turns work taken lane)
   lane_balanced x [] lane = refl
   lane_balanced x (one ∷ taken) lane =
       balanced_append x (lane_turns work taken lane) (cond (nat_eq one.lane lane) (turn_events work one) []) (lane_balanced x taken lane)
@@ -289,8 +289,8 @@ module _ {X : Type 0} (at : X → ℕ → ℕ → Bool) (work : Work) where
     one_in_none k = subst (λ es. many es ≤ 1) (sym (take_none k)) nothing_open
 
     -- what comes after events that are over
-    open_behind : (es fs : List Event) → ((x : X) → Balanced x es) → many (es ++ fs) ≤ many fs
-    open_behind es fs over = sum_by-le-sum_by (λ x. bit (is_open (es ++ fs) x)) (λ x. bit (is_open fs x)) xs (λ x.
+    open_after_it : (es fs : List Event) → ((x : X) → Balanced x es) → many (es ++ fs) ≤ many fs
+    open_after_it es fs over = sum_by-le-sum_by (λ x. bit (is_open (es ++ fs) x)) (λ x. bit (is_open fs x)) xs (λ x.
         let same = over x in let first = starts-append x es fs in let last = ends-append x es fs in
         let one = bit_le (is_open (es ++ fs) x) in
         ⊎_elim
@@ -304,7 +304,7 @@ module _ {X : Type 0} (at : X → ℕ → ℕ → Bool) (work : Work) where
         let j = k - length es in
         let count : length es + j ≡ k = omega arith in
         let cut : take k (es ++ fs) ≡ es ++ take j fs = ap (λ n. take n (es ++ fs)) (sym count) ∙ take-append-add es fs j in
-        let less = open_behind es (take j fs) over in
+        let less = open_after_it es (take j fs) over in
         let rest = second j in
         subst (λ gs. many gs ≤ 1) (sym cut) (omega arith))
         (λ (le : k ≤ length es). subst (λ gs. many gs ≤ 1) (sym (take-append-le k es fs le)) (first k))
@@ -316,19 +316,19 @@ module _ {X : Type 0} (at : X → ℕ → ℕ → Bool) (work : Work) where
         (All-take (IsOf s.change s.number) k (step_events w s moment)
         (All-weaker (IsOnTime moment s) (IsOf s.change s.number) (λ e h. (h.0, h.1)) (step_events w s moment) (step_on_time w moment s)))
 
-    one_in_turn : (w moment : ℕ) (steps : List Step) → AreSaid work steps → OneAtATime (in_turn (step_events w) step_time steps moment)
-    one_in_turn w moment [] said = one_in_none
-    one_in_turn w moment (s ∷ steps) said =
-        one_in_both (step_events w s moment) (in_turn (step_events w) step_time steps (moment + step_time s)) (λ x. step_balanced x w moment s said.0)
-        (one_in_step w moment s) (one_in_turn w (moment + step_time s) steps said.1)
+    one_in_turn : (w moment : ℕ) (steps : List Step) → AreConsistent work steps → OneAtATime (in_turn (step_events w) step_time steps moment)
+    one_in_turn w moment [] stated = one_in_none
+    one_in_turn w moment (s ∷ steps) stated =
+        one_in_both (step_events w s moment) (in_turn (step_events w) step_time steps (moment + step_time s)) (λ x. step_balanced x w moment s stated.0)
+        (one_in_step w moment s) (one_in_turn w (moment + step_time s) steps stated.1)
 
-    one_in_lane : (taken : List Taken) (lane : ℕ) → OneAtATime (lane_turns work taken lane)
+    one_in_lane : (taken : List StartedTurn) (lane : ℕ) → OneAtATime (lane_turns work taken lane)
     one_in_lane [] lane = one_in_none
     one_in_lane (one ∷ taken) lane =
         one_in_both (lane_turns work taken lane) (cond (nat_eq one.lane lane) (turn_events work one) []) (λ x. lane_balanced x taken lane)
         (one_in_lane taken lane)
         (elim (nat_eq one.lane lane) as (λ b. OneAtATime (cond b (turn_events work one) []))
-        [ true ↦ one_in_turn one.lane one.begin.second (begun_steps work one.turn) (turn_said work one.turn) | false ↦ one_in_none ])
+        [ true ↦ one_in_turn one.lane one.begin.second (begun_steps work one.turn) (turn_stated work one.turn) | false ↦ one_in_none ])
 
     -- ---- in all lanes
 
@@ -338,9 +338,9 @@ module _ {X : Type 0} (at : X → ℕ → ℕ → Bool) (work : Work) where
     in_some_lane n front [] named = omega arith
     in_some_lane n front (x ∷ ys) named =
         let parts : List (List Event) = lists_of n (λ w. of_worker w front) in
-        let told : IsInterleaving n (λ w. of_worker w front) front = record { named = named; parts = λ w lt. refl } in
-        let first : starts x front ≡ sum_by (starts x) parts = summed (λ (e : Event). bit (at x e.change e.step && is_start e.what)) n (λ w. of_worker w front) front told in
-        let last : ends x front ≡ sum_by (ends x) parts = summed (λ (e : Event). bit (at x e.change e.step && is_over_with work.script e)) n (λ w. of_worker w front) front told in
+        let emitted : IsInterleaving n (λ w. of_worker w front) front = record { named = named; parts = λ w lt. refl } in
+        let first : starts x front ≡ sum_by (starts x) parts = summed (λ (e : Event). bit (at x e.change e.step && is_start e.what)) n (λ w. of_worker w front) front emitted in
+        let last : ends x front ≡ sum_by (ends x) parts = summed (λ (e : Event). bit (at x e.change e.step && is_over_with work.script e)) n (λ w. of_worker w front) front emitted in
         let some : bit (nat_lt (sum_by (ends x) parts) (sum_by (starts x) parts)) ≤ sum_by (λ l. bit (is_open l x)) parts = some_less (ends x) (starts x) parts in
         let same : bit (is_open front x) ≡ bit (nat_lt (sum_by (ends x) parts) (sum_by (starts x) parts)) = ap (λ n. bit (nat_lt n (starts x front))) last ∙ ap (λ n. bit (nat_lt (sum_by (ends x) parts) n)) first in
         let rest = in_some_lane n front ys named in
@@ -351,7 +351,7 @@ module _ {X : Type 0} (at : X → ℕ → ℕ → Bool) (work : Work) where
     front_named : (n : ℕ) (front rest : List Event) → All (λ e. e.worker < n) (front ++ rest) → All (λ e. e.worker < n) front
     front_named n front rest named = subst (All (λ (e : Event). e.worker < n)) (take-append_seam front rest) (All-take (λ (e : Event). e.worker < n) (length front) (front ++ rest) named)
 
-    pub few_open_at_once : (n : ℕ) (taken : List Taken) (front rest : List Event) → IsInterleaving n (lane_turns work taken) (front ++ rest) → how_many_open xs front ≤ n
+    pub few_open_at_once : (n : ℕ) (taken : List StartedTurn) (front rest : List Event) → IsInterleaving n (lane_turns work taken) (front ++ rest) → how_many_open xs front ≤ n
     few_open_at_once n taken front rest line =
         let parts : List (List Event) = lists_of n (λ w. of_worker w front) in
         let some = in_some_lane n front xs (front_named n front rest line.named) in

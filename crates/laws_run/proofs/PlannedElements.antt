@@ -1,4 +1,4 @@
--- Of a plan that was read an element is planned unless its actions are to do nothing.
+-- In a plan that was read, an element is planned unless its actions are `["no-op"]`.
 use Rattle.std.proofs.Common.{◌≡◌, ℕ, suc, ◌+◌, List, [], ◌∷◌, ◌++◌, append-nil, append_assoc, codes, cond, length, map, nat_eq, not, Bool, true, false, Option, Some, None, Ok, Err, refl, sym, ap, ap₂, ◌∙◌, subst, ⊎_elim, arith}
 use Rattle.std.specs.Prelude.{◌&&◌, count_by, option_and_then, slice_get}
 use Rattle.std.specs.List.{enumerate_from, list_any, starts_with}
@@ -30,9 +30,9 @@ use Rattle.apply_plan.proofs.Results.{bind_ok, guard_ok, ok_is, or_refuse_ok}
 use Rattle.apply_model.specs.declared.details.change_details.ChangeDetails.{ChangeDetails}
 use Rattle.apply_plan_terraform.specs.Changes.{elements_of}
 use Rattle.apply_plan_terraform.specs.Details.{actions_in, element_details, forgets_in, is_forgetting}
-use Rattle.apply_plan_terraform.specs.Told.{DetailsOfPlan, details_of}
+use Rattle.apply_plan_terraform.specs.ReadDetails.{DetailsOfPlan, details_of}
 use Rattle.apply_plan_terraform.specs.Texts.{json_of}
-use Rattle.laws_run.specs.PlannedChanges.{AllButNoOpsArePlanned, is_no_op, is_planned, is_planned_at, says_no_op}
+use Rattle.laws_run.specs.PlannedChanges.{AllButNoOpsArePlanned, is_no_op, is_planned, is_planned_at, states_no_op}
 use Rattle.laws_run.proofs.AcceptedPlans.{read_from}
 
 -- the step that a value was made in
@@ -85,8 +85,8 @@ by_actions (item first (item second (item third others))) steps e = absurd cc
 
 -- ---- an element
 
-change_said : (d : Data) (planned : Items × Option (List ℕ)) → planned_change_of d ≡ Some planned → actions_in (member_of (codes "change") d) ≡ Some planned.0
-change_said d planned e =
+change_stated : (d : Data) (planned : Items × Option (List ℕ)) → planned_change_of d ≡ Some planned → actions_in (member_of (codes "change") d) ≡ Some planned.0
+change_stated d planned e =
     let change = step (member_of (codes "change") d) _ planned e in
     let list = step (member_of (codes "actions") change.0) _ planned change.2 in
     let actions = step (as_array list.0) _ planned list.2 in
@@ -98,9 +98,9 @@ change_said d planned e =
     some : Items → Option Items
     some ds = Some ds
 
-pub element_said : (d : Data) (e : Element) → element_of d ≡ Some e → actions_in (member_of (codes "change") d) ≡ Some e.actions
+pub element_stated : (d : Data) (e : Element) → element_of d ≡ Some e → actions_in (member_of (codes "change") d) ≡ Some e.actions
 unfolding element_of
-element_said d e is =
+element_stated d e is =
     let address = step (text_of (codes "address") d) _ e is in
     let word = step (text_of (codes "mode") d) _ e address.2 in
     let mode = step (mode_named word.0) _ e word.2 in
@@ -110,70 +110,70 @@ element_said d e is =
     let key = step (key_of (member_of (codes "index") d)) _ e module_address.2 in
     let deposed = step (text_or [] (member_of (codes "deposed") d)) _ e key.2 in
     let planned = step (planned_change_of d) _ e deposed.2 in
-    change_said d planned.0 planned.1 ∙ ap (λ (x : Element). some x.actions) (same_Some _ e planned.2)
+    change_stated d planned.0 planned.1 ∙ ap (λ (x : Element). some x.actions) (same_Some _ e planned.2)
   where
     some : Items → Option Items
     some ds = Some ds
 
-abbrev IsAsSaid : Data → ResourceChange → Type 0
-IsAsSaid d change = is_planned change.steps (forgets_in (member_of (codes "change") d)) ≡ not (says_no_op d)
+abbrev IsAsStated : Data → ResourceChange → Type 0
+IsAsStated d change = is_planned change.steps (forgets_in (member_of (codes "change") d)) ≡ not (states_no_op d)
 
-one_as_said : (earlier : List ResourceChange) (d : Data) (change : ResourceChange) → change_after earlier d ≡ Ok change → IsAsSaid d change
+one_as_stated : (earlier : List ResourceChange) (d : Data) (change : ResourceChange) → change_after earlier d ≡ Ok change → IsAsStated d change
 unfolding change_after planned_at
-one_as_said earlier d change e =
+one_as_stated earlier d change e =
     let n = length earlier in
     let planned = bind_ok (planned_at n d) (λ c. cond (list_any (is_same_object c) earlier) (Err (Duplicate n)) (Ok c)) change e in
     let new = guard_ok (list_any (is_same_object planned.0) earlier) (Duplicate n) (Ok planned.0) change planned.2 in
     let formed = bind_ok (or_refuse (BadChange n) (element_of d)) _ planned.0 planned.1 in
     let stepped = bind_ok (or_refuse (BadActions n) (steps_of_actions formed.0.actions)) _ planned.0 formed.2 in
     let placed = bind_ok (or_refuse (BadAddress n) (relative_address formed.0.module_address formed.0.address)) _ planned.0 stepped.2 in
-    let actions = element_said d formed.0 (or_refuse_ok (BadChange n) (element_of d) formed.0 formed.1) in
+    let actions = element_stated d formed.0 (or_refuse_ok (BadChange n) (element_of d) formed.0 formed.1) in
     let steps = or_refuse_ok (BadActions n) (steps_of_actions formed.0.actions) stepped.0 stepped.1 in
-    subst (IsAsSaid d) (ok_is planned.0 change new.1)
-    (subst (IsAsSaid d) (ok_is (change_of formed.0 stepped.0) planned.0 placed.2)
+    subst (IsAsStated d) (ok_is planned.0 change new.1)
+    (subst (IsAsStated d) (ok_is (change_of formed.0 stepped.0) planned.0 placed.2)
     (ap (λ (o : Option Items). is_planned stepped.0 (option_map_or is_forgetting o false)) actions
     ∙ by_actions formed.0.actions stepped.0 steps
     ∙ sym (ap (λ (o : Option Items). not (option_map_or is_no_op o false)) actions)))
 
 -- ---- all elements
 
-abbrev AreAsSaid : Items → List ResourceChange → Type 0
-AreAsSaid no_items [] = Unit {0}
-AreAsSaid no_items (change ∷ changes) = ⊥
-AreAsSaid (item d ds) [] = ⊥
-AreAsSaid (item d ds) (change ∷ changes) = IsAsSaid d change × AreAsSaid ds changes
+abbrev AreAsStated : Items → List ResourceChange → Type 0
+AreAsStated no_items [] = Unit {0}
+AreAsStated no_items (change ∷ changes) = ⊥
+AreAsStated (item d ds) [] = ⊥
+AreAsStated (item d ds) (change ∷ changes) = IsAsStated d change × AreAsStated ds changes
 
--- what was made of the elements stands behind what was made before
-all_as_said : (elements : Items) (earlier all : List ResourceChange) → made_after change_after earlier elements ≡ Ok all
-    → (changes : List ResourceChange) × (all ≡ earlier ++ changes) × AreAsSaid elements changes
+-- the changes of these elements come after the changes before them
+all_as_stated : (elements : Items) (earlier all : List ResourceChange) → made_after change_after earlier elements ≡ Ok all
+    → (changes : List ResourceChange) × (all ≡ earlier ++ changes) × AreAsStated elements changes
 unfolding made_after
-all_as_said no_items earlier all e = ([], sym (ok_is earlier all e) ∙ sym (append-nil earlier), tt)
-all_as_said (item d ds) earlier all e =
+all_as_stated no_items earlier all e = ([], sym (ok_is earlier all e) ∙ sym (append-nil earlier), tt)
+all_as_stated (item d ds) earlier all e =
     let first = bind_ok (change_after earlier d) (λ change. made_after change_after (earlier ++ change ∷ []) ds) all e in
-    let rest = all_as_said ds (earlier ++ first.0 ∷ []) all first.2 in
-    (first.0 ∷ rest.0, rest.1 ∙ append_assoc earlier (first.0 ∷ []) rest.0, (one_as_said earlier d first.0 first.1, rest.2))
+    let rest = all_as_stated ds (earlier ++ first.0 ∷ []) all first.2 in
+    (first.0 ∷ rest.0, rest.1 ∙ append_assoc earlier (first.0 ∷ []) rest.0, (one_as_stated earlier d first.0 first.1, rest.2))
 
 abbrev details_in : Items → List ChangeDetails
 details_in elements = map element_details (list_of elements)
 
-as_many : (elements : Items) (changes : List ResourceChange) → AreAsSaid elements changes → length (details_in elements) ≡ length changes
+as_many : (elements : Items) (changes : List ResourceChange) → AreAsStated elements changes → length (details_in elements) ≡ length changes
 as_many no_items [] all = refl
 as_many no_items (change ∷ changes) all = absurd all
 as_many (item d ds) [] all = absurd all
 as_many (item d ds) (change ∷ changes) all = ap suc (as_many ds changes all.1)
 
--- from change n on, of details that are those of the elements from there on
-one_by_one : (elements : Items) (changes : List ResourceChange) (n : ℕ) (details : List ChangeDetails) → AreAsSaid elements changes
+-- from change n on, with the details of the elements from there on
+one_by_one : (elements : Items) (changes : List ResourceChange) (n : ℕ) (details : List ChangeDetails) → AreAsStated elements changes
     → ((i : ℕ) → slice_get details (n + i) ≡ slice_get (details_in elements) i)
-    → map (is_planned_at details) (enumerate_from n changes) ≡ map (λ element. not (says_no_op element)) (list_of elements)
+    → map (is_planned_at details) (enumerate_from n changes) ≡ map (λ element. not (states_no_op element)) (list_of elements)
 one_by_one no_items [] n details all are = refl
 one_by_one no_items (change ∷ changes) n details all are = absurd all
 one_by_one (item d ds) [] n details all are = absurd all
 one_by_one (item d ds) (change ∷ changes) n details all are =
     let here : n ≡ n + 0 = omega arith in
-    let found : slice_get details n ≡ Some (element_details d) = ap (λ (k : ℕ). slice_get details k) here ∙ are 0 in
+    let located : slice_get details n ≡ Some (element_details d) = ap (λ (k : ℕ). slice_get details k) here ∙ are 0 in
     ap₂ (λ (b : Bool) (l : List Bool). b ∷ l)
-    (ap (λ (o : Option ChangeDetails). option_map_or (λ (x : ChangeDetails). is_planned change.steps x.forgets) o false) found ∙ all.0)
+    (ap (λ (o : Option ChangeDetails). option_map_or (λ (x : ChangeDetails). is_planned change.steps x.forgets) o false) located ∙ all.0)
     (one_by_one ds changes (n + 1) details all.1 (λ i. let next : n + 1 + i ≡ n + suc i = omega arith in ap (λ (k : ℕ). slice_get details k) next ∙ are (suc i)))
 
 counted : {X : Type 0} (p : X → Bool) (xs : List X) → count_by p xs ≡ count_by (λ b. b) (map p xs)
@@ -196,15 +196,15 @@ elements_are d header e =
     let made = cond_some (starts_with nat_eq format.0 (codes "1.")) (record { version = version.0; elements = elements.0 }) header elements.2 in
     of_member (member_of (codes "resource_changes") d) elements.0 elements.1 ∙ ap (λ (h : Header). list_of h.elements) made.1
   where
-    of_member : (found : Option Data) (elements : Items) → items_or_empty found ≡ Some elements → option_map_or list_of (found >>= as_array) [] ≡ list_of elements
+    of_member : (located : Option Data) (elements : Items) → items_or_empty located ≡ Some elements → option_map_or list_of (located >>= as_array) [] ≡ list_of elements
     of_member None elements e = ap list_of (same_Some no_items elements e)
     of_member (Some value) elements e = ap (λ (o : Option Items). option_map_or list_of o []) e
 
--- the tree of bytes is that of their value
+-- bytes have the tree of their value
 pub tree_is : (bytes : List ℕ) → tree_of bytes ≡ option_and_then of_json (json_of bytes)
 tree_is bytes = ⊎_elim (λ (yes : is_utf8 bytes ≡ true). rw yes refl) (λ (no : is_utf8 bytes ≡ false). rw no refl) (cases_Bool (is_utf8 bytes))
 
--- what is said for the form is said by the elements of the tree
+-- the details are read of the elements of the tree
 pub details_are : (bytes : List ℕ) (tree : Data) (details : DetailsOfPlan) → tree_of bytes ≡ Some tree → details_of bytes ≡ Some details → details.changes ≡ map element_details (elements_of tree)
 details_are bytes tree details is e =
     let value = step (json_of bytes) _ details e in
@@ -213,15 +213,15 @@ details_are bytes tree details is e =
     sym (ap (λ (x : DetailsOfPlan). x.changes) (same_Some _ details whole.2)) ∙ ap (λ (d : Data). map element_details (elements_of d)) same
 
 pub all_but_no_ops : (bytes : List ℕ) (plan : SavedPlan) (details : DetailsOfPlan) → plan_of bytes ≡ Ok plan → details_of bytes ≡ Some details → AllButNoOpsArePlanned bytes plan details.changes
-all_but_no_ops bytes plan details e said =
+all_but_no_ops bytes plan details e stated =
     let read = read_from bytes plan e in
     let elements = read.header.elements in
-    let made = all_as_said elements [] plan.changes read.made in
-    let all : AreAsSaid elements plan.changes = subst (AreAsSaid elements) (sym made.1) made.2 in
+    let made = all_as_stated elements [] plan.changes read.made in
+    let all : AreAsStated elements plan.changes = subst (AreAsStated elements) (sym made.1) made.2 in
     let listed = elements_are read.tree read.header read.header_is in
-    let details_is : details.changes ≡ details_in elements = details_are bytes read.tree details read.tree_is said ∙ ap (map element_details) listed in
+    let details_is : details.changes ≡ details_in elements = details_are bytes read.tree details read.tree_is stated ∙ ap (map element_details) listed in
     let each = one_by_one elements plan.changes 0 details.changes all (λ i. let same : 0 + i ≡ i = omega arith in ap (λ (k : ℕ). slice_get details.changes k) same ∙ ap (λ (l : List ChangeDetails). slice_get l i) details_is)
-    ∙ sym (ap (map (λ element. not (says_no_op element))) listed) in
+    ∙ sym (ap (map (λ element. not (states_no_op element))) listed) in
     record {
       tree = read.tree;
       tree_is = read.tree_is;
@@ -230,5 +230,5 @@ all_but_no_ops bytes plan details e said =
       count = length-filter (is_planned_at details.changes) (enumerate_from 0 plan.changes)
           ∙ counted (is_planned_at details.changes) (enumerate_from 0 plan.changes)
           ∙ ap (count_by (λ b. b)) each
-          ∙ sym (counted (λ element. not (says_no_op element)) (elements_of read.tree));
+          ∙ sym (counted (λ element. not (states_no_op element)) (elements_of read.tree));
     }

@@ -1,4 +1,4 @@
--- What Terraform's form tells of the changes that are planned, and of no other.
+-- The lines of the planned changes in Terraform's form; other changes have none.
 use Rattle.std.proofs.Common.{◌≡◌, ℕ, ◌+◌, ◌==◌, List, [], ◌∷◌, ◌++◌, codes, cond, filter, length, map, Bool, true, false, Option, Some, None, refl, ap, ◌∙◌, arith}
 use Rattle.std.specs.Prelude.{flat_map, slice_get}
 use Rattle.std.specs.List.{AllByRecursion, concat, enumerate_from}
@@ -14,26 +14,26 @@ use Rattle.apply_model.specs.declared.details.change_details.ChangeDetails.{Chan
 use Rattle.apply_text_terraform.specs.Details.{planned_word}
 use Rattle.apply_text_terraform.specs.Lines.{message_line, planned_text, version_members, version_text}
 use Rattle.apply_text_terraform.specs.Message.{planned_message}
-use Rattle.apply_text_terraform.specs.Moment.{fine_text}
+use Rattle.apply_text_terraform.specs.UtcTimestamp.{precise_timestamp_text}
 use Rattle.apply_text_terraform.proofs.Absent.{feeds_in_line}
-use Rattle.apply_writer.specs.Stream.Terraform.{head_pieces, planned_at}
-use Rattle.laws_run.specs.PlannedChanges.{TellsThatPlanned, is_planned, is_planned_at, planned_in}
+use Rattle.apply_writer.specs.Stream.Terraform.{terraform_head_chunks, planned_at}
+use Rattle.laws_run.specs.PlannedChanges.{IsPlannedChangeLine, is_planned, is_planned_at, planned_in}
 
 -- ---- lists
 
 -- what gives nothing where a test fails may be left out
-kept_pieces : {X : Type 0} (t : X → Bool) (f : X → List ℕ) → ((x : X) → t x ≡ false → f x ≡ []) → (xs : List X) → concat (map f xs) ≡ flat_map f (filter t xs)
-kept_pieces t f nothing [] = refl
-kept_pieces t f nothing (x ∷ xs) = of_test (t x) refl (kept_pieces t f nothing xs)
+verbatim_pieces : {X : Type 0} (t : X → Bool) (f : X → List ℕ) → ((x : X) → t x ≡ false → f x ≡ []) → (xs : List X) → concat (map f xs) ≡ flat_map f (filter t xs)
+verbatim_pieces t f nothing [] = refl
+verbatim_pieces t f nothing (x ∷ xs) = of_test (t x) refl (verbatim_pieces t f nothing xs)
   where
     of_test : (b : Bool) → t x ≡ b → concat (map f xs) ≡ flat_map f (filter t xs) → f x ++ concat (map f xs) ≡ flat_map f (cond b (x ∷ filter t xs) (filter t xs))
     of_test true is rest = ap (λ (l : List ℕ). f x ++ l) rest
     of_test false is rest = ap (λ (l : List ℕ). l ++ concat (map f xs)) (nothing x is) ∙ rest
 
--- what holds where a test is passed holds of all that are kept
-all_kept : {X : Type 0} (t : X → Bool) (P : X → Type 0) → ((x : X) → t x ≡ true → P x) → (xs : List X) → AllByRecursion P (filter t xs)
-all_kept t P holds [] = tt
-all_kept t P holds (x ∷ xs) = of_test (t x) refl (all_kept t P holds xs)
+-- what holds of each element that passes a test holds of the filtered list
+all_filtered : {X : Type 0} (t : X → Bool) (P : X → Type 0) → ((x : X) → t x ≡ true → P x) → (xs : List X) → AllByRecursion P (filter t xs)
+all_filtered t P holds [] = tt
+all_filtered t P holds (x ∷ xs) = of_test (t x) refl (all_filtered t P holds xs)
   where
     of_test : (b : Bool) → t x ≡ b → AllByRecursion P (filter t xs) → AllByRecursion P (cond b (x ∷ filter t xs) (filter t xs))
     of_test true is rest = (holds x is, rest)
@@ -60,10 +60,10 @@ module _ (start : ℕ) (change : ResourceChange) where
   line_by : ChangeDetails → Option (List ℕ) → List ℕ
   line_by details word = option_map_or (λ word. message_line start (planned_message change word details)) word []
 
-  told : (found : Option ChangeDetails) → option_map_or (λ (d : ChangeDetails). is_planned change.steps d.forgets) found false ≡ true
-      → TellsThatPlanned start change (option_map_or (planned_text start change) found [])
-  told None is = absurd cc
-  told (Some details) is =
+  has_line : (located : Option ChangeDetails) → option_map_or (λ (d : ChangeDetails). is_planned change.steps d.forgets) located false ≡ true
+      → IsPlannedChangeLine start change (option_map_or (planned_text start change) located [])
+  has_line None is = absurd cc
+  has_line (Some details) is =
       let word = has_word change.steps details.forgets is in
       let message = planned_message change word.0 details in
       let line : planned_text start change details ≡ message_line start message =
@@ -74,39 +74,39 @@ module _ (start : ℕ) (change : ResourceChange) where
         line_is = line;
         type_is = refl;
         text_is = refl;
-        one_line_feed = ap line_feeds line ∙ feeds_in_line (message_object message.level message.text (fine_text start) (typed message.name message.body message.type_name));
+        one_line_feed = ap line_feeds line ∙ feeds_in_line (message_object message.level message.text (precise_timestamp_text start) (typed message.name message.body message.type_name));
       }
 
-  untold : (found : Option ChangeDetails) → option_map_or (λ (d : ChangeDetails). is_planned change.steps d.forgets) found false ≡ false
-      → option_map_or (planned_text start change) found [] ≡ []
+  untold : (located : Option ChangeDetails) → option_map_or (λ (d : ChangeDetails). is_planned change.steps d.forgets) located false ≡ false
+      → option_map_or (planned_text start change) located [] ≡ []
   untold None is = refl
   untold (Some details) is = ap (λ (o : Option (List ℕ)). option_map_or (λ word. message_line start (planned_message change word details)) o []) (has_none change.steps details.forgets is)
 
 -- ---- all changes
 
 pub pieces : (plan : SavedPlan) (details : List ChangeDetails) (start : ℕ)
-    → concat (head_pieces plan details start) ≡ version_text plan start ++ flat_map (planned_at start details) (planned_in details plan)
+    → concat (terraform_head_chunks plan details start) ≡ version_text plan start ++ flat_map (planned_at start details) (planned_in details plan)
 pieces plan details start =
     ap (λ (l : List ℕ). version_text plan start ++ l)
-    (kept_pieces (is_planned_at details) (planned_at start details) (λ p is. untold start p.1 (slice_get details p.0) is) (enumerate_from 0 plan.changes))
+    (verbatim_pieces (is_planned_at details) (planned_at start details) (λ p is. untold start p.1 (slice_get details p.0) is) (enumerate_from 0 plan.changes))
 
 pub each_told : (plan : SavedPlan) (details : List ChangeDetails) (start : ℕ)
-    → AllByRecursion (λ (p : ℕ × ResourceChange). TellsThatPlanned start p.1 (planned_at start details p)) (planned_in details plan)
+    → AllByRecursion (λ (p : ℕ × ResourceChange). IsPlannedChangeLine start p.1 (planned_at start details p)) (planned_in details plan)
 each_told plan details start =
-    all_kept (is_planned_at details) (λ (p : ℕ × ResourceChange). TellsThatPlanned start p.1 (planned_at start details p)) (λ p is. told start p.1 (slice_get details p.0) is) (enumerate_from 0 plan.changes)
+    all_filtered (is_planned_at details) (λ (p : ℕ × ResourceChange). IsPlannedChangeLine start p.1 (planned_at start details p)) (λ p is. has_line start p.1 (slice_get details p.0) is) (enumerate_from 0 plan.changes)
 
-feeds_told : (start : ℕ) (details : List ChangeDetails) (ps : List (ℕ × ResourceChange)) → AllByRecursion (λ (p : ℕ × ResourceChange). TellsThatPlanned start p.1 (planned_at start details p)) ps
+feeds_read_back : (start : ℕ) (details : List ChangeDetails) (ps : List (ℕ × ResourceChange)) → AllByRecursion (λ (p : ℕ × ResourceChange). IsPlannedChangeLine start p.1 (planned_at start details p)) ps
     → line_feeds (flat_map (planned_at start details) ps) ≡ length ps
-feeds_told start details [] all = refl
-feeds_told start details (p ∷ ps) all =
+feeds_read_back start details [] all = refl
+feeds_read_back start details (p ∷ ps) all =
     let both = feeds-append (planned_at start details p) (flat_map (planned_at start details) ps) in
     let here = all.0.one_line_feed in
-    let rest = feeds_told start details ps all.1 in
+    let rest = feeds_read_back start details ps all.1 in
     omega arith
 
-pub lines : (plan : SavedPlan) (details : List ChangeDetails) (start : ℕ) → line_feeds (concat (head_pieces plan details start)) ≡ 1 + length (planned_in details plan)
+pub lines : (plan : SavedPlan) (details : List ChangeDetails) (start : ℕ) → line_feeds (concat (terraform_head_chunks plan details start)) ≡ 1 + length (planned_in details plan)
 lines plan details start =
     let both = feeds-append (version_text plan start) (flat_map (planned_at start details) (planned_in details plan)) in
-    let first : line_feeds (version_text plan start) ≡ 1 = feeds_in_line (message_object (codes "info") (codes "Terraform " ++ plan.version) (fine_text start) (version_members plan.version)) in
-    let rest = feeds_told start details (planned_in details plan) (each_told plan details start) in
+    let first : line_feeds (version_text plan start) ≡ 1 = feeds_in_line (message_object (codes "info") (codes "Terraform " ++ plan.version) (precise_timestamp_text start) (version_members plan.version)) in
+    let rest = feeds_read_back start details (planned_in details plan) (each_told plan details start) in
     ap line_feeds (pieces plan details start) ∙ (let all : line_feeds (version_text plan start ++ flat_map (planned_at start details) (planned_in details plan)) ≡ 1 + length (planned_in details plan) = omega arith in all)

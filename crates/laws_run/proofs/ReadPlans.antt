@@ -70,7 +70,7 @@ few_of_actions (item action no_items) = few_alone action
 few_of_actions (item first (item second no_items)) = few_together first second
 few_of_actions (item first (item second (item third others))) = tt
 
-where_some : {X : Type 0} (P : X → Type 0) (found : Option X) (x : X) → IfSome found P → found ≡ Some x → P x
+where_some : {X : Type 0} (P : X → Type 0) (located : Option X) (x : X) → IfSome located P → located ≡ Some x → P x
 where_some P None x holds e = absurd cc
 where_some P (Some y) x holds e = subst P (let same : y ≡ x = cc in same) holds
 

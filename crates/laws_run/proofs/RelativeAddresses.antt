@@ -19,18 +19,18 @@ not_empty : (text : List ℕ) → is_empty text ≡ false → text ≢ []
 not_empty [] e = absurd cc
 not_empty (byte ∷ bytes) e = λ nothing. cc
 
-joined : (module_address address found : List ℕ) → relative_address module_address address ≡ Some found → (found ≢ []) × IsJoined module_address found address
-joined [] address found e =
-    let all = left_some address found e in
-    (not_empty found all.1, all.0)
-joined (byte ∷ bytes) address found e =
-    let below = below_module (byte ∷ bytes) address found e in (
-      not_empty found below.3,
+joined : (module_address address located : List ℕ) → relative_address module_address address ≡ Some located → (located ≢ []) × IsJoined module_address located address
+joined [] address located e =
+    let all = left_some address located e in
+    (not_empty located all.1, all.0)
+joined (byte ∷ bytes) address located e =
+    let below = below_module (byte ∷ bytes) address located e in (
+      not_empty located below.3,
       split_at_prefix (byte ∷ bytes) address below.0 below.1
-          ∙ ap (λ (r : List ℕ). (byte ∷ bytes) ++ r) (split_at_prefix (codes ".") below.0 found below.2),
+          ∙ ap (λ (r : List ℕ). (byte ∷ bytes) ++ r) (split_at_prefix (codes ".") below.0 located below.2),
     )
 
-pub relative_joins : (change : ResourceChange) (found : List ℕ) → relative_address change.module_address change.address ≡ Some found → HasRelativeAddress change
-relative_joins change found e =
-    let both = joined change.module_address change.address found e in
-    subst (λ (relative : List ℕ). (relative ≢ []) × IsJoined change.module_address relative change.address) (relative_is change.module_address change.address found e) both
+pub relative_joins : (change : ResourceChange) (located : List ℕ) → relative_address change.module_address change.address ≡ Some located → HasRelativeAddress change
+relative_joins change located e =
+    let both = joined change.module_address change.address located e in
+    subst (λ (relative : List ℕ). (relative ≢ []) × IsJoined change.module_address relative change.address) (relative_is change.module_address change.address located e) both

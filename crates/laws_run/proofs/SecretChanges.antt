@@ -1,4 +1,4 @@
--- Changes of resources that differ only in what no stream tells are read alike.
+-- Changes of resources that differ only in what no stream depends on are read alike.
 use Rattle.std.proofs.Common.{◌≡◌, ℕ, suc, List, [], ◌∷◌, ◌++◌, codes, Bool, true, false, cond, ltb, map, nat_eq, Option, Some, None, Ok, Err, Result, inl, inr, option_map, refl, sym, ap, ap₂, ◌∙◌, subst}
 use Rattle.std.specs.Prelude.{◌||◌}
 use Rattle.std.specs.List.{starts_with}
@@ -9,7 +9,7 @@ use Rattle.serde_json.specs.Data.{Data, null, boolean, number, string, array, ob
 use Rattle.serde_json.specs.Events.{items_len}
 use Rattle.serde_json.specs.Find.{as_array, as_str, get}
 use Rattle.serde_json.specs.Read.{number_of}
-use Rattle.apply_json.specs.Keeping.{keeping, keeping_items, keeping_member, keeping_members, none_kept}
+use Rattle.apply_json.specs.Verbatim.{mixed_tree, mixed_items, mixed_member, mixed_members, none_verbatim}
 use Rattle.apply_json.specs.Tree.{◌>>=◌, items_or_empty, list_of, member_of, non_empty_text_of, text_of, text_or, unless_empty, unless_null}
 use Rattle.apply_model.specs.Plan.ResourceChange.{ResourceChange}
 use Rattle.apply_model.specs.Plan.SavedPlan.{SavedPlan, max_changes}
@@ -35,41 +35,41 @@ use Rattle.laws_run.specs.LastMembers as last
 use Rattle.laws_run.specs.LastMembers.{HaveAlike, HaveSame, last_of}
 use Rattle.laws_run.specs.Plans.{AreAlike}
 use Rattle.laws_run.specs.SensitiveChanges as secret
-use Rattle.laws_run.specs.SensitiveChanges.{SayEachElement, SaySameChange, SaySameElement, SaySameElements, SaySameId}
-use Rattle.laws_run.proofs.LastMembers.{IsMade, found_in, found_made, map_some, then_some}
+use Rattle.laws_run.specs.SensitiveChanges.{EachElementAgrees, ChangesAgree, ElementAgrees, ElementsAgree, IdsAgree}
+use Rattle.laws_run.proofs.LastMembers.{IsMade, found_in, member_made, map_some, then_some}
 
--- the tree is that of the value
+-- the tree of the value
 abbrev IsTree : json.Json → Data → Type 0
-IsTree j d = keeping none_kept j ≡ Some d
+IsTree j d = mixed_tree none_verbatim j ≡ Some d
 
 -- ---- members of both trees
 
 -- values that are alike in one way have trees that are alike in another
-both_made : (P : json.Json → json.Json → Type 0) (Q : Option Data → Option Data → Type 0) → Q None None
+zip_results : (P : json.Json → json.Json → Type 0) (Q : Option Data → Option Data → Type 0) → Q None None
     → ((a b : json.Json) (d e : Data) → IsTree a d → IsTree b e → P a b → Q (Some d) (Some e))
-    → (name : List ℕ) (x y : Option json.Json) (o p : Option Data) → AreAlike P x y → IsMade none_kept name x o → IsMade none_kept name y p → Q o p
-both_made P Q none both name None None None None alike is also = none
-both_made P Q none both name None None None (Some e) alike is also = absurd also
-both_made P Q none both name None None (Some d) p alike is also = absurd is
-both_made P Q none both name None (Some b) o p alike is also = absurd alike
-both_made P Q none both name (Some a) None o p alike is also = absurd alike
-both_made P Q none both name (Some a) (Some b) None p alike is also = absurd is
-both_made P Q none both name (Some a) (Some b) (Some d) None alike is also = absurd also
-both_made P Q none both name (Some a) (Some b) (Some d) (Some e) alike is also = both a b d e is also alike
+    → (name : List ℕ) (x y : Option json.Json) (o p : Option Data) → AreAlike P x y → IsMade none_verbatim name x o → IsMade none_verbatim name y p → Q o p
+zip_results P Q none both name None None None None alike is also = none
+zip_results P Q none both name None None None (Some e) alike is also = absurd also
+zip_results P Q none both name None None (Some d) p alike is also = absurd is
+zip_results P Q none both name None (Some b) o p alike is also = absurd alike
+zip_results P Q none both name (Some a) None o p alike is also = absurd alike
+zip_results P Q none both name (Some a) (Some b) None p alike is also = absurd is
+zip_results P Q none both name (Some a) (Some b) (Some d) None alike is also = absurd also
+zip_results P Q none both name (Some a) (Some b) (Some d) (Some e) alike is also = both a b d e is also alike
 
 module _ (a b : json.Json) (d e : Data) (one : IsTree a d) (other : IsTree b e) where
   pub member_same : (name : List ℕ) → last_of name a ≡ last_of name b → member_of name d ≡ member_of name e
   member_same name same =
       ap (λ (o : Option Data). o >>= unless_null)
-      (found_in none_kept name a d one ∙ ap (λ (o : Option json.Json). o >>= keeping_member none_kept name) same ∙ sym (found_in none_kept name b e other))
+      (found_in none_verbatim name a d one ∙ ap (λ (o : Option json.Json). o >>= mixed_member none_verbatim name) same ∙ sym (found_in none_verbatim name b e other))
 
   members_alike : (P : json.Json → json.Json → Type 0) (Q : Option Data → Option Data → Type 0) → Q None None
       → ((a b : json.Json) (d e : Data) → IsTree a d → IsTree b e → P a b → Q (Some d) (Some e))
       → (name : List ℕ) → HaveAlike name P a b → Q (get name d) (get name e)
   members_alike P Q none both name alike =
-      both_made P Q none both name (last_of name a) (last_of name b) (get name d) (get name e) alike (found_made none_kept name a d one) (found_made none_kept name b e other)
+      zip_results P Q none both name (last_of name a) (last_of name b) (get name d) (get name e) alike (member_made none_verbatim name a d one) (member_made none_verbatim name b e other)
 
--- what is asked of a member is the same of null as of nothing
+-- a member that is null counts as a member that is missing
 unless : {B : Type 0} (f : Option Data → B) → f (Some null) ≡ f None → (o : Option Data) → f (o >>= unless_null) ≡ f o
 unless f same None = refl
 unless f same (Some null) = sym same
@@ -91,22 +91,22 @@ flag_of_tree json.null d e = ap (λ (x : Data). is_true (Some x)) (sym (same_Som
 flag_of_tree (json.boolean b) d e = ap (λ (x : Data). is_true (Some x)) (sym (same_Some (boolean b) d e))
 flag_of_tree (json.number s) d e = no_flag number (λ a. refl) (number_of s) d e
 flag_of_tree (json.string s) d e = ap (λ (x : Data). is_true (Some x)) (sym (same_Some (string s) d e))
-flag_of_tree (json.array js) d e = no_flag array (λ a. refl) (keeping_items none_kept js) d e
-flag_of_tree (json.object ms) d e = no_flag object (λ a. refl) (keeping_members none_kept ms no_members) d e
+flag_of_tree (json.array js) d e = no_flag array (λ a. refl) (mixed_items none_verbatim js) d e
+flag_of_tree (json.object ms) d e = no_flag object (λ a. refl) (mixed_members none_verbatim ms no_members) d e
 
-flag_of_member : (name : List ℕ) (x : Option json.Json) (o : Option Data) → IsMade none_kept name x o → is_true o ≡ last.is_true x
+flag_of_member : (name : List ℕ) (x : Option json.Json) (o : Option Data) → IsMade none_verbatim name x o → is_true o ≡ last.is_true x
 flag_of_member name None None is = refl
 flag_of_member name None (Some d) is = absurd is
 flag_of_member name (Some j) None is = absurd is
 flag_of_member name (Some j) (Some d) is = flag_of_tree j d is
 
-hidden_of_tree : (name : List ℕ) (x : Option json.Json) (o : Option Data) → IsMade none_kept name x o → hides_id o ≡ secret.hides_id x
+hidden_of_tree : (name : List ℕ) (x : Option json.Json) (o : Option Data) → IsMade none_verbatim name x o → hides_id o ≡ secret.hides_id x
 hidden_of_tree name None None is = refl
 hidden_of_tree name None (Some d) is = absurd is
 hidden_of_tree name (Some j) None is = absurd is
 hidden_of_tree name (Some j) (Some d) is =
     ap₂ (λ (t u : Bool). t || u) (flag_of_tree j d is)
-    (unless is_true refl (get (codes "id") d) ∙ flag_of_member (codes "id") (last_of (codes "id") j) (get (codes "id") d) (found_made none_kept (codes "id") j d is))
+    (unless is_true refl (get (codes "id") d) ∙ flag_of_member (codes "id") (last_of (codes "id") j) (get (codes "id") d) (member_made none_verbatim (codes "id") j d is))
 
 id_in : Option Data → Option (List ℕ)
 id_in o = o >>= λ d. non_empty_text_of (codes "id") d
@@ -115,7 +115,7 @@ id_same : (a b : json.Json) (d e : Data) → IsTree a d → IsTree b e → HaveS
 unfolding id_in
 id_same a b d e one other same = ap (λ (o : Option Data). (o >>= as_str) >>= unless_empty) (member_same a b d e one other (codes "id") same.0)
 
-module _ (a b : json.Json) (d e : Data) (one : IsTree a d) (other : IsTree b e) (values sensitive : List ℕ) (same : SaySameId values sensitive a b) where
+module _ (a b : json.Json) (d e : Data) (one : IsTree a d) (other : IsTree b e) (values sensitive : List ℕ) (same : IdsAgree values sensitive a b) where
   pub told_id_same : cond (hides_id (member_of sensitive d)) None (member_of values d >>= λ v. non_empty_text_of (codes "id") v)
       ≡ cond (hides_id (member_of sensitive e)) None (member_of values e >>= λ v. non_empty_text_of (codes "id") v)
   unfolding id_in
@@ -123,7 +123,7 @@ module _ (a b : json.Json) (d e : Data) (one : IsTree a d) (other : IsTree b e) 
       of_test (hides_id (member_of sensitive d)) refl
     where
       hidden : hides_id (member_of sensitive d) ≡ secret.hides_id (last_of sensitive a)
-      hidden = unless hides_id refl (get sensitive d) ∙ hidden_of_tree sensitive (last_of sensitive a) (get sensitive d) (found_made none_kept sensitive a d one)
+      hidden = unless hides_id refl (get sensitive d) ∙ hidden_of_tree sensitive (last_of sensitive a) (get sensitive d) (member_made none_verbatim sensitive a d one)
 
       both : hides_id (member_of sensitive d) ≡ hides_id (member_of sensitive e)
       both = ap hides_id (member_same a b d e one other sensitive same.0.0)
@@ -145,15 +145,15 @@ module _ (a b : json.Json) (d e : Data) (one : IsTree a d) (other : IsTree b e) 
 
 -- ---- the member `change`
 
-module _ (a b : json.Json) (d e : Data) (one : IsTree a d) (other : IsTree b e) (same : SaySameChange a b) where
+module _ (a b : json.Json) (d e : Data) (one : IsTree a d) (other : IsTree b e) (same : ChangesAgree a b) where
   actions_same : member_of (codes "actions") d ≡ member_of (codes "actions") e
   actions_same = member_same a b d e one other (codes "actions") same.0.0
 
   pub prior_id_same : prior_id_of d ≡ prior_id_of e
   prior_id_same = told_id_same a b d e one other (codes "before") (codes "before_sensitive") same.1
 
-  pub said_same : (member_of (codes "actions") d >>= as_array) ≡ (member_of (codes "actions") e >>= as_array)
-  said_same = ap (λ (o : Option Data). o >>= as_array) actions_same
+  pub stated_same : (member_of (codes "actions") d >>= as_array) ≡ (member_of (codes "actions") e >>= as_array)
+  stated_same = ap (λ (o : Option Data). o >>= as_array) actions_same
 
   pub importing_same : imported_in (Some d) ≡ imported_in (Some e)
   importing_same = ap (λ (o : Option Data). o >>= unless_other) (member_same a b d e one other (codes "importing") same.0.1.0)
@@ -174,17 +174,17 @@ pub record IsElementSame (d e : Data) : Type 0 where
   pub element : element_of d ≡ element_of e
   pub details : element_details d ≡ element_details e
 
-module _ (a b : json.Json) (d e : Data) (one : IsTree a d) (other : IsTree b e) (same : SaySameElement a b) where
+module _ (a b : json.Json) (d e : Data) (one : IsTree a d) (other : IsTree b e) (same : ElementAgrees a b) where
   member_is : (name : List ℕ) → last_of name a ≡ last_of name b → member_of name d ≡ member_of name e
   member_is name at = member_same a b d e one other name at
 
   -- of what is asked of the change
   by_change : {B : Type 0} (f : Option Data → B) → f (Some null) ≡ f None
-      → ((a b : json.Json) (d e : Data) → IsTree a d → IsTree b e → SaySameChange a b → f (Some d) ≡ f (Some e))
+      → ((a b : json.Json) (d e : Data) → IsTree a d → IsTree b e → ChangesAgree a b → f (Some d) ≡ f (Some e))
       → f (member_of (codes "change") d) ≡ f (member_of (codes "change") e)
   by_change f null_too alike =
       unless f null_too (get (codes "change") d)
-      ∙ members_alike a b d e one other SaySameChange (λ x y. f x ≡ f y) refl alike (codes "change") same.1
+      ∙ members_alike a b d e one other ChangesAgree (λ x y. f x ≡ f y) refl alike (codes "change") same.1
       ∙ sym (unless f null_too (get (codes "change") e))
 
   planned_same : planned_change_of d ≡ planned_change_of e
@@ -196,7 +196,7 @@ module _ (a b : json.Json) (d e : Data) (one : IsTree a d) (other : IsTree b e) 
       with_id : Option Data → Option (List ℕ) → Option (Items × Option (List ℕ))
       with_id o id = o >>= λ (list : Data). (as_array list >>= λ (actions : Items). Some (actions, id))
 
-      in_change : (a b : json.Json) (d e : Data) → IsTree a d → IsTree b e → SaySameChange a b → planned_in (Some d) ≡ planned_in (Some e)
+      in_change : (a b : json.Json) (d e : Data) → IsTree a d → IsTree b e → ChangesAgree a b → planned_in (Some d) ≡ planned_in (Some e)
       in_change a b d e one other same = ap₂ with_id (actions_same a b d e one other same) (prior_id_same a b d e one other same)
 
   element_same : element_of d ≡ element_of e
@@ -217,7 +217,7 @@ module _ (a b : json.Json) (d e : Data) (one : IsTree a d) (other : IsTree b e) 
   details_same : element_details d ≡ element_details e
   details_same =
       let text = λ (name : List ℕ) (at : last_of name a ≡ last_of name b). ap (λ (o : Option Data). (o >>= as_str) >>= unless_empty) (member_is name at) in
-      let forgets = by_change forgets_in refl (λ a b d e one other same. ap (λ (o : Option Items). option_map_or is_forgetting o false) (said_same a b d e one other same)) in
+      let forgets = by_change forgets_in refl (λ a b d e one other same. ap (λ (o : Option Items). option_map_or is_forgetting o false) (stated_same a b d e one other same)) in
       let importing = by_change (λ o. importing_of (imported_in o)) refl (λ a b d e one other same. ap importing_of (importing_same a b d e one other same)) in
       let config = by_change config_in refl config_same in
       let planned_id = by_change planned_id_in refl planned_id_same in
@@ -242,15 +242,15 @@ each_itself : (ds : Items) → EachSame ds ds
 each_itself no_items = tt
 each_itself (item d ds) = (record { element = refl; details = refl }, each_itself ds)
 
-each_made : (ones others : json.Items) (ds es : Items) → keeping_items none_kept ones ≡ Some ds → keeping_items none_kept others ≡ Some es → SayEachElement ones others → EachSame ds es
+each_made : (ones others : json.Items) (ds es : Items) → mixed_items none_verbatim ones ≡ Some ds → mixed_items none_verbatim others ≡ Some es → EachElementAgrees ones others → EachSame ds es
 each_made json.no_items json.no_items ds es one other alike = subst (λ (x : Items). EachSame x es) (same_Some no_items ds one) (subst (EachSame no_items) (same_Some no_items es other) tt)
 each_made json.no_items (json.item b others) ds es one other alike = absurd alike
 each_made (json.item a ones) json.no_items ds es one other alike = absurd alike
 each_made (json.item a ones) (json.item b others) ds es one other alike =
-    let first = then_some (λ d. option_map (item d) (keeping_items none_kept ones)) (keeping none_kept a) ds one in
-    let second = then_some (λ e. option_map (item e) (keeping_items none_kept others)) (keeping none_kept b) es other in
-    let more = map_some (item first.0) (keeping_items none_kept ones) ds first.2 in
-    let rest = map_some (item second.0) (keeping_items none_kept others) es second.2 in
+    let first = then_some (λ d. option_map (item d) (mixed_items none_verbatim ones)) (mixed_tree none_verbatim a) ds one in
+    let second = then_some (λ e. option_map (item e) (mixed_items none_verbatim others)) (mixed_tree none_verbatim b) es other in
+    let more = map_some (item first.0) (mixed_items none_verbatim ones) ds first.2 in
+    let rest = map_some (item second.0) (mixed_items none_verbatim others) es second.2 in
     let all : EachSame (item first.0 more.0) (item second.0 rest.0) =
     (elements_same a b first.0 second.0 first.1 second.1 alike.0, each_made ones others more.0 rest.0 more.1 rest.1 alike.1) in
     subst (λ (x : Items). EachSame x es) more.2 (subst (EachSame (item first.0 more.0)) rest.2 all)
@@ -286,7 +286,7 @@ same_changes ds es alike = sym (changes_one_by_one ds) ∙ same_answers [] ds es
 
 -- ---- the member `resource_changes`
 
--- its elements, for a plan and for what only the form tells
+-- the elements, for a plan and for the details of Terraform's form
 abbrev AreSame : Option Data → Option Data → Type 0
 AreSame x y =
     AreAlike EachSame (items_or_empty (x >>= unless_null)) (items_or_empty (y >>= unless_null))
@@ -296,16 +296,16 @@ items_themselves : (o : Option Items) → AreAlike EachSame o o
 items_themselves None = tt
 items_themselves (Some ds) = each_itself ds
 
-array_made : (ones : json.Items) (d : Data) → IsTree (json.array ones) d → (ds : Items) × (keeping_items none_kept ones ≡ Some ds) × (array ds ≡ d)
-array_made ones d is = map_some array (keeping_items none_kept ones) d is
+array_made : (ones : json.Items) (d : Data) → IsTree (json.array ones) d → (ds : Items) × (mixed_items none_verbatim ones ≡ Some ds) × (array ds ≡ d)
+array_made ones d is = map_some array (mixed_items none_verbatim ones) d is
 
-elements_alike : (a b : json.Json) (d e : Data) → IsTree a d → IsTree b e → SaySameElements a b → AreSame (Some d) (Some e)
+elements_alike : (a b : json.Json) (d e : Data) → IsTree a d → IsTree b e → ElementsAgree a b → AreSame (Some d) (Some e)
 elements_alike a b d e one other (inl same) =
-    let trees : d ≡ e = same_Some d e (sym one ∙ ap (keeping none_kept) same ∙ other) in
+    let trees : d ≡ e = same_Some d e (sym one ∙ ap (mixed_tree none_verbatim) same ∙ other) in
     subst (λ (x : Data). AreSame (Some d) (Some x)) trees (items_themselves (items_or_empty (unless_null d)), refl)
 elements_alike a b d e one other (inr both) =
-    let first = array_made both.0 d (ap (keeping none_kept) (sym both.2) ∙ one) in
-    let second = array_made both.1 e (ap (keeping none_kept) (sym both.3) ∙ other) in
+    let first = array_made both.0 d (ap (mixed_tree none_verbatim) (sym both.2) ∙ one) in
+    let second = array_made both.1 e (ap (mixed_tree none_verbatim) (sym both.3) ∙ other) in
     let each = each_made both.0 both.1 first.0 second.0 first.1 second.1 both.4 in
     subst (λ (x : Data). AreSame (Some x) (Some e)) first.2 (subst (λ (y : Data). AreSame (Some (array first.0)) (Some y)) second.2 (each, same_details first.0 second.0 each))
 
@@ -337,17 +337,17 @@ from_elements (Some format) (Some version) (Some ds) (Some es) alike =
     of_test true = rw (same_count ds es alike, same_changes ds es alike) refl
     of_test false = refl
 
-module _ (a b : json.Json) (d e : Data) (one : IsTree a d) (other : IsTree b e) (same : HaveAlike (codes "resource_changes") SaySameElements a b) where
+module _ (a b : json.Json) (d e : Data) (one : IsTree a d) (other : IsTree b e) (same : HaveAlike (codes "resource_changes") ElementsAgree a b) where
   alike : AreSame (get (codes "resource_changes") d) (get (codes "resource_changes") e)
-  alike = members_alike a b d e one other SaySameElements AreSame (tt, refl) elements_alike (codes "resource_changes") same
+  alike = members_alike a b d e one other ElementsAgree AreSame (tt, refl) elements_alike (codes "resource_changes") same
 
   pub same_plan : HaveSame (codes "format_version" ∷ codes "terraform_version" ∷ []) a b → plan_of_tree d ≡ plan_of_tree e
   unfolding plan_of_tree header_of
-  same_plan said =
-      let format : text_of (codes "format_version") d ≡ text_of (codes "format_version") e = ap (λ (o : Option Data). o >>= as_str) (member_same a b d e one other (codes "format_version") said.0) in
-      let version = ap (text_or (codes "0.0.0")) (member_same a b d e one other (codes "terraform_version") said.1.0) in
+  same_plan stated =
+      let format : text_of (codes "format_version") d ≡ text_of (codes "format_version") e = ap (λ (o : Option Data). o >>= as_str) (member_same a b d e one other (codes "format_version") stated.0) in
+      let version = ap (text_or (codes "0.0.0")) (member_same a b d e one other (codes "terraform_version") stated.1.0) in
       from_elements (text_of (codes "format_version") d) (text_or (codes "0.0.0") (member_of (codes "terraform_version") d)) (items_or_empty (member_of (codes "resource_changes") d)) (items_or_empty (member_of (codes "resource_changes") e)) alike.0
       ∙ ap₂ (λ (f v : Option (List ℕ)). plan_from f v (items_or_empty (member_of (codes "resource_changes") e))) format version
 
-  pub same_said : changes_of d ≡ changes_of e
-  same_said = alike.1
+  pub same_stated : changes_of d ≡ changes_of e
+  same_stated = alike.1

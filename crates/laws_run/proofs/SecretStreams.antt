@@ -13,21 +13,21 @@ use Rattle.apply_model.specs.declared.details.output.Output.{Output}
 use Rattle.apply_text_terraform.specs.Laws.{without_secret}
 use Rattle.apply_text_terraform.specs.Lines.{note_text, summary_text}
 use Rattle.apply_text_terraform.proofs.Absent.{secrets}
-use Rattle.apply_plan_terraform.specs.declared.told_of_plan.PlanNote.{PlanNote}
-use Rattle.apply_plan_terraform.specs.Notes.{told_notes}
+use Rattle.apply_plan_terraform.specs.declared.plan_notes.PlanNote.{PlanNote}
+use Rattle.apply_plan_terraform.specs.Notes.{written_notes}
 use Rattle.apply_run.specs.InForm.{form_of}
-use Rattle.apply_run.specs.Read.{Told, applied_plan, applied_script, besides_of, is_unfinished}
+use Rattle.apply_run.specs.Read.{StatedInputs, applied_plan, applied_script, extras_of, is_unfinished}
 use Rattle.apply_writer.specs.Stream.Form.{StreamForm, lines_in, stream_in}
-use Rattle.apply_writer.specs.Stream.Terraform.{imported_in, outputs_of_apply, tail_text, tells_error, terraform_form}
-use Rattle.laws_run.specs.Sensitive.{AreReadAlike, TellTheSame}
+use Rattle.apply_writer.specs.Stream.Terraform.{imported_in, outputs_of_apply, tail_text, contains_error, terraform_form}
+use Rattle.laws_run.specs.Sensitive.{AreReadAlike, HaveSameStream}
 use Rattle.laws_run.proofs.SecretOutputs.{outputs_alike}
 
--- ---- of outputs that are told
+-- ---- of outputs that are written
 
-told_last : (operation : Operation) (start latest : ℕ) (one other : List Output) → map without_secret one ≡ map without_secret other
+emitted_last : (operation : Operation) (start latest : ℕ) (one other : List Output) → map without_secret one ≡ map without_secret other
     → outputs_of_apply operation start latest one ≡ outputs_of_apply operation start latest other
-told_last Apply start latest one other same = secrets start latest one other same
-told_last Destroy start latest one other same = refl
+emitted_last Apply start latest one other same = secrets start latest one other same
+emitted_last Destroy start latest one other same = refl
 
 module _ (details : List ChangeDetails) (notes : List Note) where
   with_tail : SavedPlan → OutcomeMap → (start : ℕ) → Operation → ((latest : ℕ) → Counts → List ℕ) → StreamForm
@@ -37,8 +37,8 @@ module _ (details : List ChangeDetails) (notes : List Note) where
   tails : (start : ℕ) (operation : Operation) (latest : ℕ) (counts : Counts) (one other : List Output) → map without_secret one ≡ map without_secret other
       → tail_text (record { details = details; notes = notes; outputs = one }) start operation latest counts ≡ tail_text (record { details = details; notes = notes; outputs = other }) start operation latest counts
   tails start operation latest counts one other same =
-      ap (λ (last : List ℕ). flat_map (note_text start latest) notes ++ cond (tells_error notes counts) [] (summary_text start latest operation counts (imported_in details) ++ last))
-      (told_last operation start latest one other same)
+      ap (λ (last : List ℕ). flat_map (note_text start latest) notes ++ cond (contains_error notes counts) [] (summary_text start latest operation counts (imported_in details) ++ last))
+      (emitted_last operation start latest one other same)
 
   pub same_form : (plan : SavedPlan) (script : OutcomeMap) (one other : List Output) (start : ℕ) (operation : Operation) → map without_secret one ≡ map without_secret other
       → terraform_form plan script (record { details = details; notes = notes; outputs = one }) start operation
@@ -49,24 +49,24 @@ module _ (details : List ChangeDetails) (notes : List Note) where
 
 -- ---- of what was read
 
-module _ (one other : Told) (alike : AreReadAlike one other) where
+module _ (one other : StatedInputs) (alike : AreReadAlike one other) where
   pub plans : applied_plan one ≡ applied_plan other
   plans = ap₂ (λ (n : Option PlanNote) (p : SavedPlan). cond (is_unfinished n) (record { version = p.version; changes = [] }) p) alike.note alike.plan
 
   pub scripts : applied_script one ≡ applied_script other
   scripts = ap₂ (λ (n : Option PlanNote) (s : OutcomeMap). cond (is_unfinished n) [] s) alike.note alike.script
 
-  pub notes_same : (besides_of one).notes ≡ (besides_of other).notes
-  notes_same = ap₂ told_notes alike.note alike.notes
+  pub notes_same : (extras_of one).notes ≡ (extras_of other).notes
+  notes_same = ap₂ written_notes alike.note alike.notes
 
   pub forms : (start : ℕ) (operation : Operation) → form_of one start operation ≡ form_of other start operation
   forms start operation =
-      same_form one.details.changes (besides_of one).notes (applied_plan one) (applied_script one) (besides_of one).outputs (besides_of other).outputs start operation
+      same_form one.details.changes (extras_of one).notes (applied_plan one) (applied_script one) (extras_of one).outputs (extras_of other).outputs start operation
       (outputs_alike one.details.outputs other.details.outputs one.extras.outputs other.extras.outputs alike.outputs alike.script_outputs)
-      ∙ ap₂ (λ (p : SavedPlan) (s : OutcomeMap). terraform_form p s (record { details = one.details.changes; notes = (besides_of one).notes; outputs = (besides_of other).outputs }) start operation) plans scripts
-      ∙ ap₂ (λ (d : List ChangeDetails) (n : List Note). terraform_form (applied_plan other) (applied_script other) (record { details = d; notes = n; outputs = (besides_of other).outputs }) start operation) alike.changes notes_same
+      ∙ ap₂ (λ (p : SavedPlan) (s : OutcomeMap). terraform_form p s (record { details = one.details.changes; notes = (extras_of one).notes; outputs = (extras_of other).outputs }) start operation) plans scripts
+      ∙ ap₂ (λ (d : List ChangeDetails) (n : List Note). terraform_form (applied_plan other) (applied_script other) (record { details = d; notes = n; outputs = (extras_of other).outputs }) start operation) alike.changes notes_same
 
-  pub told_alike : TellTheSame one other
+  pub told_alike : HaveSameStream one other
   told_alike = record {
     plan = plans;
     script = scripts;

@@ -27,7 +27,7 @@ one_counts f c a (suc m) few others =
 
 -- ---- changes
 
--- it is the change of that number
+-- number x is the number of the change
 abbrev pub is_change : (x c k : ℕ) → Bool
 is_change x c k = nat_eq c x
 
@@ -36,7 +36,7 @@ each_change_once m c k = one_counts (λ x. bit (is_change x c k)) c 0 m (λ x. b
 
 -- ---- steps
 
--- it is the step of that number of the change of that number
+-- the step is step k of change c
 abbrev pub is_step : Wait → (c k : ℕ) → Bool
 is_step name c k = nat_eq c name.change && nat_eq k name.step
 

@@ -1,4 +1,4 @@
--- Each event of a time line can happen: it is one of its step's, which are whole.
+-- Each event of a time line can happen: it is an event of a whole step.
 use Rattle.std.proofs.Common.{◌≡◌, ℕ, zero, suc, ◌+◌, All, Bool, true, false, List, [], ◌∷◌, Some, length, map, slice_get, refl, sym, ap, ◌∙◌, subst, arith}
 use Rattle.std.specs.Prelude.{◌≤◌}
 use Rattle.std.specs.List.{enumerate_from}
@@ -12,7 +12,7 @@ use Rattle.apply_events.specs.Step.{Step, Work, kinds_applied, step_of}
 use Rattle.apply_events.specs.StepEvents.{step_events}
 use Rattle.laws_run.proofs.EventsFit.{CanHappen, all-step}
 use Rattle.laws_run.proofs.WholeBegins.{filter_none, named, of_named}
-use Rattle.laws_run.specs.WaitLaws.{AreWhole, has_events, is_of_step}
+use Rattle.laws_run.specs.WaitingSteps.{AreWhole, has_events, is_of_step}
 
 -- a step of a change is the one of its number and kind
 step_is : (work : Work) (c n k : ℕ) (kinds : List StepKind) (s : Step) → slice_get (map (λ (p : ℕ × StepKind). step_of work c p.0 p.1) (enumerate_from n kinds)) k ≡ Some s

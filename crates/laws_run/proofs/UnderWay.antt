@@ -3,18 +3,18 @@ use Rattle.std.proofs.Common.{◌≡◌, ℕ, zero, suc, ◌+◌, ◌<◌, ◌�
 use Rattle.std.specs.Prelude.{not}
 use Rattle.std.proofs.lemmas.Bool.{and_parts, cases_Bool, ltb-true, true≢false}
 use Rattle.std.proofs.lemmas.List.Sums.{sum_by-cons}
-use Rattle.apply_events.specs.declared.lanes.moment.Moment.{Moment}
-use Rattle.apply_events.specs.declared.lanes.taken.Taken.{Taken}
+use Rattle.apply_events.specs.declared.lanes.lane_time.LaneTime.{LaneTime}
+use Rattle.apply_events.specs.declared.lanes.turn.StartedTurn.{StartedTurn}
 use Rattle.apply_events.specs.Step.{Work}
 use Rattle.apply_events.specs.Waits.Done.{end_of_turn}
-use Rattle.apply_events.specs.Waits.Moment.{IsNoLater, first_moment, is_earlier}
-use Rattle.apply_events.specs.Waits.Schedule.{Ready, first_earliest, first_ready, free_behind, schedule, scheduled, taken_in, with_next}
+use Rattle.apply_events.specs.Waits.LaneTime.{IsNoLater, first_lane_time, is_earlier}
+use Rattle.apply_events.specs.Waits.Schedule.{Ready, first_earliest, first_ready, free_after, schedule, scheduled, started_in, with_next}
 use Rattle.apply_events.specs.Waits.Turn.{begun_steps, turns}
 use Rattle.apply_events.proofs.Waits.Free.{first_earliest_lt, length-free}
-use Rattle.apply_events.proofs.Waits.Moments.{end_no_earlier, no_later_both, no_later_on, second_no_later, tells}
-use Rattle.laws_run.specs.WaitLaws.{is_under_way}
+use Rattle.apply_events.proofs.Waits.Moments.{end_no_earlier, no_later_both, no_later_on, second_no_later, emits}
+use Rattle.laws_run.specs.WaitingSteps.{is_under_way}
 
--- ---- moments
+-- ---- times
 
 self_ltb : (n : ℕ) → nat_lt n n ≡ false
 self_ltb n = ⊎_elim (λ (its : nat_lt n n ≡ true). absurd (let lt = ltb-true n n its in omega arith)) (λ (its : nat_lt n n ≡ false). its) (cases_Bool (nat_lt n n))
@@ -23,22 +23,22 @@ none_and : (b : Bool) → (b && false) ≡ false
 none_and true = refl
 none_and false = refl
 
-not_self : (m : Moment) → is_earlier m m ≡ false
+not_self : (m : LaneTime) → is_earlier m m ≡ false
 not_self m = rw (self_ltb m.second, self_ltb m.round) (none_and (m.second == m.second))
 
-not_earlier : (a b : Moment) → IsNoLater b a → is_earlier a b ≡ false
+not_earlier : (a b : LaneTime) → IsNoLater b a → is_earlier a b ≡ false
 not_earlier a b low = ⊎_elim
     (λ (c : (is_earlier a b ≡ true) × IsNoLater a b).
     let same : a ≡ b = no_later_both a b c.1 low in
     absurd (true≢false (sym c.0 ∙ ap (is_earlier a) (sym same) ∙ not_self a)))
     (λ (c : (is_earlier a b ≡ false) × IsNoLater b a). c.0)
-    (tells a b)
+    (emits a b)
 
-still_earlier : (a f e : Moment) → is_earlier a f ≡ true → IsNoLater f e → is_earlier a e ≡ true
+still_earlier : (a f e : LaneTime) → is_earlier a f ≡ true → IsNoLater f e → is_earlier a e ≡ true
 still_earlier a f e its low = ⊎_elim
     (λ (c : (is_earlier a e ≡ true) × IsNoLater a e). c.0)
     (λ (c : (is_earlier a e ≡ false) × IsNoLater e a). absurd (true≢false (sym its ∙ not_earlier a f (no_later_on f e a low c.1))))
-    (tells a e)
+    (emits a e)
 
 -- ---- how many pass a test, where one of them is set anew
 
@@ -76,7 +76,7 @@ module _ {X : Type 0} (p : X → Bool) where
   no_fewer (y ∷ xs) zero x d lt keeps =
       let old = counted y xs in
       let new = counted x xs in
-      let kept : one_if (p y) ≤ one_if (p x) = ⊎_elim
+      let preserved : one_if (p y) ≤ one_if (p x) = ⊎_elim
       (λ (its : p y ≡ true). let one : one_if (p x) ≡ 1 = ap one_if (keeps its) in let was : one_if (p y) ≡ 1 = ap one_if its in omega arith)
       (λ (its : p y ≡ false). let none : one_if (p y) ≡ 0 = ap one_if its in omega arith)
       (cases_Bool (p y)) in
@@ -89,57 +89,57 @@ module _ {X : Type 0} (p : X → Bool) where
 
 -- ---- lanes
 
-module _ (w : Work) (n : ℕ) (some : 0 < n) (at : Moment) where
-  abbrev under : List Taken → ℕ
+module _ (w : Work) (n : ℕ) (some : 0 < n) (at : LaneTime) where
+  abbrev under : List StartedTurn → ℕ
   under taken = count_by (is_under_way w at) taken
 
   -- lanes that are not free by then
-  abbrev busy : List Moment → ℕ
+  abbrev busy : List LaneTime → ℕ
   busy free = count_by (is_earlier at) free
 
-  one_on : (taken : List Taken) (ready : Ready) → under taken ≤ busy (free_behind w n taken)
-      → under (taken_in (free_behind w n taken) ready ∷ taken) ≤ busy (free_behind w n (taken_in (free_behind w n taken) ready ∷ taken))
+  one_on : (taken : List StartedTurn) (ready : Ready) → under taken ≤ busy (free_after w n taken)
+      → under (started_in (free_after w n taken) ready ∷ taken) ≤ busy (free_after w n (started_in (free_after w n taken) ready ∷ taken))
   one_on taken ready few =
-      let free = free_behind w n taken in
+      let free = free_after w n taken in
       let lane = first_earliest free in
-      let new = taken_in free ready in
+      let new = started_in free ready in
       let end = end_of_turn w new in
       let size : length free ≡ n = length-free w n taken in
       let fits : lane < length free = first_earliest_lt free (omega arith) in
-      let begins : IsNoLater (get_or free lane first_moment) new.begin = second_no_later ready.at (get_or free lane first_moment) in
-      let ends : IsNoLater (get_or free lane first_moment) end = no_later_on (get_or free lane first_moment) new.begin end begins (end_no_earlier new.begin (begun_steps w new.turn)) in
+      let begins : IsNoLater (get_or free lane first_lane_time) new.begin = second_no_later ready.at (get_or free lane first_lane_time) in
+      let ends : IsNoLater (get_or free lane first_lane_time) end = no_later_on (get_or free lane first_lane_time) new.begin end begins (end_no_earlier new.begin (begun_steps w new.turn)) in
       let sum = counted (is_under_way w at) new taken in
       ⊎_elim
       (λ (its : is_under_way w at new ≡ true).
       let both = and_parts (not (is_earlier at new.begin)) (is_earlier at end) its in
       let begun : IsNoLater new.begin at = begun_by new.begin both.0 in
-      let was : is_earlier at (get_or free lane first_moment) ≡ false = not_earlier at (get_or free lane first_moment) (no_later_on (get_or free lane first_moment) new.begin at begins begun) in
-      let more = one_more (is_earlier at) free lane end first_moment fits was both.1 in
+      let was : is_earlier at (get_or free lane first_lane_time) ≡ false = not_earlier at (get_or free lane first_lane_time) (no_later_on (get_or free lane first_lane_time) new.begin at begins begun) in
+      let more = one_more (is_earlier at) free lane end first_lane_time fits was both.1 in
       let one : cond {A = ℕ} (is_under_way w at new) 1 0 ≡ 1 = ap (λ (b : Bool). cond b 1 0) its in
       omega arith)
       (λ (its : is_under_way w at new ≡ false).
-      let kept = no_fewer (is_earlier at) free lane end first_moment fits (λ early. still_earlier at (get_or free lane first_moment) end early ends) in
+      let preserved = no_fewer (is_earlier at) free lane end first_lane_time fits (λ early. still_earlier at (get_or free lane first_lane_time) end early ends) in
       let none : cond {A = ℕ} (is_under_way w at new) 1 0 ≡ 0 = ap (λ (b : Bool). cond b 1 0) its in
       omega arith)
       (cases_Bool (is_under_way w at new))
     where
-      begun_by : (begin : Moment) → not (is_earlier at begin) ≡ true → IsNoLater begin at
+      begun_by : (begin : LaneTime) → not (is_earlier at begin) ≡ true → IsNoLater begin at
       begun_by begin its = ⊎_elim
           (λ (c : (is_earlier at begin ≡ true) × IsNoLater at begin). absurd (true≢false (sym its ∙ ap not c.0)))
           (λ (c : (is_earlier at begin ≡ false) × IsNoLater begin at). c.1)
-          (tells at begin)
+          (emits at begin)
 
-  next_on : (taken : List Taken) (found : Option Ready) → under taken ≤ busy (free_behind w n taken) → under (with_next w n taken found) ≤ busy (free_behind w n (with_next w n taken found))
+  next_on : (taken : List StartedTurn) (located : Option Ready) → under taken ≤ busy (free_after w n taken) → under (with_next w n taken located) ≤ busy (free_after w n (with_next w n taken located))
   next_on taken None few = few
   next_on taken (Some ready) few = one_on taken ready few
 
-  few_under : (count : ℕ) → under (scheduled w n count) ≤ busy (free_behind w n (scheduled w n count))
+  few_under : (count : ℕ) → under (scheduled w n count) ≤ busy (free_after w n (scheduled w n count))
   few_under zero = omega arith
   few_under (suc count) = next_on (scheduled w n count) (first_ready w (scheduled w n count) (turns w)) (few_under count)
 
   pub few_under_way : under (schedule w n) ≤ n
   few_under_way =
       let few = few_under (length (turns w)) in
-      let all = at_most_all (is_earlier at) (free_behind w n (schedule w n)) in
+      let all = at_most_all (is_earlier at) (free_after w n (schedule w n)) in
       let size = length-free w n (schedule w n) in
       omega arith

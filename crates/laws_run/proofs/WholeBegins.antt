@@ -1,4 +1,4 @@
--- A step whose events are all that it has begins at one moment.
+-- A step whose events are whole starts once.
 use Rattle.std.proofs.Common.{◌≡◌, ℕ, All, Bool, true, false, List, [], ◌∷◌, cond, filter, refl, sym, ap₂, subst, eq-eqb}
 use Rattle.std.specs.Prelude.{◌&&◌, ◌||◌}
 use Rattle.std.specs.List.{list_any}
@@ -7,9 +7,9 @@ use Rattle.apply_model.specs.declared.script.wait.Wait.{Wait}
 use Rattle.apply_events.specs.declared.event.Event.{Event}
 use Rattle.apply_events.specs.Step.{Work}
 use Rattle.apply_events.specs.StepEvents.{step_events}
-use Rattle.laws_run.specs.StepTimes.{ComesAsTold, HasOneBegin}
+use Rattle.laws_run.specs.StepTimes.{ComesAfterItsSeconds, HasOneBegin}
 use Rattle.laws_run.proofs.TimeLines.StepTimes.{IsOnTime, step_on_time}
-use Rattle.laws_run.specs.WaitLaws.{AreWhole, events_of, has_events, is_of_step}
+use Rattle.laws_run.specs.WaitingSteps.{AreWhole, events_of, has_events, is_of_step}
 
 abbrev pub named : (c k : ℕ) → Wait
 named c k = record { change = c; step = k }
@@ -22,7 +22,7 @@ filter_none p (x ∷ xs) h = at (p x) (filter_none p xs) h
     at true rest absent = absurd cc
     at false rest absent = rest absent
 
--- what holds of the events of a step, said of all
+-- from the events of a step to all events
 pub of_named : (P : Event → Type 0) (c k : ℕ) (es : List Event) → All P (events_of (named c k) es) → All (λ e. e.change ≡ c → e.step ≡ k → P e) es
 of_named P c k [] h = All-nil (λ e. e.change ≡ c → e.step ≡ k → P e)
 of_named P c k (e ∷ es) h = at (is_of_step (named c k) e) refl (of_named P c k es) h
@@ -39,13 +39,13 @@ begins_once work c k events whole = either (has_events events (named c k)) refl
     either : (b : Bool) → has_events events (named c k) ≡ b → HasOneBegin c k events
     either false absent = record {
       begin = 0;
-      told = of_named (ComesAsTold 0) c k events (subst (All (ComesAsTold 0)) (sym (filter_none (is_of_step (named c k)) events absent)) (All-nil (ComesAsTold 0)));
+      in_time = of_named (ComesAfterItsSeconds 0) c k events (subst (All (ComesAfterItsSeconds 0)) (sym (filter_none (is_of_step (named c k)) events absent)) (All-nil (ComesAfterItsSeconds 0)));
     }
     either true there =
         let one = whole (named c k) there in
         let all = step_events one.lane one.step one.begin in
         record {
           begin = one.begin;
-          told = of_named (ComesAsTold one.begin) c k events
-              (subst (All (ComesAsTold one.begin)) (sym one.are_all) (All-weaker (IsOnTime one.begin one.step) (ComesAsTold one.begin) (λ e h. h.2) all (step_on_time one.lane one.begin one.step)));
+          in_time = of_named (ComesAfterItsSeconds one.begin) c k events
+              (subst (All (ComesAfterItsSeconds one.begin)) (sym one.are_all) (All-weaker (IsOnTime one.begin one.step) (ComesAfterItsSeconds one.begin) (λ e h. h.2) all (step_on_time one.lane one.begin one.step)));
         }

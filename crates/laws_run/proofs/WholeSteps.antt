@@ -1,4 +1,4 @@
--- A step that has events has all of them, in one lane, from one moment on.
+-- A step that has events has all its events, in one lane, from one start.
 use Rattle.std.proofs.Common.{◌≡◌, ℕ, ◌+◌, true, ◌&&◌, List, [], ◌∷◌, ◌++◌, sym, ap, ◌∙◌, ⊎_elim, arith, eqb, eq-eqb}
 use Rattle.std.specs.Prelude.{slice_get}
 use Rattle.std.specs.List.{Contains, filter}
@@ -7,22 +7,22 @@ use Rattle.std.proofs.lemmas.List.{append-nil}
 use Rattle.std.proofs.lemmas.List.Elements.{filter-append}
 use Rattle.apply_model.specs.declared.script.wait.Wait.{Wait}
 use Rattle.apply_events.specs.declared.event.Event.{Event}
-use Rattle.apply_events.specs.declared.lanes.taken.Taken.{Taken}
+use Rattle.apply_events.specs.declared.lanes.turn.StartedTurn.{StartedTurn}
 use Rattle.apply_events.specs.ChangeEvents.{in_turn}
 use Rattle.apply_events.specs.Interleaving.{IsInterleaving}
 use Rattle.apply_events.specs.Step.{Step, Work, steps_of}
 use Rattle.apply_events.specs.StepEvents.{step_events, step_time}
-use Rattle.apply_events.specs.Waits.TakenUp.{WereTakenUp}
+use Rattle.apply_events.specs.Waits.StartedTurns.{WereStarted}
 use Rattle.apply_events.specs.Waits.TimeLine.{lane_turns}
 use Rattle.apply_events.specs.Waits.Turn.{begun_steps}
 use Rattle.apply_events.proofs.StepNumbers.{AreNumbered}
-use Rattle.apply_events.proofs.Waits.Found.{IsOnly, found, part_is}
+use Rattle.apply_events.proofs.Waits.Located.{IsOnly, answer, part_is}
 use Rattle.apply_events.proofs.Waits.Members.{filter_all, filter_no, in_cases, not_in_none}
 use Rattle.apply_events.proofs.Waits.Once.{one_event}
 use Rattle.apply_events.proofs.Waits.TurnEvents.{of_step, of_turn, step_of_event}
 use Rattle.apply_events.proofs.Waits.TurnSteps.{begun_numbered, begun_of_change, numbered_in, step_at_number, step_names_change}
-use Rattle.laws_run.specs.WaitLaws.{AreWhole, is_of_step}
-use Rattle.laws_run.proofs.Behind.{are_turns, eq_from}
+use Rattle.laws_run.specs.WaitingSteps.{AreWhole, is_of_step}
+use Rattle.laws_run.proofs.AfterWaits.{are_turns, eq_from}
 use Rattle.laws_run.proofs.LeftOut.{has_is}
 
 of_name : (name : Wait) (e : Event) → is_of_step name e ≡ true → (e.change ≡ name.change) × (e.step ≡ name.step)
@@ -47,9 +47,9 @@ step_part lane n (x ∷ steps) at s name numbered there number change =
     let of = of_step lane x at e inside in
     name_of name e (of.change ∙ ap (λ (y : Step). y.change) is ∙ change) (of.step ∙ same ∙ number)) in
     let none : filter p rest ≡ [] = filter_no p rest (λ e inside yes.
-    let found = step_of_event lane steps (at + step_time x) e inside in
-    let low = (numbered_in (n + 1) steps found.0 numbered.1 found.1).0 in
-    let of = (of_name name e yes).1 in let its = found.2 in absurd (omega arith)) in (
+    let answer = step_of_event lane steps (at + step_time x) e inside in
+    let low = (numbered_in (n + 1) steps answer.0 numbered.1 answer.1).0 in
+    let of = (of_name name e yes).1 in let its = answer.2 in absurd (omega arith)) in (
       at,
       filter-append p (step_events lane x at) rest ∙ ap (λ l. l ++ filter p rest) all ∙ ap (λ l. step_events lane x at ++ l) none
           ∙ append-nil (step_events lane x at) ∙ ap (λ y. step_events lane y at) is,
@@ -63,11 +63,11 @@ step_part lane n (x ∷ steps) at s name numbered there number change =
     (inner.0, filter-append p (step_events lane x at) rest ∙ ap (λ l. l ++ filter p rest) none ∙ inner.1))
     (in_cases x steps s there)
 
-module _ (w : Work) (n : ℕ) (taken : List Taken) (events : List Event) (up : WereTakenUp w n taken) (line : IsInterleaving n (lane_turns w taken) events) where
+module _ (w : Work) (n : ℕ) (taken : List StartedTurn) (events : List Event) (up : WereStarted w n taken) (line : IsInterleaving n (lane_turns w taken) events) where
   pub whole : AreWhole w events
   whole name some =
       let e = has_is w n taken events up line name some in
-      let its = found w n taken events line e.0 e.1 in
+      let its = answer w n taken events line e.0 e.1 in
       let one = its.one in
       let s = its.of.step.0 in
       let number : s.number ≡ name.step = sym its.of.step.2 ∙ e.3 in

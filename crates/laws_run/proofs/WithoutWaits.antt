@@ -1,5 +1,5 @@
--- Where no step names what it waits for: changes are taken up in the plan's order, all rounds are 0, and each lane reports what
--- it reports of the changes that are dealt out to it.
+-- Without waits, changes start in the plan's order, all rounds are 0, and each lane has the events
+-- of its changes one after another.
 use Rattle.std.proofs.Common.{◌≡◌, ◌≢◌, ℕ, zero, suc, ◌+◌, ◌-◌, ◌<◌, ◌≤◌, All, Bool, true, false, List, [], ◌∷◌, ◌++◌, ◌||◌, ◌&&◌, Option, Some, None, cond, get_or, length, map, replicate, set, sum_by, refl, sym, ap, ◌∙◌, subst, ⊎_elim, arith, eqb, ltb, leb, eq-eqb, ne_eqb, lt-ltb, le-ltb, append_assoc}
 use Rattle.std.specs.Prelude.{not, option_map}
 use Rattle.std.specs.List.{flat_map, list_all, range_with_len}
@@ -12,21 +12,21 @@ use Rattle.std.proofs.lemmas.List.Sums.{sum_by-cons}
 use Rattle.std.specs.List.{enumerate_from}
 use Rattle.apply_events.specs.declared.event.Event.{Event}
 use Rattle.apply_events.specs.ChangeEvents.{begun, change_events, in_turn, span_of}
-use Rattle.apply_events.specs.Lanes.Dealing.{before, dealt, first_least, kept, lanes}
+use Rattle.apply_events.specs.Lanes.Dealing.{before, dealt, first_least, occupied, lanes}
 use Rattle.apply_events.specs.Lanes.TimeLine as plain
 use Rattle.apply_events.specs.Step.{Step, Work, kinds_applied, step_of, steps_of}
 use Rattle.apply_events.specs.StepEvents.{step_events, step_time}
-use Rattle.apply_events.specs.declared.lanes.taken.Taken.{Taken}
-use Rattle.apply_events.specs.Waits.Done.{done_by, end_behind, end_of_turn, ready_at}
-use Rattle.apply_events.specs.declared.lanes.moment.Moment.{Moment}
-use Rattle.apply_events.specs.Waits.Moment.{first_moment, is_earlier, later_by, later_of}
+use Rattle.apply_events.specs.declared.lanes.turn.StartedTurn.{StartedTurn}
+use Rattle.apply_events.specs.Waits.Done.{done_by, end_after, end_of_turn, ready_at}
+use Rattle.apply_events.specs.declared.lanes.lane_time.LaneTime.{LaneTime}
+use Rattle.apply_events.specs.Waits.LaneTime.{first_lane_time, is_earlier, later_by, later_of}
 use Rattle.laws_run.proofs.Named.{named, names_some}
-use Rattle.apply_events.specs.Waits.Schedule.{Ready, earlier_of, first_earliest, first_ready, free_behind, is_taken, ready_turn, schedule, scheduled, taken_in, with_next}
-use Rattle.apply_events.specs.Waits.TimeLine.{InOrder, IsTimeLine, Precedes, is_of_turn, lane_turns, moment_from, moment_of, turn_events}
+use Rattle.apply_events.specs.Waits.Schedule.{Ready, earlier_of, first_earliest, first_ready, free_after, is_started, ready_turn, schedule, scheduled, started_in, with_next}
+use Rattle.apply_events.specs.Waits.TimeLine.{InOrder, IsTimeLine, Precedes, is_of_turn, lane_turns, lane_time_from, lane_time_of, turn_events}
 use Rattle.apply_events.specs.Waits.Turn.{begun_steps, single, turns, turns_of, whole}
 use Rattle.apply_events.proofs.TimeLines.Dealt.{length_dealt}
 use Rattle.laws_run.proofs.Along.{no_later, second_is}
-use Rattle.apply_events.proofs.Waits.Moments.{later_by_none, later_by_some, same_moment}
+use Rattle.apply_events.proofs.Waits.Moments.{later_by_none, later_by_some, same_lane_time}
 
 -- ---- tests
 
@@ -38,8 +38,8 @@ cond_same : {X : Type 0} (t : Bool) (x : X) → cond t x x ≡ x
 cond_same true x = refl
 cond_same false x = refl
 
--- nothing is earlier than the first moment
-never_earlier : (m : Moment) → is_earlier m first_moment ≡ false
+-- no time is earlier than the first one
+never_earlier : (m : LaneTime) → is_earlier m first_lane_time ≡ false
 never_earlier m =
     ap (λ t. t || (eqb m.second 0 && ltb m.round 0)) (le-ltb m.second 0 (omega arith))
     ∙ ap (λ t. eqb m.second 0 && t) (le-ltb m.round 0 (omega arith)) ∙ both_no (eqb m.second 0)
@@ -48,9 +48,9 @@ never_earlier m =
     both_no true = refl
     both_no false = refl
 
--- ---- moments of round 0
+-- ---- times of round 0
 
-abbrev early : ℕ → Moment
+abbrev early : ℕ → LaneTime
 early second = record { second = second; round = 0 }
 
 early_later : (x y : ℕ) → not (is_earlier (early y) (early x)) ≡ leb x y
@@ -63,10 +63,10 @@ early_later x y = ⊎_elim
     no_round true = refl
     no_round false = refl
 
-all_later : (x : ℕ) (xs : List ℕ) → list_all (λ (other : Moment). not (is_earlier other (early x))) (map early xs) ≡ list_all (leb x) xs
+all_later : (x : ℕ) (xs : List ℕ) → list_all (λ (other : LaneTime). not (is_earlier other (early x))) (map early xs) ≡ list_all (leb x) xs
 all_later x [] = refl
 all_later x (y ∷ ys) =
-    ap (λ t. t && list_all (λ (other : Moment). not (is_earlier other (early x))) (map early ys)) (early_later x y)
+    ap (λ t. t && list_all (λ (other : LaneTime). not (is_earlier other (early x))) (map early ys)) (early_later x y)
     ∙ ap (λ t. leb x y && t) (all_later x ys)
 
 first_same : (xs : List ℕ) → first_earliest (map early xs) ≡ first_least xs
@@ -74,18 +74,18 @@ first_same [] = refl
 first_same (x ∷ xs) =
     ap (λ t. cond t 0 (first_earliest (map early xs) + 1)) (all_later x xs) ∙ ap (λ k. cond (list_all (leb x) xs) 0 (k + 1)) (first_same xs)
 
-early_at : (xs : List ℕ) (k : ℕ) → get_or (map early xs) k first_moment ≡ early (get_or xs k 0)
+early_at : (xs : List ℕ) (k : ℕ) → get_or (map early xs) k first_lane_time ≡ early (get_or xs k 0)
 early_at [] k = refl
 early_at (x ∷ xs) zero = refl
 early_at (x ∷ xs) (suc k) = early_at xs k
 
-early_free : (n : ℕ) → replicate n first_moment ≡ map early (replicate n 0)
+early_free : (n : ℕ) → replicate n first_lane_time ≡ map early (replicate n 0)
 early_free zero = refl
-early_free (suc n) = ap (λ l. first_moment ∷ l) (early_free n)
+early_free (suc n) = ap (λ l. first_lane_time ∷ l) (early_free n)
 
-not_before_first : (second : ℕ) → later_of first_moment (early second) ≡ early second
+not_before_first : (second : ℕ) → later_of first_lane_time (early second) ≡ early second
 not_before_first zero = refl
-not_before_first (suc second) = ap (λ t. cond (t || (eqb 0 (suc second) && ltb 0 0)) (early (suc second)) first_moment) (lt-ltb 0 (suc second) (omega arith))
+not_before_first (suc second) = ap (λ t. cond (t || (eqb 0 (suc second) && ltb 0 0)) (early (suc second)) first_lane_time) (lt-ltb 0 (suc second) (omega arith))
 
 early_by : (second seconds : ℕ) → later_by seconds (early second) ≡ early (second + seconds)
 early_by second seconds = ⊎_elim
@@ -93,11 +93,11 @@ early_by second seconds = ⊎_elim
     (λ (ne : seconds ≡ 0 → ⊥). later_by_some (early second) seconds ne)
     (cases_eq seconds 0)
 
-early_end : (second : ℕ) (steps : List Step) → end_behind (early second) steps ≡ early (second + sum_by step_time steps)
+early_end : (second : ℕ) (steps : List Step) → end_after (early second) steps ≡ early (second + sum_by step_time steps)
 early_end second [] = ap early (let same : second ≡ second + sum_by step_time [] = omega arith in same)
 early_end second (step ∷ steps) =
     let sum : sum_by step_time (step ∷ steps) ≡ step_time step + sum_by step_time steps = sum_by-cons step_time step steps in
-    ap (λ m. end_behind m steps) (early_by second (step_time step)) ∙ early_end (second + step_time step) steps
+    ap (λ m. end_after m steps) (early_by second (step_time step)) ∙ early_end (second + step_time step) steps
     ∙ ap early (let same : second + step_time step + sum_by step_time steps ≡ second + sum_by step_time (step ∷ steps) = omega arith in same)
 
 -- ---- ranges
@@ -160,19 +160,19 @@ module _ (w : Work) (none : NamesNone w) where
   turns_from a zero = refl
   turns_from a (suc n) = ap (λ l. l ++ flat_map (turns_of w) (range_with_len (a + 1) n)) (one_turn a) ∙ ap (λ l. whole w a ∷ l) (turns_from (a + 1) n)
 
-  ready_now : (taken : List Taken) (c : ℕ) → ready_at w taken (whole w c) ≡ Some first_moment
+  ready_now : (taken : List StartedTurn) (c : ℕ) → ready_at w taken (whole w c) ≡ Some first_lane_time
   ready_now taken c =
       let empty = eqb (length (kinds_applied w.plan w.script c)) 0 in
       ap (λ names. done_by w taken (cond empty [] names)) (none c 0) ∙ ap (done_by w taken) (cond_same empty [])
 
-  -- the first of some changes that was not taken up
-  stays_first : (ready : Ready) (others : Option Ready) → ready.at ≡ first_moment → earlier_of (Some ready) others ≡ Some ready
+  -- the first of some changes that was not started
+  stays_first : (ready : Ready) (others : Option Ready) → ready.at ≡ first_lane_time → earlier_of (Some ready) others ≡ Some ready
   stays_first ready None first = refl
   stays_first ready (Some other) first =
       ap (λ t. cond t (Some other) (Some ready)) (ap (is_earlier other.at) first ∙ never_earlier other.at)
 
-  first_new : (taken : List Taken) (k a n : ℕ) → ((c : ℕ) → is_taken taken (whole w c) ≡ ltb c k) → a ≤ k → k < a + n
-      → first_ready w taken (map (whole w) (range_with_len a n)) ≡ Some (ready_turn (whole w k) first_moment)
+  first_new : (taken : List StartedTurn) (k a n : ℕ) → ((c : ℕ) → is_started taken (whole w c) ≡ ltb c k) → a ≤ k → k < a + n
+      → first_ready w taken (map (whole w) (range_with_len a n)) ≡ Some (ready_turn (whole w k) first_lane_time)
   first_new taken k a zero is low high = absurd (omega arith)
   first_new taken k a (suc n) is low high =
       let others = first_ready w taken (map (whole w) (range_with_len (a + 1) n)) in
@@ -182,21 +182,21 @@ module _ (w : Work) (none : NamesNone w) where
       let same : a ≡ k = omega arith in
       ap (λ t. earlier_of (next t) others) (is a ∙ le-ltb a k ge)
       ∙ ap (λ at. earlier_of (option_map (ready_turn (whole w a)) at) others) (ready_now taken a)
-      ∙ stays_first (ready_turn (whole w a) first_moment) others refl
-      ∙ ap (λ c. Some (ready_turn (whole w c) first_moment)) same)
+      ∙ stays_first (ready_turn (whole w a) first_lane_time) others refl
+      ∙ ap (λ c. Some (ready_turn (whole w c) first_lane_time)) same)
       (cases_lt a k)
 
   module _ (n : ℕ) where
     abbrev all : ℕ
     all = length w.plan.changes
 
-    -- from when on lanes are free behind the first k changes
+    -- when lanes are free after the first k changes
     abbrev frees : ℕ → List ℕ
     frees zero = replicate n 0
-    frees (suc k) = kept w k (frees k)
+    frees (suc k) = occupied w k (frees k)
 
-    abbrev first_taken : ℕ → Taken
-    first_taken k = taken_in (free_behind w n (scheduled w n k)) (ready_turn (whole w k) first_moment)
+    abbrev first_taken : ℕ → StartedTurn
+    first_taken k = started_in (free_after w n (scheduled w n k)) (ready_turn (whole w k) first_lane_time)
 
     turns_are : turns w ≡ map (whole w) (range_with_len 0 all)
     turns_are = turns_from 0 all
@@ -213,41 +213,41 @@ module _ (w : Work) (none : NamesNone w) where
         (cases_eq k c))
         (cases_lt c k)
 
-    next_from : (k : ℕ) → ((c : ℕ) → is_taken (scheduled w n k) (whole w c) ≡ ltb c k) → k < all → scheduled w n (suc k) ≡ first_taken k ∷ scheduled w n k
+    next_from : (k : ℕ) → ((c : ℕ) → is_started (scheduled w n k) (whole w c) ≡ ltb c k) → k < all → scheduled w n (suc k) ≡ first_taken k ∷ scheduled w n k
     next_from k is lt =
         ap (λ ts. with_next w n (scheduled w n k) (first_ready w (scheduled w n k) ts)) turns_are
         ∙ ap (with_next w n (scheduled w n k)) (first_new (scheduled w n k) k 0 all is (omega arith) (omega arith))
 
-    -- the first k changes were taken up, in their order
-    taken_is : (k : ℕ) → k ≤ all → (c : ℕ) → is_taken (scheduled w n k) (whole w c) ≡ ltb c k
+    -- the first k changes were started, in their order
+    taken_is : (k : ℕ) → k ≤ all → (c : ℕ) → is_started (scheduled w n k) (whole w c) ≡ ltb c k
     taken_is zero le c = sym (le-ltb c 0 (omega arith))
     taken_is (suc k) le c =
-        ap (λ taken. is_taken taken (whole w c)) (next_from k (taken_is k (omega arith)) (omega arith))
-        ∙ taken_more c k (is_taken (scheduled w n k) (whole w c)) (taken_is k (omega arith) c)
+        ap (λ taken. is_started taken (whole w c)) (next_from k (taken_is k (omega arith)) (omega arith))
+        ∙ taken_more c k (is_started (scheduled w n k) (whole w c)) (taken_is k (omega arith) c)
 
     next_is : (k : ℕ) → k < all → scheduled w n (suc k) ≡ first_taken k ∷ scheduled w n k
     next_is k lt = next_from k (taken_is k (omega arith)) lt
 
     -- ---- lanes are free in round 0
 
-    begin_is : (k lane : ℕ) → free_behind w n (scheduled w n k) ≡ map early (frees k) → later_of first_moment (get_or (free_behind w n (scheduled w n k)) lane first_moment) ≡ early (get_or (frees k) lane 0)
+    begin_is : (k lane : ℕ) → free_after w n (scheduled w n k) ≡ map early (frees k) → later_of first_lane_time (get_or (free_after w n (scheduled w n k)) lane first_lane_time) ≡ early (get_or (frees k) lane 0)
     begin_is k lane is =
-        ap (λ l. later_of first_moment (get_or l lane first_moment)) is ∙ ap (later_of first_moment) (early_at (frees k) lane) ∙ not_before_first (get_or (frees k) lane 0)
+        ap (λ l. later_of first_lane_time (get_or l lane first_lane_time)) is ∙ ap (later_of first_lane_time) (early_at (frees k) lane) ∙ not_before_first (get_or (frees k) lane 0)
 
-    lane_is : (k : ℕ) → free_behind w n (scheduled w n k) ≡ map early (frees k) → (first_taken k).lane ≡ first_least (frees k)
+    lane_is : (k : ℕ) → free_after w n (scheduled w n k) ≡ map early (frees k) → (first_taken k).lane ≡ first_least (frees k)
     lane_is k is = ap first_earliest is ∙ first_same (frees k)
 
-    begin_at : (k : ℕ) → free_behind w n (scheduled w n k) ≡ map early (frees k) → (first_taken k).begin ≡ early (get_or (frees k) (first_least (frees k)) 0)
+    begin_at : (k : ℕ) → free_after w n (scheduled w n k) ≡ map early (frees k) → (first_taken k).begin ≡ early (get_or (frees k) (first_least (frees k)) 0)
     begin_at k is = begin_is k (first_taken k).lane is ∙ ap (λ lane. early (get_or (frees k) lane 0)) (lane_is k is)
 
-    free_is : (k : ℕ) → k ≤ all → free_behind w n (scheduled w n k) ≡ map early (frees k)
+    free_is : (k : ℕ) → k ≤ all → free_after w n (scheduled w n k) ≡ map early (frees k)
     free_is zero le = early_free n
     free_is (suc k) le =
         let is = free_is k (omega arith) in
         let at = get_or (frees k) (first_least (frees k)) 0 in
         let ends : end_of_turn w (first_taken k) ≡ early (at + span_of w k) =
-        ap (λ m. end_behind m (begun_steps w (whole w k))) (begin_at k is) ∙ ap (end_behind (early at)) (whole_steps w k) ∙ early_end at (begun (steps_of w k)) in
-        ap (free_behind w n) (next_is k (omega arith))
+        ap (λ m. end_after m (begun_steps w (whole w k))) (begin_at k is) ∙ ap (end_after (early at)) (whole_steps w k) ∙ early_end at (begun (steps_of w k)) in
+        ap (free_after w n) (next_is k (omega arith))
         ∙ ap (λ l. set l (first_taken k).lane (end_of_turn w (first_taken k))) is
         ∙ ap (λ lane. set (map early (frees k)) lane (end_of_turn w (first_taken k))) (lane_is k is)
         ∙ ap (λ m. set (map early (frees k)) (first_least (frees k)) m) ends
@@ -276,7 +276,7 @@ module _ (w : Work) (none : NamesNone w) where
         let deals : dealt w (frees k) (range_with_len k (all - k)) ≡ before first k rest = ap (dealt w (frees k)) (rest_is k all lt) in
         let tells : turn_events w (first_taken k) ≡ change_events w first k at =
         ap (λ l. in_turn (step_events l) step_time (begun_steps w (whole w k)) (first_taken k).begin.second) (lane_is k is)
-        ∙ ap (λ (m : Moment). in_turn (step_events first) step_time (begun_steps w (whole w k)) m.second) (begin_at k is)
+        ∙ ap (λ (m : LaneTime). in_turn (step_events first) step_time (begun_steps w (whole w k)) m.second) (begin_at k is)
         ∙ ap (λ steps. in_turn (step_events first) step_time steps at) (whole_steps w k) in
         ap (λ l. cond (eqb l lane) (turn_events w (first_taken k)) [] ++ rest_of (suc k) lane) (lane_is k is) ∙ ⊎_elim
         (λ (c : _ × (first ≡ lane)).
@@ -322,52 +322,52 @@ module _ (w : Work) (none : NamesNone w) where
         ∙ ap (λ l. lane_turns w (scheduled w n all) lane ++ l) (sym nothing)
         ∙ lanes_so_far some all (omega arith) lane
 
-    -- ---- all moments are of round 0
+    -- ---- all times are of round 0
 
     rounds : (k : ℕ) → k ≤ all → All (λ one. one.begin.round ≡ 0) (scheduled w n k)
     rounds zero le = All-nil _
     rounds (suc k) le =
         subst (All (λ one. one.begin.round ≡ 0)) (sym (next_is k (omega arith)))
-        (All-cons (λ (one : Taken). one.begin.round ≡ 0) (first_taken k) (scheduled w n k) (ap (λ (m : Moment). m.round) (begin_at k (free_is k (omega arith)))) (rounds k (omega arith)))
+        (All-cons (λ (one : StartedTurn). one.begin.round ≡ 0) (first_taken k) (scheduled w n k) (ap (λ (m : LaneTime). m.round) (begin_at k (free_is k (omega arith)))) (rounds k (omega arith)))
 
     pub all_rounds : All (λ one. one.begin.round ≡ 0) (schedule w n)
     all_rounds = subst (All (λ one. one.begin.round ≡ 0)) (sym schedule_is) (rounds all (omega arith))
 
 -- ---- the order is the one of before
 
-round_is : (taken : List Taken) (e : Event) → All (λ one. one.begin.round ≡ 0) taken → (moment_of taken e).round ≡ 0
+round_is : (taken : List StartedTurn) (e : Event) → All (λ one. one.begin.round ≡ 0) taken → (lane_time_of taken e).round ≡ 0
 round_is [] e h = refl
 round_is (one ∷ others) e h =
-    elim (is_of_turn one.turn e) as (λ t. (cond t (moment_from one.begin e) (moment_of others e)).round ≡ 0) [
+    elim (is_of_turn one.turn e) as (λ t. (cond t (lane_time_from one.begin e) (lane_time_of others e)).round ≡ 0) [
       | true ↦ elim (eqb e.at one.begin.second) as (λ t. cond t one.begin.round 0 ≡ 0) [
-        | true ↦ All-head (λ (o : Taken). o.begin.round ≡ 0) one others h
+        | true ↦ All-head (λ (o : StartedTurn). o.begin.round ≡ 0) one others h
         | false ↦ refl
       ]
-      | false ↦ round_is others e (All-tail (λ (o : Taken). o.begin.round ≡ 0) one others h)
+      | false ↦ round_is others e (All-tail (λ (o : StartedTurn). o.begin.round ≡ 0) one others h)
     ]
 
-module _ (taken : List Taken) (early_ones : All (λ one. one.begin.round ≡ 0) taken) where
-  to_plain : (e f : Event) → Precedes (moment_of taken) e f → plain.Precedes e f
+module _ (taken : List StartedTurn) (early_ones : All (λ one. one.begin.round ≡ 0) taken) where
+  to_plain : (e f : Event) → Precedes (lane_time_of taken) e f → plain.Precedes e f
   to_plain e f p = (
     no_later taken e f p,
-    λ same. p.1 (same_moment (moment_of taken e) (moment_of taken f) (second_is taken e ∙ same ∙ sym (second_is taken f)) (round_is taken e early_ones ∙ sym (round_is taken f early_ones))),
+    λ same. p.1 (same_lane_time (lane_time_of taken e) (lane_time_of taken f) (second_is taken e ∙ same ∙ sym (second_is taken f)) (round_is taken e early_ones ∙ sym (round_is taken f early_ones))),
   )
 
-  from_plain : (e f : Event) → plain.Precedes e f → Precedes (moment_of taken) e f
+  from_plain : (e f : Event) → plain.Precedes e f → Precedes (lane_time_of taken) e f
   from_plain e f p =
       let first = second_is taken e in let second = second_is taken f in let low = p.0 in
       let none = round_is taken e early_ones in let none' = round_is taken f early_ones in (
         ((omega arith), λ is. omega arith),
-        λ same. p.1 (sym first ∙ ap (λ (m : Moment). m.second) same ∙ second),
+        λ same. p.1 (sym first ∙ ap (λ (m : LaneTime). m.second) same ∙ second),
       )
 
-  pub order_to_plain : (es : List Event) → InOrder (moment_of taken) es → plain.InOrder es
+  pub order_to_plain : (es : List Event) → InOrder (lane_time_of taken) es → plain.InOrder es
   order_to_plain [] h = tt
-  order_to_plain (e ∷ es) h = (All-weaker (Precedes (moment_of taken) e) (plain.Precedes e) (to_plain e) es h.0, order_to_plain es h.1)
+  order_to_plain (e ∷ es) h = (All-weaker (Precedes (lane_time_of taken) e) (plain.Precedes e) (to_plain e) es h.0, order_to_plain es h.1)
 
-  pub order_from_plain : (es : List Event) → plain.InOrder es → InOrder (moment_of taken) es
+  pub order_from_plain : (es : List Event) → plain.InOrder es → InOrder (lane_time_of taken) es
   order_from_plain [] h = tt
-  order_from_plain (e ∷ es) h = (All-weaker (plain.Precedes e) (Precedes (moment_of taken) e) (from_plain e) es h.0, order_from_plain es h.1)
+  order_from_plain (e ∷ es) h = (All-weaker (plain.Precedes e) (Precedes (lane_time_of taken) e) (from_plain e) es h.0, order_from_plain es h.1)
 
 -- ---- the law
 

@@ -1,4 +1,4 @@
--- Each planned change is told in the word for the actions that the plan has for it.
+-- The line of each planned change has the word for the actions of the plan.
 use Rattle.std.proofs.Common.{◌≡◌, ℕ, suc, ◌+◌, List, [], ◌∷◌, ◌++◌, append-nil, append_assoc, codes, cond, length, map, Bool, true, false, Option, Some, None, Ok, Err, refl, sym, ap, ◌∙◌, subst, arith}
 use Rattle.std.specs.Prelude.{◌&&◌, MatchOption, slice_get}
 use Rattle.std.specs.List.{enumerate_from, list_any}
@@ -31,12 +31,12 @@ use Rattle.apply_text_terraform.specs.Message.{planned_message}
 use Rattle.apply_text_terraform.specs.Objects.{change_object}
 use Rattle.apply_plan_terraform.specs.Changes.{elements_of}
 use Rattle.apply_plan_terraform.specs.Details.{element_details, forgets_in, is_forgetting}
-use Rattle.apply_plan_terraform.specs.Told.{DetailsOfPlan, details_of}
+use Rattle.apply_plan_terraform.specs.ReadDetails.{DetailsOfPlan, details_of}
 use Rattle.apply_writer.specs.Stream.Terraform as stream
-use Rattle.laws_run.specs.PlannedWords.{AreToldInTheirWords, IsToldInItsWord, TellsOfPlan, word_for, word_of}
+use Rattle.laws_run.specs.PlannedWords.{HaveLinesInTheirWords, HasLineInItsWord, NamesPlannedAction, word_for, word_of}
 use Rattle.laws_run.proofs.AcceptedPlans.{read_from}
 use Rattle.laws_run.proofs.LastMembers.{step}
-use Rattle.laws_run.proofs.PlannedElements.{details_are, element_said, elements_are}
+use Rattle.laws_run.proofs.PlannedElements.{details_are, element_stated, elements_are}
 
 abbrev some : {X : Type 0} → X → Option X
 some x = Some x
@@ -51,7 +51,7 @@ as_word word action is = of_text (as_str action) is
     of_text None is = absurd cc
     of_text (Some text) is = ap some ((bytes_eq-Decides text word).0 is)
 
--- and no other one
+-- an action that is one word is no other word
 no_other : (word other : List ℕ) (action : Data) → bytes_eq word other ≡ false → is_word word action ≡ true → is_word other action ≡ false
 no_other word other action apart is = ap (λ (o : Option (List ℕ)). option_map_or (λ text. bytes_eq text other) o false) (as_word word action is) ∙ apart
 
@@ -68,27 +68,27 @@ alone action steps e =
     (λ is. (no_other (codes "delete") (codes "forget") action refl is, as_word (codes "delete") action is))
     e
   where
-    -- one step, of which the word is the action itself
-    one : (kind : StepKind) (word : List ℕ) (forget : Bool) (said : Option (List ℕ)) → planned_word (kind ∷ []) forget ≡ Some word → (forget ≡ false) × (said ≡ Some word) → Some (kind ∷ []) ≡ some steps
-        → planned_word steps forget ≡ cond forget (Some (codes "remove")) said
-    one kind word forget said told is e =
-        ap (λ (s : List StepKind). planned_word s forget) (sym (same_Some (kind ∷ []) steps e)) ∙ told ∙ sym is.1 ∙ ap (λ (b : Bool). cond b (Some (codes "remove")) said) (sym is.0)
+    -- one step, whose word is the action itself
+    one : (kind : StepKind) (word : List ℕ) (forget : Bool) (stated : Option (List ℕ)) → planned_word (kind ∷ []) forget ≡ Some word → (forget ≡ false) × (stated ≡ Some word) → Some (kind ∷ []) ≡ some steps
+        → planned_word steps forget ≡ cond forget (Some (codes "remove")) stated
+    one kind word forget stated written is e =
+        ap (λ (s : List StepKind). planned_word s forget) (sym (same_Some (kind ∷ []) steps e)) ∙ written ∙ sym is.1 ∙ ap (λ (b : Bool). cond b (Some (codes "remove")) stated) (sym is.0)
 
-    of_tests : (no_op create read update delete forget : Bool) (said : Option (List ℕ)) → (no_op ≡ true → forget ≡ false)
-        → (create ≡ true → (forget ≡ false) × (said ≡ Some (codes "create")))
-        → (read ≡ true → (forget ≡ false) × (said ≡ Some (codes "read")))
-        → (update ≡ true → (forget ≡ false) × (said ≡ Some (codes "update")))
-        → (delete ≡ true → (forget ≡ false) × (said ≡ Some (codes "delete")))
+    of_tests : (no_op create read update delete forget : Bool) (stated : Option (List ℕ)) → (no_op ≡ true → forget ≡ false)
+        → (create ≡ true → (forget ≡ false) × (stated ≡ Some (codes "create")))
+        → (read ≡ true → (forget ≡ false) × (stated ≡ Some (codes "read")))
+        → (update ≡ true → (forget ≡ false) × (stated ≡ Some (codes "update")))
+        → (delete ≡ true → (forget ≡ false) × (stated ≡ Some (codes "delete")))
         → cond no_op (Some []) (cond create (Some (Create ∷ [])) (cond read (Some (Read ∷ [])) (cond update (Some (Update ∷ [])) (cond delete (Some (Delete ∷ [])) (cond forget (Some []) None))))) ≡ Some steps
-        → planned_word steps forget ≡ cond no_op None (cond forget (Some (codes "remove")) said)
-    of_tests true create read update delete forget said n c r u d e =
+        → planned_word steps forget ≡ cond no_op None (cond forget (Some (codes "remove")) stated)
+    of_tests true create read update delete forget stated n c r u d e =
         ap (λ (s : List StepKind). planned_word s forget) (sym (same_Some [] steps e)) ∙ ap (λ (b : Bool). cond b (Some (codes "remove")) None) (n refl)
-    of_tests false true read update delete forget said n c r u d e = one Create (codes "create") forget said refl (c refl) e
-    of_tests false false true update delete forget said n c r u d e = one Read (codes "read") forget said refl (r refl) e
-    of_tests false false false true delete forget said n c r u d e = one Update (codes "update") forget said refl (u refl) e
-    of_tests false false false false true forget said n c r u d e = one Delete (codes "delete") forget said refl (d refl) e
-    of_tests false false false false false true said n c r u d e = ap (λ (s : List StepKind). planned_word s true) (sym (same_Some [] steps e))
-    of_tests false false false false false false said n c r u d e = absurd cc
+    of_tests false true read update delete forget stated n c r u d e = one Create (codes "create") forget stated refl (c refl) e
+    of_tests false false true update delete forget stated n c r u d e = one Read (codes "read") forget stated refl (r refl) e
+    of_tests false false false true delete forget stated n c r u d e = one Update (codes "update") forget stated refl (u refl) e
+    of_tests false false false false true forget stated n c r u d e = one Delete (codes "delete") forget stated refl (d refl) e
+    of_tests false false false false false true stated n c r u d e = ap (λ (s : List StepKind). planned_word s true) (sym (same_Some [] steps e))
+    of_tests false false false false false false stated n c r u d e = absurd cc
 
 together : (first second : Data) (steps : List StepKind) → steps_together first second ≡ Some steps → HasWord (item first (item second no_items)) steps
 together first second steps e = of_tests (is_word (codes "delete") first && is_word (codes "create") second) (is_word (codes "create") first && is_word (codes "delete") second) e
@@ -106,9 +106,9 @@ by_actions (item first (item second (item third others))) steps e = absurd cc
 
 -- ---- an element
 
-address_said : (d : Data) (e : Element) → element_of d ≡ Some e → text_of (codes "address") d ≡ Some e.address
+address_stated : (d : Data) (e : Element) → element_of d ≡ Some e → text_of (codes "address") d ≡ Some e.address
 unfolding element_of
-address_said d e is =
+address_stated d e is =
     let address = step (text_of (codes "address") d) _ e is in
     let word = step (text_of (codes "mode") d) _ e address.2 in
     let mode = step (mode_named word.0) _ e word.2 in
@@ -121,13 +121,13 @@ address_said d e is =
     address.1 ∙ ap (λ (x : Element). some x.address) (same_Some _ e planned.2)
 
 -- a change has the word and the address of its element
-record IsAsSaid (d : Data) (change : ResourceChange) : Type 0 where
+record IsAsStated (d : Data) (change : ResourceChange) : Type 0 where
   word : planned_word change.steps (forgets_in (member_of (codes "change") d)) ≡ word_of d
   address : text_of (codes "address") d ≡ Some change.address
 
-one_as_said : (earlier : List ResourceChange) (d : Data) (change : ResourceChange) → change_after earlier d ≡ Ok change → IsAsSaid d change
+one_as_stated : (earlier : List ResourceChange) (d : Data) (change : ResourceChange) → change_after earlier d ≡ Ok change → IsAsStated d change
 unfolding change_after planned_at
-one_as_said earlier d change e =
+one_as_stated earlier d change e =
     let n = length earlier in
     let planned = bind_ok (planned_at n d) (λ c. cond (list_any (is_same_object c) earlier) (Err (Duplicate n)) (Ok c)) change e in
     let new = guard_ok (list_any (is_same_object planned.0) earlier) (Duplicate n) (Ok planned.0) change planned.2 in
@@ -135,39 +135,39 @@ one_as_said earlier d change e =
     let stepped = bind_ok (or_refuse (BadActions n) (steps_of_actions formed.0.actions)) _ planned.0 formed.2 in
     let placed = bind_ok (or_refuse (BadAddress n) (relative_address formed.0.module_address formed.0.address)) _ planned.0 stepped.2 in
     let element = or_refuse_ok (BadChange n) (element_of d) formed.0 formed.1 in
-    let actions = element_said d formed.0 element in
+    let actions = element_stated d formed.0 element in
     let steps = or_refuse_ok (BadActions n) (steps_of_actions formed.0.actions) stepped.0 stepped.1 in
-    subst (IsAsSaid d) (ok_is planned.0 change new.1)
-    (subst (IsAsSaid d) (ok_is (change_of formed.0 stepped.0) planned.0 placed.2)
+    subst (IsAsStated d) (ok_is planned.0 change new.1)
+    (subst (IsAsStated d) (ok_is (change_of formed.0 stepped.0) planned.0 placed.2)
     (record {
       word = ap (λ (o : Option Items). planned_word stepped.0 (option_map_or is_forgetting o false)) actions
           ∙ by_actions formed.0.actions stepped.0 steps
           ∙ sym (ap (λ (o : Option Items). o >>= word_for) actions);
-      address = address_said d formed.0 element;
+      address = address_stated d formed.0 element;
     }))
 
 -- ---- all elements
 
-abbrev AreAsSaid : Items → List ResourceChange → Type 0
-AreAsSaid no_items [] = Unit {0}
-AreAsSaid no_items (change ∷ changes) = ⊥
-AreAsSaid (item d ds) [] = ⊥
-AreAsSaid (item d ds) (change ∷ changes) = IsAsSaid d change × AreAsSaid ds changes
+abbrev AreAsStated : Items → List ResourceChange → Type 0
+AreAsStated no_items [] = Unit {0}
+AreAsStated no_items (change ∷ changes) = ⊥
+AreAsStated (item d ds) [] = ⊥
+AreAsStated (item d ds) (change ∷ changes) = IsAsStated d change × AreAsStated ds changes
 
-all_as_said : (elements : Items) (earlier all : List ResourceChange) → made_after change_after earlier elements ≡ Ok all
-    → (changes : List ResourceChange) × (all ≡ earlier ++ changes) × AreAsSaid elements changes
+all_as_stated : (elements : Items) (earlier all : List ResourceChange) → made_after change_after earlier elements ≡ Ok all
+    → (changes : List ResourceChange) × (all ≡ earlier ++ changes) × AreAsStated elements changes
 unfolding made_after
-all_as_said no_items earlier all e = ([], sym (ok_is earlier all e) ∙ sym (append-nil earlier), tt)
-all_as_said (item d ds) earlier all e =
+all_as_stated no_items earlier all e = ([], sym (ok_is earlier all e) ∙ sym (append-nil earlier), tt)
+all_as_stated (item d ds) earlier all e =
     let first = bind_ok (change_after earlier d) (λ change. made_after change_after (earlier ++ change ∷ []) ds) all e in
-    let rest = all_as_said ds (earlier ++ first.0 ∷ []) all first.2 in
-    (first.0 ∷ rest.0, rest.1 ∙ append_assoc earlier (first.0 ∷ []) rest.0, (one_as_said earlier d first.0 first.1, rest.2))
+    let rest = all_as_stated ds (earlier ++ first.0 ∷ []) all first.2 in
+    (first.0 ∷ rest.0, rest.1 ∙ append_assoc earlier (first.0 ∷ []) rest.0, (one_as_stated earlier d first.0 first.1, rest.2))
 
 -- ---- the line of an element
 
-action_told : (change : ResourceChange) (word : List ℕ) (details : ChangeDetails) → text_of (codes "action") (change_object change word details) ≡ Some word
+action_stated : (change : ResourceChange) (word : List ℕ) (details : ChangeDetails) → text_of (codes "action") (change_object change word details) ≡ Some word
 unfolding change_object
-action_told change word details = of_previous details.previous
+action_stated change word details = of_previous details.previous
   where
     of_previous : (o : Option PreviousResource) → text_of (codes "action") (change_object change word (record details { previous = o })) ≡ Some word
     of_previous None = refl
@@ -177,52 +177,52 @@ abbrev details_in : Items → List ChangeDetails
 details_in elements = map element_details (list_of elements)
 
 module _ (start : ℕ) where
-  line_told : (change : ResourceChange) (details : ChangeDetails) (line : List ℕ) (word : Option (List ℕ))
+  line_in_word : (change : ResourceChange) (details : ChangeDetails) (line : List ℕ) (word : Option (List ℕ))
       → line ≡ option_map_or (λ word. message_line start (planned_message change word details)) word []
-      → MatchOption word (line ≡ []) (λ word. TellsOfPlan start change.address word line)
-  line_told change details line None is = is
-  line_told change details line (Some word) is = record {
+      → MatchOption word (line ≡ []) (λ word. NamesPlannedAction start change.address word line)
+  line_in_word change details line None is = is
+  line_in_word change details line (Some word) is = record {
     message = planned_message change word details;
     line_is = is;
     type_is = refl;
     text_is = refl;
     name_is = refl;
-    action_is = action_told change word details;
+    action_is = action_stated change word details;
   }
 
-  element_told : (d : Data) (change : ResourceChange) (line : List ℕ) → IsAsSaid d change → line ≡ planned_text start change (element_details d) → IsToldInItsWord start d line
-  element_told d change line said is = record {
+  element_told : (d : Data) (change : ResourceChange) (line : List ℕ) → IsAsStated d change → line ≡ planned_text start change (element_details d) → HasLineInItsWord start d line
+  element_told d change line stated is = record {
     address = change.address;
-    address_is = said.address;
-    told = line_told change (element_details d) line (word_of d)
-        (is ∙ ap (λ (o : Option (List ℕ)). option_map_or (λ word. message_line start (planned_message change word (element_details d))) o []) said.word);
+    address_is = stated.address;
+    line_is_in_word = line_in_word change (element_details d) line (word_of d)
+        (is ∙ ap (λ (o : Option (List ℕ)). option_map_or (λ word. message_line start (planned_message change word (element_details d))) o []) stated.word);
   }
 
-  -- from change n on, of details that are those of the elements from there on
-  elements_told : (elements : Items) (changes : List ResourceChange) (n : ℕ) (details : List ChangeDetails) → AreAsSaid elements changes
+  -- from change n on, with the details of the elements from there on
+  elements_told : (elements : Items) (changes : List ResourceChange) (n : ℕ) (details : List ChangeDetails) → AreAsStated elements changes
       → ((i : ℕ) → slice_get details (n + i) ≡ slice_get (details_in elements) i)
-      → AreToldInTheirWords start (list_of elements) (map (stream.planned_at start details) (enumerate_from n changes))
+      → HaveLinesInTheirWords start (list_of elements) (map (stream.planned_at start details) (enumerate_from n changes))
   elements_told no_items [] n details all are = tt
   elements_told no_items (change ∷ changes) n details all are = absurd all
   elements_told (item d ds) [] n details all are = absurd all
   elements_told (item d ds) (change ∷ changes) n details all are =
       let here : n ≡ n + 0 = omega arith in
-      let found : slice_get details n ≡ Some (element_details d) = ap (λ (k : ℕ). slice_get details k) here ∙ are 0 in (
-        element_told d change (stream.planned_at start details (n, change)) all.0 (ap (λ (o : Option ChangeDetails). option_map_or (planned_text start change) o []) found),
+      let located : slice_get details n ≡ Some (element_details d) = ap (λ (k : ℕ). slice_get details k) here ∙ are 0 in (
+        element_told d change (stream.planned_at start details (n, change)) all.0 (ap (λ (o : Option ChangeDetails). option_map_or (planned_text start change) o []) located),
         elements_told ds changes (n + 1) details all.1 (λ i. let next : n + 1 + i ≡ n + suc i = omega arith in ap (λ (k : ℕ). slice_get details k) next ∙ are (suc i)),
       )
 
 -- ---- the bytes of a plan
 
 pub all_in_words : (bytes : List ℕ) (plan : SavedPlan) (details : DetailsOfPlan) (start : ℕ) → plan_of bytes ≡ Ok plan → details_of bytes ≡ Some details
-    → (tree : Data) × (tree_of bytes ≡ Some tree) × AreToldInTheirWords start (elements_of tree) (map (stream.planned_at start details.changes) (enumerate_from 0 plan.changes))
-all_in_words bytes plan details start e said =
+    → (tree : Data) × (tree_of bytes ≡ Some tree) × HaveLinesInTheirWords start (elements_of tree) (map (stream.planned_at start details.changes) (enumerate_from 0 plan.changes))
+all_in_words bytes plan details start e stated =
     let read = read_from bytes plan e in
     let elements = read.header.elements in
-    let made = all_as_said elements [] plan.changes read.made in
-    let all : AreAsSaid elements plan.changes = subst (AreAsSaid elements) (sym made.1) made.2 in
+    let made = all_as_stated elements [] plan.changes read.made in
+    let all : AreAsStated elements plan.changes = subst (AreAsStated elements) (sym made.1) made.2 in
     let listed = elements_are read.tree read.header read.header_is in
-    let details_is : details.changes ≡ details_in elements = details_are bytes read.tree details read.tree_is said ∙ ap (map element_details) listed in
-    let told = elements_told start elements plan.changes 0 details.changes all
+    let details_is : details.changes ≡ details_in elements = details_are bytes read.tree details read.tree_is stated ∙ ap (map element_details) listed in
+    let written = elements_told start elements plan.changes 0 details.changes all
     (λ i. let same : 0 + i ≡ i = omega arith in ap (λ (k : ℕ). slice_get details.changes k) same ∙ ap (λ (l : List ChangeDetails). slice_get l i) details_is) in
-    (read.tree, read.tree_is, subst (λ (ds : List Data). AreToldInTheirWords start ds (map (stream.planned_at start details.changes) (enumerate_from 0 plan.changes))) (sym listed) told)
+    (read.tree, read.tree_is, subst (λ (ds : List Data). HaveLinesInTheirWords start ds (map (stream.planned_at start details.changes) (enumerate_from 0 plan.changes))) (sym listed) written)

@@ -16,7 +16,7 @@ twice : (b : Bool) → b ≡ not (not b)
 twice true = refl
 twice false = refl
 
--- as many pass a test
+-- the order of writing changes no count of events that pass a test
 counted : (p : Event → Bool) (taken : List Event) → count_by p (as_written taken) ≡ count_by p taken
 counted p taken =
     sum_by-append (λ e. cond (p e) 1 0) (hook_messages_of taken) (notes_of taken)
@@ -31,7 +31,7 @@ totals_kept plan taken =
     let halted = counted (λ e. is_halted e.what) taken in
     rw (added, changed, removed, failed, halted) refl
 
--- of what passes one test, what passes another, in either order
+-- two filters may be applied in either order
 push : (p : Event → Bool) (b : Bool) (event : Event) (events : List Event)
     → filter p (cond b (event ∷ events) events) ≡ cond b (cond (p event) (event ∷ filter p events) (filter p events)) (filter p events)
 push p true event events = refl

@@ -1,4 +1,4 @@
--- Worked examples: what happens in how many lanes to a few changes.
+-- Worked examples: the events of a few changes in a few lanes.
 use Rattle.std.specs.Prelude.{◌≡◌, ℕ, List, [], ◌∷◌, Bool, true, false, Some, None, map, if◌then◌else◌}
 use Rattle.apply_model.specs.declared.plan.key.Key.TheVariants as key
 use Rattle.apply_model.specs.declared.plan.mode.Mode.TheVariants as mode
@@ -24,8 +24,9 @@ use Rattle.apply_model.specs.declared.script.wait.Wait.{Wait}
 
 -- ---- what is applied
 
--- a step, how long it takes, its provisioners, how it ends, whether it is skipped, and what it waits for
-pub record Planned : Type 0 where
+-- a step: how long it takes, its provisioners, how it ends, whether it is skipped, and what it
+-- waits for
+pub record ExampleStep : Type 0 where
   pub kind : StepKind
   pub seconds : ℕ
   pub provisioners : List Provisioner
@@ -33,32 +34,36 @@ pub record Planned : Type 0 where
   pub skipped : Bool
   pub waits : List Wait
 
-abbrev pub why : Diag
-why = record { summary = []; detail = []; range = None; snippet = None }
+-- a diagnostic without text
+abbrev pub no_text : Diag
+no_text = record { summary = []; detail = []; range = None; snippet = None }
 
-abbrev pub goes : StepKind → (seconds : ℕ) → List Wait → Planned
-goes kind seconds waits =
+-- a step that completes
+abbrev pub completing : StepKind → (seconds : ℕ) → List Wait → ExampleStep
+completing kind seconds waits =
     record { kind = kind; seconds = seconds; provisioners = []; ending = Done None None; skipped = false; waits = waits }
 
-abbrev pub failing : StepKind → (seconds : ℕ) → List Wait → Planned
+-- a step that fails
+abbrev pub failing : StepKind → (seconds : ℕ) → List Wait → ExampleStep
 failing kind seconds waits =
-    record { kind = kind; seconds = seconds; provisioners = []; ending = Failed why; skipped = false; waits = waits }
+    record { kind = kind; seconds = seconds; provisioners = []; ending = Failed no_text; skipped = false; waits = waits }
 
 -- a read whose failure only warns
-abbrev pub warning : (seconds : ℕ) → List Wait → Planned
+abbrev pub warning : (seconds : ℕ) → List Wait → ExampleStep
 warning seconds waits =
-    record { kind = Read; seconds = seconds; provisioners = []; ending = Warned why; skipped = false; waits = waits }
+    record { kind = Read; seconds = seconds; provisioners = []; ending = Warned no_text; skipped = false; waits = waits }
 
-abbrev pub skipped : StepKind → List Wait → Planned
+-- a step that the script skips
+abbrev pub skipped : StepKind → List Wait → ExampleStep
 skipped kind waits =
     record { kind = kind; seconds = 0; provisioners = []; ending = Done None None; skipped = true; waits = waits }
 
 -- a create with provisioners
-abbrev pub provisioned : (seconds : ℕ) → List Provisioner → Planned
+abbrev pub provisioned : (seconds : ℕ) → List Provisioner → ExampleStep
 provisioned seconds provisioners =
     record { kind = Create; seconds = seconds; provisioners = provisioners; ending = Done None None; skipped = false; waits = [] }
 
--- a provisioner that puts something out after each of these seconds
+-- a provisioner that has an output after each of these seconds
 abbrev pub putting_out : (seconds : ℕ) → List ℕ → Provisioner
 putting_out seconds times = record {
   name = [];
@@ -68,10 +73,12 @@ putting_out seconds times = record {
   may_fail = false;
 }
 
+-- the name of step k of change c
 abbrev pub step : (c k : ℕ) → Wait
 step c k = record { change = c; step = k }
 
-abbrev pub change_of : List Planned → ResourceChange
+-- the change of a plan with these steps
+abbrev pub change_of : List ExampleStep → ResourceChange
 change_of steps = record {
   address = [];
   module_address = [];
@@ -84,7 +91,8 @@ change_of steps = record {
   steps = map (λ planned. planned.kind) steps;
 }
 
-abbrev pub outcome_of_planned : Planned → Outcome
+-- the outcome of a step in the script
+abbrev pub outcome_of_planned : ExampleStep → Outcome
 outcome_of_planned planned = record {
   seconds = planned.seconds;
   provisioners = planned.provisioners;
@@ -92,11 +100,12 @@ outcome_of_planned planned = record {
   after = planned.waits;
 }
 
-abbrev pub step_of_planned : Planned → ScriptStep
+-- the step in the script
+abbrev pub step_of_planned : ExampleStep → ScriptStep
 step_of_planned planned = if planned.skipped then Skipped planned.waits else Answered (outcome_of_planned planned)
 
--- changes of these steps, under hooks with these rules
-abbrev pub work : List (List Rule) → List (List Planned) → Work
+-- a plan with these changes, its script, and hooks with these rules
+abbrev pub work : List (List Rule) → List (List ExampleStep) → Work
 work hooks changes = record {
   plan = record { version = []; changes = map change_of changes };
   script = map (λ steps. Some (map step_of_planned steps)) changes;
@@ -105,25 +114,28 @@ work hooks changes = record {
 
 -- ---- what happens
 
--- when, to which step, and what
-pub record Told : Type 0 where
+-- the time of an event, its step, and what it is; the lane does not matter
+pub record StepEvent : Type 0 where
   pub at : ℕ
   pub change : ℕ
   pub step : ℕ
   pub what : What
 
-abbrev pub told : Event → Told
-told event = record { at = event.at; change = event.change; step = event.step; what = event.what }
+-- an event without its lane
+abbrev pub step_event : Event → StepEvent
+step_event event = record { at = event.at; change = event.change; step = event.step; what = event.what }
 
-abbrev pub tell : (at : ℕ) → Wait → What → Told
-tell at name what = record { at = at; change = name.change; step = name.step; what = what }
+-- an event of the named step at that time
+abbrev pub event_at : (at : ℕ) → Wait → What → StepEvent
+event_at at name what = record { at = at; change = name.change; step = name.step; what = what }
 
--- what happens to the changes in so many lanes
-abbrev pub Happens : (n : ℕ) → List (List Planned) → List Told → Type 0
-Happens n changes events = map told (time_line (work [] changes) n) ≡ events
+-- the events of these changes in n lanes, without hooks
+abbrev pub Happens : (n : ℕ) → List (List ExampleStep) → List StepEvent → Type 0
+Happens n changes events = map step_event (time_line (work [] changes) n) ≡ events
 
 -- ---- the examples
 
+-- the first steps of the first five changes
 abbrev pub a : Wait
 a = step 0 0
 
@@ -139,139 +151,148 @@ d = step 3 0
 abbrev pub e : Wait
 e = step 4 0
 
-abbrev pub one_waits : List (List Planned)
-one_waits = (goes Create 2 [] ∷ []) ∷ (goes Create 1 (a ∷ []) ∷ []) ∷ (goes Create 4 [] ∷ []) ∷ []
+-- b waits for a, and c for nothing
+abbrev pub one_waits : List (List ExampleStep)
+one_waits = (completing Create 2 [] ∷ []) ∷ (completing Create 1 (a ∷ []) ∷ []) ∷ (completing Create 4 [] ∷ []) ∷ []
 
+-- one step waits for another
 abbrev pub OneWaits : Type 0
 OneWaits = Happens 2 one_waits
-    (tell 0 a Start ∷ tell 0 c Start ∷ tell 2 a (Complete 2) ∷ tell 2 b Start ∷ tell 3 b (Complete 1) ∷ tell 4 c (Complete 4) ∷ [])
+    (event_at 0 a Start ∷ event_at 0 c Start ∷ event_at 2 a (Complete 2) ∷ event_at 2 b Start ∷ event_at 3 b (Complete 1) ∷ event_at 4 c (Complete 4) ∷ [])
 
--- the lane goes to who is ready first
+-- in one lane, the turn that is ready first goes first
 abbrev pub OneWaitsInOneLane : Type 0
 OneWaitsInOneLane = Happens 1 one_waits
-    (tell 0 a Start ∷ tell 2 a (Complete 2) ∷ tell 2 c Start ∷ tell 6 c (Complete 4) ∷ tell 6 b Start ∷ tell 7 b (Complete 1) ∷ [])
+    (event_at 0 a Start ∷ event_at 2 a (Complete 2) ∷ event_at 2 c Start ∷ event_at 6 c (Complete 4) ∷ event_at 6 b Start ∷ event_at 7 b (Complete 1) ∷ [])
 
+-- steps that take no time: a waits for c, and b waits for a
 abbrev pub NoTimeGoesBy : Type 0
-NoTimeGoesBy = Happens 2 ((goes Create 0 (c ∷ []) ∷ []) ∷ (goes Create 0 (a ∷ []) ∷ []) ∷ (goes Create 0 [] ∷ []) ∷ [])
-    (tell 0 c Start ∷ tell 0 c (Complete 0) ∷ tell 0 a Start ∷ tell 0 a (Complete 0) ∷ tell 0 b Start ∷ tell 0 b (Complete 0) ∷ [])
+NoTimeGoesBy = Happens 2 ((completing Create 0 (c ∷ []) ∷ []) ∷ (completing Create 0 (a ∷ []) ∷ []) ∷ (completing Create 0 [] ∷ []) ∷ [])
+    (event_at 0 c Start ∷ event_at 0 c (Complete 0) ∷ event_at 0 a Start ∷ event_at 0 a (Complete 0) ∷ event_at 0 b Start ∷ event_at 0 b (Complete 0) ∷ [])
 
--- what waits stands behind what it waits for, though its lane is lower
+-- steps that wait come after what they wait for, even if their lane is lower
 abbrev pub TwoWaitForOne : Type 0
-TwoWaitForOne = Happens 2 ((goes Create 1 [] ∷ []) ∷ (goes Create 3 [] ∷ []) ∷ (goes Create 1 (b ∷ []) ∷ []) ∷ (goes Create 1 (b ∷ []) ∷ []) ∷ [])
-    (tell 0 a Start ∷ tell 0 b Start ∷ tell 1 a (Complete 1) ∷ tell 3 b (Complete 3) ∷ tell 3 c Start ∷ tell 3 d Start ∷ tell 4 c (Complete 1) ∷ tell 4 d (Complete 1) ∷ [])
+TwoWaitForOne = Happens 2 ((completing Create 1 [] ∷ []) ∷ (completing Create 3 [] ∷ []) ∷ (completing Create 1 (b ∷ []) ∷ []) ∷ (completing Create 1 (b ∷ []) ∷ []) ∷ [])
+    (event_at 0 a Start ∷ event_at 0 b Start ∷ event_at 1 a (Complete 1) ∷ event_at 3 b (Complete 3) ∷ event_at 3 c Start ∷ event_at 3 d Start ∷ event_at 4 c (Complete 1) ∷ event_at 4 d (Complete 1) ∷ [])
 
--- what waits for a step that fails is left out, and so is what waits for that
+-- a step that waits for a failed step is left out, and so is a step that waits for that step
 abbrev pub OneFails : Type 0
 OneFails = Happens 10
-    ((failing Create 2 [] ∷ []) ∷ (goes Create 1 (a ∷ []) ∷ []) ∷ (goes Create 1 (b ∷ d ∷ []) ∷ []) ∷ (goes Create 3 [] ∷ []) ∷ [])
-    (tell 0 a Start ∷ tell 0 d Start ∷ tell 2 a (Errored 2) ∷ tell 2 a ErrorNote ∷ tell 3 d (Complete 3) ∷ [])
+    ((failing Create 2 [] ∷ []) ∷ (completing Create 1 (a ∷ []) ∷ []) ∷ (completing Create 1 (b ∷ d ∷ []) ∷ []) ∷ (completing Create 3 [] ∷ []) ∷ [])
+    (event_at 0 a Start ∷ event_at 0 d Start ∷ event_at 2 a (Errored 2) ∷ event_at 2 a ErrorNote ∷ event_at 3 d (Complete 3) ∷ [])
 
+-- a step waits for the later of two steps
 abbrev pub OneWaitsForTwo : Type 0
-OneWaitsForTwo = Happens 10 ((goes Delete 1 (b ∷ c ∷ []) ∷ []) ∷ (goes Delete 2 [] ∷ []) ∷ (goes Delete 3 [] ∷ []) ∷ [])
-    (tell 0 b Start ∷ tell 0 c Start ∷ tell 2 b (Complete 2) ∷ tell 3 c (Complete 3) ∷ tell 3 a Start ∷ tell 4 a (Complete 1) ∷ [])
+OneWaitsForTwo = Happens 10 ((completing Delete 1 (b ∷ c ∷ []) ∷ []) ∷ (completing Delete 2 [] ∷ []) ∷ (completing Delete 3 [] ∷ []) ∷ [])
+    (event_at 0 b Start ∷ event_at 0 c Start ∷ event_at 2 b (Complete 2) ∷ event_at 3 c (Complete 3) ∷ event_at 3 a Start ∷ event_at 4 a (Complete 1) ∷ [])
 
+-- two replacements: what depends on the other is deleted first and created last
 abbrev pub TwoReplacements : Type 0
 TwoReplacements = Happens 10
-    ((goes Delete 1 (b ∷ []) ∷ goes Create 2 [] ∷ []) ∷ (goes Delete 2 [] ∷ goes Create 1 (step 0 1 ∷ []) ∷ []) ∷ [])
-    (tell 0 b Start ∷ tell 2 b (Complete 2) ∷ tell 2 a Start ∷ tell 3 a (Complete 1)
-    ∷ tell 3 (step 0 1) Start ∷ tell 5 (step 0 1) (Complete 2) ∷ tell 5 (step 1 1) Start ∷ tell 6 (step 1 1) (Complete 1) ∷ [])
+    ((completing Delete 1 (b ∷ []) ∷ completing Create 2 [] ∷ []) ∷ (completing Delete 2 [] ∷ completing Create 1 (step 0 1 ∷ []) ∷ []) ∷ [])
+    (event_at 0 b Start ∷ event_at 2 b (Complete 2) ∷ event_at 2 a Start ∷ event_at 3 a (Complete 1)
+    ∷ event_at 3 (step 0 1) Start ∷ event_at 5 (step 0 1) (Complete 2) ∷ event_at 5 (step 1 1) Start ∷ event_at 6 (step 1 1) (Complete 1) ∷ [])
 
--- create first: the old object goes when what depends on it has been updated
+-- create before delete: the old object is deleted after the step that depends on it is updated
 abbrev pub CreateFirst : Type 0
-CreateFirst = Happens 10 ((goes Create 1 [] ∷ goes Delete 2 (b ∷ []) ∷ []) ∷ (goes Update 3 (a ∷ []) ∷ []) ∷ [])
-    (tell 0 a Start ∷ tell 1 a (Complete 1) ∷ tell 1 b Start ∷ tell 4 b (Complete 3) ∷ tell 4 (step 0 1) Start ∷ tell 6 (step 0 1) (Complete 2) ∷ [])
+CreateFirst = Happens 10 ((completing Create 1 [] ∷ completing Delete 2 (b ∷ []) ∷ []) ∷ (completing Update 3 (a ∷ []) ∷ []) ∷ [])
+    (event_at 0 a Start ∷ event_at 1 a (Complete 1) ∷ event_at 1 b Start ∷ event_at 4 b (Complete 3) ∷ event_at 4 (step 0 1) Start ∷ event_at 6 (step 0 1) (Complete 2) ∷ [])
 
--- or stays, where that fails
+-- if that update fails, the old object stays
 abbrev pub CreateFirstAndFail : Type 0
-CreateFirstAndFail = Happens 10 ((goes Create 1 [] ∷ goes Delete 2 (b ∷ []) ∷ []) ∷ (failing Update 3 (a ∷ []) ∷ []) ∷ [])
-    (tell 0 a Start ∷ tell 1 a (Complete 1) ∷ tell 1 b Start ∷ tell 4 b (Errored 3) ∷ tell 4 b ErrorNote ∷ [])
+CreateFirstAndFail = Happens 10 ((completing Create 1 [] ∷ completing Delete 2 (b ∷ []) ∷ []) ∷ (failing Update 3 (a ∷ []) ∷ []) ∷ [])
+    (event_at 0 a Start ∷ event_at 1 a (Complete 1) ∷ event_at 1 b Start ∷ event_at 4 b (Errored 3) ∷ event_at 4 b ErrorNote ∷ [])
 
-abbrev pub first_step_only : List (List Planned)
-first_step_only = (goes Delete 1 [] ∷ goes Create 1 [] ∷ []) ∷ (goes Create 0 [] ∷ []) ∷ (goes Create 1 (a ∷ []) ∷ []) ∷ []
+-- c waits for the first of two steps of a change
+abbrev pub first_step_only : List (List ExampleStep)
+first_step_only = (completing Delete 1 [] ∷ completing Create 1 [] ∷ []) ∷ (completing Create 0 [] ∷ []) ∷ (completing Create 1 (a ∷ []) ∷ []) ∷ []
 
--- a change of one turn keeps its lane
+-- a change of one turn holds its lane until its last step is over
 abbrev pub FirstStepInOneLane : Type 0
 FirstStepInOneLane = Happens 1 first_step_only
-    (tell 0 a Start ∷ tell 1 a (Complete 1) ∷ tell 1 (step 0 1) Start ∷ tell 2 (step 0 1) (Complete 1)
-    ∷ tell 2 b Start ∷ tell 2 b (Complete 0) ∷ tell 2 c Start ∷ tell 3 c (Complete 1) ∷ [])
+    (event_at 0 a Start ∷ event_at 1 a (Complete 1) ∷ event_at 1 (step 0 1) Start ∷ event_at 2 (step 0 1) (Complete 1)
+    ∷ event_at 2 b Start ∷ event_at 2 b (Complete 0) ∷ event_at 2 c Start ∷ event_at 3 c (Complete 1) ∷ [])
 
--- and its first step is done before it has ended
+-- a step that waits for the first step of a change begins before the change is over
 abbrev pub FirstStepInTwoLanes : Type 0
 FirstStepInTwoLanes = Happens 2 first_step_only
-    (tell 0 a Start ∷ tell 0 b Start ∷ tell 0 b (Complete 0) ∷ tell 1 a (Complete 1) ∷ tell 1 (step 0 1) Start
-    ∷ tell 1 c Start ∷ tell 2 (step 0 1) (Complete 1) ∷ tell 2 c (Complete 1) ∷ [])
+    (event_at 0 a Start ∷ event_at 0 b Start ∷ event_at 0 b (Complete 0) ∷ event_at 1 a (Complete 1) ∷ event_at 1 (step 0 1) Start
+    ∷ event_at 1 c Start ∷ event_at 2 (step 0 1) (Complete 1) ∷ event_at 2 c (Complete 1) ∷ [])
 
 -- a change of two turns gives its lane away between them
 abbrev pub GivesItsLaneAway : Type 0
-GivesItsLaneAway = Happens 1 ((goes Delete 1 [] ∷ goes Create 1 (a ∷ []) ∷ []) ∷ (goes Create 2 [] ∷ []) ∷ [])
-    (tell 0 a Start ∷ tell 1 a (Complete 1) ∷ tell 1 b Start ∷ tell 3 b (Complete 2) ∷ tell 3 (step 0 1) Start ∷ tell 4 (step 0 1) (Complete 1) ∷ [])
+GivesItsLaneAway = Happens 1 ((completing Delete 1 [] ∷ completing Create 1 (a ∷ []) ∷ []) ∷ (completing Create 2 [] ∷ []) ∷ [])
+    (event_at 0 a Start ∷ event_at 1 a (Complete 1) ∷ event_at 1 b Start ∷ event_at 3 b (Complete 2) ∷ event_at 3 (step 0 1) Start ∷ event_at 4 (step 0 1) (Complete 1) ∷ [])
 
 -- a hook that halts before updates
 abbrev pub no_updates : List (List Rule)
 no_updates = (record { phase = Some Pre; kind = Some Update; address_begins = []; verdict = Halt } ∷ []) ∷ []
 
+-- a step that waits for a halted step is left out
 abbrev pub OneIsHalted : Type 0
 OneIsHalted =
-    map told (time_line (work no_updates ((goes Update 0 [] ∷ []) ∷ (goes Create 1 (a ∷ []) ∷ []) ∷ (goes Create 1 [] ∷ []) ∷ [])) 2)
-    ≡ tell 0 a (Halted Pre 0) ∷ tell 0 c Start ∷ tell 1 c (Complete 1) ∷ []
+    map step_event (time_line (work no_updates ((completing Update 0 [] ∷ []) ∷ (completing Create 1 (a ∷ []) ∷ []) ∷ (completing Create 1 [] ∷ []) ∷ [])) 2)
+    ≡ event_at 0 a (Halted Pre 0) ∷ event_at 0 c Start ∷ event_at 1 c (Complete 1) ∷ []
 
 -- one change has no steps
 abbrev pub NothingToDo : Type 0
-NothingToDo = Happens 2 ([] ∷ (goes Delete 1 (c ∷ []) ∷ []) ∷ (goes Update 2 [] ∷ []) ∷ [])
-    (tell 0 c Start ∷ tell 2 c (Complete 2) ∷ tell 2 b Start ∷ tell 3 b (Complete 1) ∷ [])
+NothingToDo = Happens 2 ([] ∷ (completing Delete 1 (c ∷ []) ∷ []) ∷ (completing Update 2 [] ∷ []) ∷ [])
+    (event_at 0 c Start ∷ event_at 2 c (Complete 2) ∷ event_at 2 b Start ∷ event_at 3 b (Complete 1) ∷ [])
 
--- who is ready first goes first, though another stands before it in the plan
+-- the turn that is ready first goes first, even if another change stands before it in the plan
 abbrev pub ReadyFirstGoesFirst : Type 0
 ReadyFirstGoesFirst = Happens 1
-    ((goes Create 1 [] ∷ []) ∷ (goes Create 1 (d ∷ []) ∷ []) ∷ (goes Create 1 (a ∷ []) ∷ []) ∷ (goes Create 1 [] ∷ []) ∷ (goes Create 5 [] ∷ []) ∷ [])
-    (tell 0 a Start ∷ tell 1 a (Complete 1) ∷ tell 1 d Start ∷ tell 2 d (Complete 1) ∷ tell 2 e Start ∷ tell 7 e (Complete 5)
-    ∷ tell 7 c Start ∷ tell 8 c (Complete 1) ∷ tell 8 b Start ∷ tell 9 b (Complete 1) ∷ [])
+    ((completing Create 1 [] ∷ []) ∷ (completing Create 1 (d ∷ []) ∷ []) ∷ (completing Create 1 (a ∷ []) ∷ []) ∷ (completing Create 1 [] ∷ []) ∷ (completing Create 5 [] ∷ []) ∷ [])
+    (event_at 0 a Start ∷ event_at 1 a (Complete 1) ∷ event_at 1 d Start ∷ event_at 2 d (Complete 1) ∷ event_at 2 e Start ∷ event_at 7 e (Complete 5)
+    ∷ event_at 7 c Start ∷ event_at 8 c (Complete 1) ∷ event_at 8 b Start ∷ event_at 9 b (Complete 1) ∷ [])
 
 -- ---- steps that are skipped
 
--- a change whose first step is skipped has no event, and what waits for a step of it is left out
+-- a change whose first step is skipped has no event, and steps that wait for one of its steps are
+-- left out
 abbrev pub FirstIsSkipped : Type 0
 FirstIsSkipped = Happens 2
-    ((skipped Delete [] ∷ goes Create 1 [] ∷ []) ∷ (goes Create 2 [] ∷ []) ∷ (goes Create 1 (a ∷ []) ∷ []) ∷ (goes Create 1 (step 0 1 ∷ []) ∷ []) ∷ [])
-    (tell 0 b Start ∷ tell 2 b (Complete 2) ∷ [])
+    ((skipped Delete [] ∷ completing Create 1 [] ∷ []) ∷ (completing Create 2 [] ∷ []) ∷ (completing Create 1 (a ∷ []) ∷ []) ∷ (completing Create 1 (step 0 1 ∷ []) ∷ []) ∷ [])
+    (event_at 0 b Start ∷ event_at 2 b (Complete 2) ∷ [])
 
--- a change ends before its second step, where that one is skipped
+-- a change ends before its second step if that step is skipped
 abbrev pub SecondIsSkipped : Type 0
 SecondIsSkipped = Happens 1
-    ((goes Create 1 [] ∷ skipped Delete (b ∷ []) ∷ []) ∷ (goes Update 3 (a ∷ []) ∷ []) ∷ (goes Create 1 (step 0 1 ∷ []) ∷ []) ∷ [])
-    (tell 0 a Start ∷ tell 1 a (Complete 1) ∷ tell 1 b Start ∷ tell 4 b (Complete 3) ∷ [])
+    ((completing Create 1 [] ∷ skipped Delete (b ∷ []) ∷ []) ∷ (completing Update 3 (a ∷ []) ∷ []) ∷ (completing Create 1 (step 0 1 ∷ []) ∷ []) ∷ [])
+    (event_at 0 a Start ∷ event_at 1 a (Complete 1) ∷ event_at 1 b Start ∷ event_at 4 b (Complete 3) ∷ [])
 
--- hooks are not asked of a step that is skipped
+-- hooks are not called for a step that is skipped
 abbrev pub SkippedIsNotHalted : Type 0
-SkippedIsNotHalted = map told (time_line (work no_updates ((skipped Update [] ∷ []) ∷ (goes Create 1 [] ∷ []) ∷ [])) 2)
-    ≡ tell 0 b Start ∷ tell 1 b (Complete 1) ∷ []
+SkippedIsNotHalted = map step_event (time_line (work no_updates ((skipped Update [] ∷ []) ∷ (completing Create 1 [] ∷ []) ∷ [])) 2)
+    ≡ event_at 0 b Start ∷ event_at 1 b (Complete 1) ∷ []
 
 -- ---- reads that only warn
 
--- a read that only warns has no end, and a warning in its place; it is done for what waits for it
+-- a read that only warns has a warning in place of its end, and a step that waits for the read
+-- begins
 abbrev pub OneOnlyWarns : Type 0
-OneOnlyWarns = Happens 2 ((goes Create 2 [] ∷ []) ∷ (warning 11 [] ∷ []) ∷ (goes Create 1 (b ∷ []) ∷ []) ∷ [])
-    (tell 0 a Start ∷ tell 0 b Start ∷ tell 2 a (Complete 2) ∷ tell 10 b (Progress 10) ∷ tell 11 b WarnNote
-    ∷ tell 11 c Start ∷ tell 12 c (Complete 1) ∷ [])
+OneOnlyWarns = Happens 2 ((completing Create 2 [] ∷ []) ∷ (warning 11 [] ∷ []) ∷ (completing Create 1 (b ∷ []) ∷ []) ∷ [])
+    (event_at 0 a Start ∷ event_at 0 b Start ∷ event_at 2 a (Complete 2) ∷ event_at 10 b (Progress 10) ∷ event_at 11 b WarnNote
+    ∷ event_at 11 c Start ∷ event_at 12 c (Complete 1) ∷ [])
 
--- its change goes on
+-- a change goes on after a read that only warns
 abbrev pub OneGoesOnThoughItWarns : Type 0
-OneGoesOnThoughItWarns = Happens 1 ((warning 1 [] ∷ goes Create 2 [] ∷ []) ∷ [])
-    (tell 0 a Start ∷ tell 1 a WarnNote ∷ tell 1 (step 0 1) Start ∷ tell 3 (step 0 1) (Complete 2) ∷ [])
+OneGoesOnThoughItWarns = Happens 1 ((warning 1 [] ∷ completing Create 2 [] ∷ []) ∷ [])
+    (event_at 0 a Start ∷ event_at 1 a WarnNote ∷ event_at 1 (step 0 1) Start ∷ event_at 3 (step 0 1) (Complete 2) ∷ [])
 
--- a hook that halts reads that are done
+-- a hook that halts after reads that are done
 abbrev pub no_more_reads : List (List Rule)
 no_more_reads = (record { phase = Some PostDone; kind = Some Read; address_begins = []; verdict = Halt } ∷ []) ∷ []
 
--- it is asked as behind a step that is done, and where it halts what waits is left out
+-- a hook is called after a read that only warns; if the hook halts, a step that waits is left out
 abbrev pub OneWarnsAndIsHalted : Type 0
-OneWarnsAndIsHalted = map told (time_line (work no_more_reads ((warning 1 [] ∷ []) ∷ (goes Create 1 (a ∷ []) ∷ []) ∷ [])) 1)
-    ≡ tell 0 a Start ∷ tell 1 a WarnNote ∷ tell 1 a (Halted PostDone 0) ∷ []
+OneWarnsAndIsHalted = map step_event (time_line (work no_more_reads ((warning 1 [] ∷ []) ∷ (completing Create 1 (a ∷ []) ∷ []) ∷ [])) 1)
+    ≡ event_at 0 a Start ∷ event_at 1 a WarnNote ∷ event_at 1 a (Halted PostDone 0) ∷ []
 
--- ---- output in its time
+-- ---- outputs of provisioners
 
--- each output stands at its own second, at one moment behind the progress
+-- each output comes at its own second, after the progress of the same second
 abbrev pub OutputInItsTime : Type 0
 OutputInItsTime = Happens 1 ((provisioned 3 (putting_out 12 (0 ∷ 7 ∷ 12 ∷ 12 ∷ []) ∷ []) ∷ []) ∷ [])
-    (tell 0 a Start ∷ tell 3 a (ProvisionStart 0) ∷ tell 3 a (ProvisionOutput 0 0) ∷ tell 10 a (Progress 10) ∷ tell 10 a (ProvisionOutput 0 1)
-    ∷ tell 15 a (ProvisionOutput 0 2) ∷ tell 15 a (ProvisionOutput 0 3) ∷ tell 15 a (ProvisionComplete 0) ∷ tell 15 a (Complete 15) ∷ [])
+    (event_at 0 a Start ∷ event_at 3 a (ProvisionStart 0) ∷ event_at 3 a (ProvisionOutput 0 0) ∷ event_at 10 a (Progress 10) ∷ event_at 10 a (ProvisionOutput 0 1)
+    ∷ event_at 15 a (ProvisionOutput 0 2) ∷ event_at 15 a (ProvisionOutput 0 3) ∷ event_at 15 a (ProvisionComplete 0) ∷ event_at 15 a (Complete 15) ∷ [])

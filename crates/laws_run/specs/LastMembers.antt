@@ -1,14 +1,16 @@
--- Members of a JSON value, of which the last of a name counts.
+-- Members of a JSON object. Of several members with the same name the last one counts.
 use Rattle.std.specs.Prelude.{◌≡◌, ℕ, List, Bool, false, if◌then◌else◌, Option, Some, None}
 use Rattle.std.specs.List.{AllByRecursion}
 use Rattle.std.specs.Str.{bytes_eq}
 use Rattle.json.specs.Json as json
 use Rattle.laws_run.specs.Plans.{AreAlike}
 
-abbrev pub last_in : (name : List ℕ) → json.Members → (found : Option json.Json) → Option json.Json
-last_in name json.no_members found = found
-last_in name (json.member key value rest) found = last_in name rest (if bytes_eq key name then Some value else found)
+-- the value of the last member of that name; `located` if there is none
+abbrev pub last_in : (name : List ℕ) → json.Members → (located : Option json.Json) → Option json.Json
+last_in name json.no_members located = located
+last_in name (json.member key value rest) located = last_in name rest (if bytes_eq key name then Some value else located)
 
+-- the value of the last member of that name; none in a value that is no object
 abbrev pub last_of : (name : List ℕ) → json.Json → Option json.Json
 last_of name json.null = None
 last_of name (json.boolean b) = None
@@ -21,7 +23,7 @@ last_of name (json.object ms) = last_in name ms None
 abbrev pub HaveSame : List (List ℕ) → json.Json → json.Json → Type 0
 HaveSame names one other = AllByRecursion (λ name. last_of name one ≡ last_of name other) names
 
--- both have a member of that name, and the two are alike, or neither has one
+-- both values have a member of that name and the two are alike, or neither value has one
 abbrev pub HaveAlike : List ℕ → (json.Json → json.Json → Type 0) → json.Json → json.Json → Type 0
 HaveAlike name Alike one other = AreAlike Alike (last_of name one) (last_of name other)
 

@@ -1,4 +1,4 @@
--- Which changes of a plan are planned, and what Terraform's form tells of them.
+-- Which changes of a plan are planned, and their lines in Terraform's form.
 use Rattle.std.specs.Prelude.{◌≡◌, ℕ, List, [], ◌∷◌, ◌++◌, Bool, true, false, codes, count_by, filter, length, map, not, slice_get, Some}
 use Rattle.std.specs.List.{enumerate_from}
 use Rattle.std.specs.Option.{option_map_or}
@@ -14,22 +14,23 @@ use Rattle.apply_text_terraform.specs.Lines.{message_line}
 use Rattle.apply_plan_terraform.specs.Changes.{elements_of}
 use Rattle.apply_plan_terraform.specs.Details.{actions_in}
 
--- a change with these steps is planned: it has one, or its object is forgotten
+-- a change with these steps is planned: it has a step, or its object is forgotten
 abbrev pub is_planned : List StepKind → (forgets : Bool) → Bool
 is_planned [] forgets = forgets
 is_planned (step ∷ others) forgets = true
 
--- so it is of a change with its number, by the details of that number
+-- a change with its number is planned, by the details with that number
 abbrev pub is_planned_at : List ChangeDetails → ℕ × ResourceChange → Bool
 is_planned_at details p =
     option_map_or (λ (d : ChangeDetails). is_planned p.1.steps d.forgets) (slice_get details p.0) false
 
--- the changes that are planned, each with its number, in the plan's order
+-- the planned changes, each with its number, in the plan's order
 abbrev pub planned_in : List ChangeDetails → SavedPlan → List (ℕ × ResourceChange)
 planned_in details plan = filter (is_planned_at details) (enumerate_from 0 plan.changes)
 
--- the line is one message, of that type and at that moment, which says in some word what is planned for the change
-pub record TellsThatPlanned (seconds : ℕ) (change : ResourceChange) (line : List ℕ) : Type 0 where
+-- the line is one message of the type `planned_change` at that time; its text names the change's
+-- address and some word for what is planned
+pub record IsPlannedChangeLine (seconds : ℕ) (change : ResourceChange) (line : List ℕ) : Type 0 where
   pub message : Message
   pub word : List ℕ
   pub line_is : line ≡ message_line seconds message
@@ -37,24 +38,24 @@ pub record TellsThatPlanned (seconds : ℕ) (change : ResourceChange) (line : Li
   pub text_is : message.text ≡ change.address ++ codes ": Plan to " ++ word
   pub one_line_feed : line_feeds line ≡ 1
 
--- ---- as the bytes of a plan say it
+-- ---- as the bytes of a plan state it
 
--- the actions are to do nothing
+-- the actions are `["no-op"]`
 abbrev pub is_no_op : Items → Bool
 is_no_op no_items = false
 is_no_op (item action no_items) = is_word (codes "no-op") action
 is_no_op (item first (item second others)) = false
 
--- those of an element of `resource_changes`
-abbrev pub says_no_op : Data → Bool
-says_no_op element = option_map_or is_no_op (actions_in (member_of (codes "change") element)) false
+-- the actions of an element of `resource_changes` are `["no-op"]`
+abbrev pub states_no_op : Data → Bool
+states_no_op element = option_map_or is_no_op (actions_in (member_of (codes "change") element)) false
 
--- each element of the tree that the bytes are has one change and the details of it, and what is planned is told of it unless
--- its actions are to do nothing
+-- Each element of the tree of these bytes has one change with details. The change is planned unless
+-- the element's actions are `["no-op"]`.
 pub record AllButNoOpsArePlanned (bytes : List ℕ) (plan : SavedPlan) (details : List ChangeDetails) : Type 0 where
   pub tree : Data
   pub tree_is : tree_of bytes ≡ Some tree
   pub as_many : length details ≡ length plan.changes
   pub one_by_one : map (is_planned_at details) (enumerate_from 0 plan.changes)
-      ≡ map (λ element. not (says_no_op element)) (elements_of tree)
-  pub count : length (planned_in details plan) ≡ count_by (λ element. not (says_no_op element)) (elements_of tree)
+      ≡ map (λ element. not (states_no_op element)) (elements_of tree)
+  pub count : length (planned_in details plan) ≡ count_by (λ element. not (states_no_op element)) (elements_of tree)

@@ -1,19 +1,20 @@
--- Steps that are under way at a place of a list of events, and at a moment.
+-- Steps that are under way at a place of a list of events, and steps that are under way at a time.
 use Rattle.std.specs.Prelude.{ℕ, ◌&&◌, Bool, List, count_by, length, map, nat_le, nat_lt}
 use Rattle.std.specs.List.{flat_map, list_any, range_with_len}
 use Rattle.apply_model.specs.declared.script.wait.Wait.{Wait}
 use Rattle.apply_model.specs.Plan.SavedPlan.{SavedPlan}
 use Rattle.apply_events.specs.declared.event.Event.{Event}
 use Rattle.apply_events.specs.Step.{Work, kinds_of}
-use Rattle.laws_run.specs.WaitLaws.{has_events, is_of_step}
+use Rattle.laws_run.specs.WaitingSteps.{has_events, is_of_step}
 use Rattle.laws_run.specs.ChangesUnderWay.{is_over_with, is_start}
 
 -- ---- the steps of a plan
 
+-- the steps of change c
 abbrev pub steps_of_change : SavedPlan → (c : ℕ) → List Wait
 steps_of_change plan c = map (λ k. record { change = c; step = k }) (range_with_len 0 (length (kinds_of plan c)))
 
--- each once, in the plan's order
+-- all steps of a plan, each once, in the plan's order
 abbrev pub steps_of_plan : SavedPlan → List Wait
 steps_of_plan plan = flat_map (steps_of_change plan) (range_with_len 0 (length plan.changes))
 
@@ -23,34 +24,34 @@ steps_of_plan plan = flat_map (steps_of_change plan) (range_with_len 0 (length p
 abbrev pub starts_of_step : Wait → List Event → ℕ
 starts_of_step name events = count_by (λ event. is_of_step name event && is_start event.what) events
 
--- how often it is over: completed, failed, or warned of where it only warns
+-- how often the step is over: completed, failed, or warned of if it only warns
 abbrev pub ends_of_step : Work → Wait → List Event → ℕ
 ends_of_step work name events = count_by (λ event. is_of_step name event && is_over_with work.script event) events
 
--- the step has started, and is not over
+-- after these events the step has started and is not over
 abbrev pub is_step_open_after : Work → List Event → Wait → Bool
 is_step_open_after work events name = nat_lt (ends_of_step work name events) (starts_of_step name events)
 
--- how many of the plan's steps have started, and are not over
+-- how many of the plan's steps have started and are not over
 abbrev pub open_steps_after : Work → List Event → ℕ
 open_steps_after work events = count_by (is_step_open_after work events) (steps_of_plan work.plan)
 
--- the step has an event before the place, and one after it
-abbrev pub is_on_both_sides : (before behind : List Event) → Wait → Bool
-is_on_both_sides before behind name = has_events before name && has_events behind name
+-- the step has an event before the place and an event after it
+abbrev pub is_on_both_sides : (before after : List Event) → Wait → Bool
+is_on_both_sides before after name = has_events before name && has_events after name
 
--- how many of the plan's steps have both
-abbrev pub steps_on_both_sides : Work → (before behind : List Event) → ℕ
-steps_on_both_sides work before behind = count_by (is_on_both_sides before behind) (steps_of_plan work.plan)
+-- how many of the plan's steps have events on both sides of the place
+abbrev pub steps_on_both_sides : Work → (before after : List Event) → ℕ
+steps_on_both_sides work before after = count_by (is_on_both_sides before after) (steps_of_plan work.plan)
 
--- ---- at a moment
+-- ---- at a time
 
--- the step has an event by the moment, and a later one
+-- the step has an event by the time `moment` and a later event
 abbrev pub is_step_under_way_at : (moment : ℕ) → List Event → Wait → Bool
 is_step_under_way_at moment events name =
     list_any (λ event. is_of_step name event && nat_le event.at moment) events
     && list_any (λ event. is_of_step name event && nat_lt moment event.at) events
 
--- how many of the plan's steps have both
+-- how many of the plan's steps are under way at the time `moment`
 abbrev pub steps_under_way_at : Work → (moment : ℕ) → List Event → ℕ
 steps_under_way_at work moment events = count_by (is_step_under_way_at moment events) (steps_of_plan work.plan)

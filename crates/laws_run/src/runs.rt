@@ -1,4 +1,5 @@
-//! Laws of runs. Each function does nothing; its contract is the law.
+//! Laws of whole runs. Each function calls the laws that its own law follows from: its contract is
+//! the law.
 
 ghost use Rattle.std.specs.Prelude.{List, false, ℕ, ◌<◌, ◌≡◌};
 ghost use Rattle.apply_model.specs.Script.Waits.{has_waits};
@@ -13,15 +14,17 @@ ghost use Rattle.apply_run.specs.Applied.{IsApplied};
 ghost use Rattle.apply_writer.specs.declared.report.Report.{Report};
 ghost use Rattle.apply_events.specs.Lanes.{AreLanes};
 ghost use Rattle.apply_run.specs.Lanes.{HasStreamedInLanes};
-ghost use Rattle.laws_run.specs.LaneLines.{HaveOneBegin};
-ghost use Rattle.apply_run.specs.Run.{HasStreamed, Sight};
+ghost use Rattle.laws_run.specs.StepTimes.{LinesHaveOneBegin};
+ghost use Rattle.apply_run.specs.Run.{HasStreamed, SinkState};
 
-use crate::lines::a_hook_message_has_its_events_own_moment;
-use crate::time_lines::{a_step_takes_the_seconds_that_it_tells, lanes_deal_out_the_changes};
-use crate::{moments_never_fall, without_waits_changes_are_dealt_out};
+use crate::lines::a_hook_message_has_the_time_of_its_event;
+use crate::time_lines_without_waits::{
+    a_step_takes_the_seconds_that_its_end_names, lanes_deal_out_the_changes,
+};
+use crate::{times_of_a_time_line_never_fall, without_waits_changes_are_dealt_out};
 
-/// The events of a time line of changes that wait for nothing are those of a plan that was applied by as many workers, dealt out
-/// as the lanes are.
+/// A time line without waits has the events of a run with one worker for each lane. The workers
+/// share the changes as the lanes do.
 pub fn a_time_line_is_applied_by_workers()
     ensures { (work : Work) (n : ℕ) (events : List Event) → 0 < n → IsTimeLine work n events
         → IsApplied work n (lanes work n) events }
@@ -29,10 +32,12 @@ pub fn a_time_line_is_applied_by_workers()
     lanes_deal_out_the_changes();
 }
 
-/// So where no step names what it waits for, what is said of a run that has streamed holds of lanes that have, with a worker for
+/// Without waits, what lanes have streamed is what a run of workers may stream, with one worker for
 /// each lane and any capacity.
+///
+/// So each law of a run of workers holds of the lanes too.
 pub fn what_lanes_stream_is_a_run_of_workers()
-    ensures { (work : Work) (lanes capacity start : ℕ) (operation : Operation) (report : Report) (before after : Sight)
+    ensures { (work : Work) (lanes capacity start : ℕ) (operation : Operation) (report : Report) (before after : SinkState)
         → AreLanes lanes → has_waits work.script ≡ false → HasStreamedInLanes work lanes start operation report before after
         → HasStreamed work (record { workers = lanes; capacity = capacity; start = start; operation = operation }) report
         before after }
@@ -41,13 +46,16 @@ pub fn what_lanes_stream_is_a_run_of_workers()
     a_time_line_is_applied_by_workers();
 }
 
-/// The lines of hooks' messages of a time line, where steps wait for others or do not, have their events' own moments: a step begins at one moment, and between
-/// the lines of its start and its end lie exactly the seconds that the end tells.
-pub fn between_the_lines_of_a_step_lie_its_seconds()
+/// Between the line of a step's start and the line of its end lie exactly the seconds that the end
+/// names.
+///
+/// The lines of hook messages have the times of their own events. The law holds whether steps wait
+/// for others or not.
+pub fn lines_of_a_step_are_its_seconds_apart()
     ensures { (work : Work) (n change step : ℕ) (events : List Event) → waiting.IsTimeLine work n events
-        → HaveOneBegin change step (as_written events) }
+        → LinesHaveOneBegin change step (as_written events) }
 {
-    a_step_takes_the_seconds_that_it_tells();
-    moments_never_fall();
-    a_hook_message_has_its_events_own_moment();
+    a_step_takes_the_seconds_that_its_end_names();
+    times_of_a_time_line_never_fall();
+    a_hook_message_has_the_time_of_its_event();
 }

@@ -1,95 +1,177 @@
-//! Laws of time lines of changes that wait for nothing. Each function does nothing; its contract is the law. Where no step names
-//! what it waits for, these are the time lines of what is applied in lanes; for steps that wait see `time_lines_with_waits`.
+//! Laws of time lines: plans that are applied in lanes, whether steps wait for others or not.
+//!
+//! Each function does nothing, or calls the laws that its own law follows from: its contract is the
+//! law.
 
-ghost use Rattle.std.specs.Prelude.{All, IsTrue, List, [], get_or, length, sum_by, ℕ, ◌*◌, ◌++◌, ◌<◌, ◌≡◌, ◌≤◌};
-ghost use Rattle.std.specs.List.{range_with_len};
+ghost use Rattle.std.specs.Prelude.{◌≡◌, ◌<◌, ◌≤◌, ◌↔◌, ◌++◌, ◌∷◌, ℕ, All, List, Some, count_by, false, length, slice_get, true};
+ghost use Rattle.std.specs.List.{Contains};
 ghost use Rattle.std.specs.List.Sorted.{IsNonDecreasingBy};
-ghost use Rattle.apply_events.specs.Partition.{IsPartition};
+ghost use Rattle.apply_model.specs.declared.script.wait.Wait.{Wait};
+ghost use Rattle.apply_events.specs.Step.{Step, Work, steps_of};
+ghost use Rattle.apply_model.specs.Script.Waits.{has_waits};
 ghost use Rattle.apply_events.specs.declared.event.Event.{Event};
-ghost use Rattle.apply_events.specs.ChangeEvents.{span_of};
-ghost use Rattle.apply_events.specs.OfWorker.{of_worker};
-ghost use Rattle.apply_events.specs.Step.{Work};
-ghost use Rattle.apply_events.specs.WorkerEvents.{worker_events};
-ghost use Rattle.apply_events.specs.Lanes.Dealing.{lanes};
-ghost use Rattle.laws_run.specs.ChangesUnderWay.{is_under_way_at, open_after, waits_at};
-ghost use Rattle.laws_run.specs.Sharing.{free_before, under_way};
-ghost use Rattle.laws_run.specs.StepTimes.{HasOneBegin};
-ghost use Rattle.apply_events.specs.Lanes.TimeLine.{IsTimeLine};
-ghost use Rattle.apply_events.specs.Waits.TimeLine as waiting;
+ghost use Rattle.apply_events.specs.declared.lanes.lane_time.LaneTime.{LaneTime};
+ghost use Rattle.apply_events.specs.declared.lanes.turn.StartedTurn.{StartedTurn};
+ghost use Rattle.apply_events.specs.Fits.{IsApplied, IsOfPlan};
+ghost use Rattle.apply_events.specs.Lanes.TimeLine as plain;
+ghost use Rattle.apply_events.specs.Lanes.ToCome.{max_events};
+ghost use Rattle.apply_events.specs.Laws.{IsWithinLimits};
+ghost use Rattle.apply_events.specs.Waits.Done.{done_at};
+ghost use Rattle.apply_events.specs.Waits.Merging.{time_line};
+ghost use Rattle.apply_events.specs.Waits.Schedule.{schedule};
+ghost use Rattle.apply_events.specs.Waits.StartedTurns.{IsAppliedInTurns, WereStarted};
+ghost use Rattle.apply_events.specs.Waits.TimeLine.{IsTimeLine};
+ghost use Rattle.laws_run.specs.WaitingSteps.{AreWhole, BeginWhereAllIsDone, HasFewSteps, IsNext, LeaveOutNoneWithoutNeed, LeaveOutWhatWaitsInVain, NamesSteps, OnlyWarns, ComeAfterWhatTheyWaitFor, TakesAsLong, has_events, is_done_along, is_of_step, is_under_way, time_of_all};
+ghost use Rattle.laws_run.specs.ChangesUnderWay.{open_after};
+ghost use Rattle.laws_run.specs.StepsUnderWay.{open_steps_after, steps_on_both_sides, steps_under_way_at};
 
-use crate::steps_are_whole;
+/// Where no step names what it waits for, time lines are those of `time_lines_without_waits`.
+pub fn without_waits_changes_are_dealt_out()
+    ensures { (work : Work) (n : ℕ) (events : List Event) → 0 < n → has_waits work.script ≡ false
+        → (IsTimeLine work n events ↔ plain.IsTimeLine work n events) }
+{}
 
-/// Two time lines of the same work by as many lanes are equal.
-pub fn two_time_lines_are_equal()
+/// The schedule starts each turn that can begin, each turn when the turn is ready and its lane is
+/// free.
+pub fn the_schedule_starts_each_turn_that_can_begin()
+    ensures { (work : Work) (n : ℕ) → 0 < n → WereStarted work n (schedule work n) }
+{}
+
+/// A time line has the events of lanes that start turns one after another, and that may be idle
+/// between turns.
+pub fn a_time_line_is_applied_in_turns()
+    ensures { (work : Work) (n : ℕ) (events : List Event) → 0 < n → IsTimeLine work n events → IsAppliedInTurns work n events }
+{}
+
+/// A time line exists: `time_line` is one.
+pub fn there_is_a_time_line()
+    ensures { (work : Work) (n : ℕ) → 0 < n → IsTimeLine work n (time_line work n) }
+{}
+
+/// Two time lines of the same work by the same number of lanes are equal.
+pub fn time_lines_are_unique()
     ensures { (work : Work) (n : ℕ) (first second : List Event) → IsTimeLine work n first → IsTimeLine work n second
         → first ≡ second }
 {}
 
-/// The lanes deal out the plan's changes, each to one lane, and each lane has its changes in the plan's order.
-pub fn lanes_deal_out_the_changes()
-    ensures { (work : Work) (n : ℕ) → 0 < n → IsPartition n (length work.plan.changes) (lanes work n) }
-{}
-
-/// Moments never fall along a time line.
-pub fn moments_of_a_time_line_never_fall()
+/// The times of the events never fall along a time line.
+pub fn times_of_a_time_line_never_fall()
     ensures { (work : Work) (n : ℕ) (events : List Event) → IsTimeLine work n events
         → IsNonDecreasingBy (λ (event : Event). event.at) events }
 {}
 
-/// Along a time line a step begins at one moment, and what happens to it comes as long after that as it says: between
-/// its start and its end lie exactly the seconds that the end tells. So it is where steps wait for others, too.
-pub fn a_step_takes_the_seconds_that_it_tells()
-    ensures of_changes { (work : Work) (n change step : ℕ) (events : List Event) → IsTimeLine work n events
-        → HasOneBegin change step events }
-    ensures of_steps { (work : Work) (n change step : ℕ) (events : List Event) → waiting.IsTimeLine work n events
-        → HasOneBegin change step events }
+/// Each event of a step comes after every event of each step that it waits for.
+pub fn a_step_comes_after_what_it_waits_for()
+    ensures { (work : Work) (n : ℕ) (events : List Event) → 0 < n → HasFewSteps work → IsTimeLine work n events
+        → ComeAfterWhatTheyWaitFor work events }
+{}
+
+/// A step has events if and only if each step that it waits for is done.
+///
+/// `begins`: the step is not skipped, and has no skipped step before it in its change. `applied`:
+/// no other step has events.
+pub fn a_step_begins_exactly_where_its_waits_are_done()
+    ensures begins { (work : Work) (n : ℕ) (events : List Event) → 0 < n → HasFewSteps work → IsTimeLine work n events
+        → BeginWhereAllIsDone work events }
+    ensures applied { (work : Work) (n : ℕ) (events : List Event) → 0 < n → IsTimeLine work n events
+        → All (λ event. IsApplied work.plan work.script event.change event.step) events }
+{}
+
+/// A step that only warns, and that no hook halts, is done if it has events. So the steps that wait
+/// for it begin.
+pub fn a_step_that_only_warns_is_done()
+    ensures { (work : Work) (events : List Event) (name : Wait) (step : Step)
+        → slice_get (steps_of work name.change) name.step ≡ Some step → OnlyWarns step
+        → is_done_along work events name ≡ has_events events name }
+{}
+
+/// A step that could begin has no events if and only if the step is skipped or waits in vain. The
+/// script names steps of its plan alone.
+///
+/// A step waits in vain for a step that failed, was halted or is skipped, directly or through other
+/// steps. `without_need`: if no step failed, was halted or is skipped, each step that could begin
+/// has events.
+///
+/// `a_read_script_leaves_out_what_waits_in_vain` states this of a script that was read, without
+/// these premises.
+pub fn what_waits_in_vain_is_left_out()
+    ensures in_vain { (work : Work) (n : ℕ) (events : List Event) → 0 < n → HasFewSteps work → NamesSteps work
+        → IsTimeLine work n events → LeaveOutWhatWaitsInVain work events }
+    ensures without_need { (work : Work) (n : ℕ) (events : List Event) → 0 < n → HasFewSteps work → NamesSteps work
+        → IsTimeLine work n events → LeaveOutNoneWithoutNeed work events }
+{}
+
+/// A step that has events has all its events: those of a step that starts at one time in one lane.
+pub fn steps_are_whole()
+    ensures { (work : Work) (n : ℕ) (events : List Event) → 0 < n → IsTimeLine work n events → AreWhole work events }
+{}
+
+/// Which steps begin does not depend on the number of lanes.
+pub fn any_number_of_lanes_begins_the_same_steps()
+    ensures { (work : Work) (n m : ℕ) (events others : List Event) → 0 < n → 0 < m → HasFewSteps work
+        → IsTimeLine work n events → IsTimeLine work m others
+        → (name : Wait) → has_events events name ≡ has_events others name }
+{}
+
+/// No event of a time line comes later than the sum of the times of all steps that begin.
+pub fn a_time_line_ends_by_the_sum_of_all_times()
+    ensures { (work : Work) (n : ℕ) (events : List Event) → 0 < n → IsTimeLine work n events
+        → All (λ event. event.at ≤ time_of_all work (schedule work n)) events }
+{}
+
+/// A step takes at least as long as each chain of waits that ends with it.
+///
+/// `done`: a step is done no sooner than such a chain takes. `events`: a step with events ends no
+/// sooner, whether the step is done, has failed or was halted. So a time line is as long as each
+/// chain of waits of steps that begin.
+pub fn no_step_ends_before_its_chain_of_waits()
+    ensures done { (work : Work) (n : ℕ) (name : Wait) (at : LaneTime) (seconds : ℕ) → 0 < n → HasFewSteps work
+        → done_at work (schedule work n) name ≡ Some at → TakesAsLong work name seconds → seconds ≤ at.second }
+    ensures events { (work : Work) (n : ℕ) (events : List Event) (name : Wait) (seconds : ℕ) → 0 < n → HasFewSteps work
+        → IsTimeLine work n events → has_events events name ≡ true → TakesAsLong work name seconds
+        → (event : Event) × Contains events event × (is_of_step name event ≡ true) × (seconds ≤ event.at) }
 {
-    steps_are_whole();
+    the_schedule_starts_each_turn_that_can_begin();
 }
 
-/// With one lane it is all changes in order.
-pub fn one_lane_has_all_changes_in_order()
-    ensures { (work : Work) (events : List Event) → IsTimeLine work 1 events
-        → events ≡ worker_events work 0 (range_with_len 0 (length work.plan.changes)) }
+/// At no time are more turns under way than there are lanes.
+pub fn no_more_turns_are_under_way_than_lanes()
+    ensures { (work : Work) (n : ℕ) (at : LaneTime) → 0 < n → count_by (is_under_way work at) (schedule work n) ≤ n }
 {}
 
-/// It ends no later than all spans together.
-pub fn a_time_line_ends_by_the_sum_of_all_spans()
-    ensures { (work : Work) (n : ℕ) (events : List Event) → 0 < n → IsTimeLine work n events
-        → All (λ event. event.at ≤ sum_by (span_of work) (range_with_len 0 (length work.plan.changes))) events }
+/// A time line of a plan and a script that were read has at most 189,180,000 events. The hooks do
+/// not matter.
+///
+/// `of_plan`: each event is of a step of the plan, and comes within 10,000 times two days.
+pub fn a_time_line_has_few_events()
+    ensures few { (work : Work) (n : ℕ) (events : List Event) → 0 < n → IsWithinLimits work → IsTimeLine work n events
+        → length events ≤ max_events }
+    ensures of_plan { (work : Work) (n : ℕ) (events : List Event) → 0 < n → IsWithinLimits work → IsTimeLine work n events
+        → All (IsOfPlan work.plan) events }
 {}
 
-/// No more changes are under way at once than there are lanes: at no place of a time line more have a step that has
-/// started and is not over, and at no moment more have begun whose spans are not over. A step is over with its end, and one
-/// that only warns with its warning.
-pub fn no_more_changes_are_under_way_than_lanes()
-    ensures at_a_place { (work : Work) (n : ℕ) (front rest : List Event) → IsTimeLine work n (front ++ rest)
+/// The turn that is ready first starts first, in the lane that is free first, as soon as both are.
+/// The starts never fall.
+pub fn the_turn_that_is_ready_first_starts_first()
+    ensures { (work : Work) (n : ℕ) (later before : List StartedTurn) (one : StartedTurn) → 0 < n → schedule work n ≡ later ++ one ∷ before
+        → IsNext work n before one }
+{}
+
+/// At no time are more steps under way than there are lanes, nor more changes.
+///
+/// - `changes_at_a_place`: at each place of a time line at most N changes have started and are not
+///   over.
+/// - `steps_at_a_place`: at each place at most N steps have started and are not over. A step is
+///   over with its end, or with its warning if the step only warns.
+/// - `on_both_sides`: at most N steps have an event before the place and an event after it.
+/// - `at_a_moment`: at each time at most N steps have an event by then and a later event.
+pub fn no_more_steps_are_under_way_than_lanes()
+    ensures changes_at_a_place { (work : Work) (n : ℕ) (front rest : List Event) → IsTimeLine work n (front ++ rest)
         → open_after work front ≤ n }
-    ensures at_a_moment { (work : Work) (n moment : ℕ) → under_way work n moment ≤ n }
-{}
-
-/// No lane is idle while a change waits: at each moment at which all events of a change of the time line are still to
-/// come, each lane has a change with an event by then and one later. And the lane that has a change is free of its
-/// changes before that one no later than any other lane is, and earlier than any lower one.
-pub fn no_lane_is_idle_while_a_change_waits()
-    ensures at_a_moment { (work : Work) (n moment c lane : ℕ) (events : List Event) → IsTimeLine work n events
-        → IsTrue (waits_at moment c events) → lane < n
-        → (other : ℕ) × IsTrue (is_under_way_at moment other (of_worker lane events)) }
-    ensures lowest_first { (work : Work) (n lane other place : ℕ) → lane < n → other < n
-        → place < length (get_or (lanes work n) lane [])
-        → (free_before work (lanes work n) lane (get_or (get_or (lanes work n) lane []) place 0)
-        ≤ free_before work (lanes work n) other (get_or (get_or (lanes work n) lane []) place 0))
-        × (other < lane → free_before work (lanes work n) lane (get_or (get_or (lanes work n) lane []) place 0)
-        < free_before work (lanes work n) other (get_or (get_or (lanes work n) lane []) place 0)) }
-{}
-
-/// No time line ends earlier than the mean: with all events by some moment its lanes have had time for all spans. And so
-/// have lanes that are all free by some moment.
-pub fn no_end_comes_before_the_mean()
-    ensures of_events { (work : Work) (n end : ℕ) (events : List Event) → 0 < n → IsTimeLine work n events
-        → All (λ event. event.at ≤ end) events
-        → sum_by (span_of work) (range_with_len 0 (length work.plan.changes)) ≤ n * end }
-    ensures of_lanes { (work : Work) (n end : ℕ) → 0 < n
-        → ((lane : ℕ) → lane < n → sum_by (span_of work) (get_or (lanes work n) lane []) ≤ end)
-        → sum_by (span_of work) (range_with_len 0 (length work.plan.changes)) ≤ n * end }
+    ensures steps_at_a_place { (work : Work) (n : ℕ) (front rest : List Event) → IsTimeLine work n (front ++ rest)
+        → open_steps_after work front ≤ n }
+    ensures on_both_sides { (work : Work) (n : ℕ) (front rest : List Event) → IsTimeLine work n (front ++ rest)
+        → steps_on_both_sides work front rest ≤ n }
+    ensures at_a_moment { (work : Work) (n moment : ℕ) (events : List Event) → IsTimeLine work n events
+        → steps_under_way_at work moment events ≤ n }
 {}

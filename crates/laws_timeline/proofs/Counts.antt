@@ -1,4 +1,4 @@
--- Counting what passes, and the words of actions.
+-- Counts of elements that pass, and the words of actions.
 use Rattle.std.proofs.Common.{◌≡◌, ℕ, ◌+◌, ◌≤◌, List, [], ◌∷◌, ◌++◌, Bool, true, false, cond, map, Some, suc, zero, refl, sym, ap, ◌∙◌, ⊎_elim, arith, count_by}
 use Rattle.std.specs.Prelude.{◌&&◌}
 use Rattle.std.specs.Str.{bytes_eq}
@@ -7,7 +7,7 @@ use Rattle.std.proofs.lemmas.List.Sums.{sum_by-cons, sum_by_push}
 use Rattle.stream_check.specs.declared.messages.action.Action.{Action}
 use Rattle.stream_check.specs.declared.messages.action.Action.TheVariants.{Create, Update, Delete, Read, Refresh}
 use Rattle.stream_check.specs.Words.{action_word, same_action}
-use Rattle.stream_timeline.specs.Steps.{ToldStep, at_place, first_of, passes_at, places_from}
+use Rattle.stream_timeline.specs.Steps.{StepRead, at_place, first_of, passes_at, places_from}
 use Rattle.laws_timeline.proofs.Matching.{is_change}
 
 abbrev pub one_if : Bool → ℕ
@@ -73,18 +73,18 @@ count_cons p x xs = sum_by-cons (λ y. one_if (p y)) x xs
 pub count_push : {X : Type 0} (p : X → Bool) (xs : List X) (x : X) → count_by p (xs ++ x ∷ []) ≡ count_by p xs + one_if (p x)
 count_push p xs x = sum_by_push (λ y. one_if (p y)) xs x
 
-pub kept_at : (p : ToldStep → Bool) (f : ToldStep → ToldStep) → ((s : ToldStep) → p (f s) ≡ p s) → (i : ℕ) (xs : List ToldStep) → count_by p (at_place i f xs) ≡ count_by p xs
-kept_at p f same i [] = refl
-kept_at p f same zero (x ∷ xs) = count_cons p (f x) xs ∙ (ap (λ b. one_if b + count_by p xs) (same x) ∙ sym (count_cons p x xs))
-kept_at p f same (suc i) (x ∷ xs) =
-    count_cons p x (at_place i f xs) ∙ (ap (λ (n : ℕ). one_if (p x) + n) (kept_at p f same i xs) ∙ sym (count_cons p x xs))
+pub preserved_at : (p : StepRead → Bool) (f : StepRead → StepRead) → ((s : StepRead) → p (f s) ≡ p s) → (i : ℕ) (xs : List StepRead) → count_by p (at_place i f xs) ≡ count_by p xs
+preserved_at p f same i [] = refl
+preserved_at p f same zero (x ∷ xs) = count_cons p (f x) xs ∙ (ap (λ b. one_if b + count_by p xs) (same x) ∙ sym (count_cons p x xs))
+preserved_at p f same (suc i) (x ∷ xs) =
+    count_cons p x (at_place i f xs) ∙ (ap (λ (n : ℕ). one_if (p x) + n) (preserved_at p f same i xs) ∙ sym (count_cons p x xs))
 
-pub kept_all : (p : ToldStep → Bool) (f : ToldStep → ToldStep) → ((s : ToldStep) → p (f s) ≡ p s) → (xs : List ToldStep) → count_by p (map f xs) ≡ count_by p xs
-kept_all p f same [] = refl
-kept_all p f same (x ∷ xs) =
-    count_cons p (f x) (map f xs) ∙ (ap (λ b. one_if b + count_by p (map f xs)) (same x) ∙ (ap (λ (n : ℕ). one_if (p x) + n) (kept_all p f same xs) ∙ sym (count_cons p x xs)))
+pub preserved_all : (p : StepRead → Bool) (f : StepRead → StepRead) → ((s : StepRead) → p (f s) ≡ p s) → (xs : List StepRead) → count_by p (map f xs) ≡ count_by p xs
+preserved_all p f same [] = refl
+preserved_all p f same (x ∷ xs) =
+    count_cons p (f x) (map f xs) ∙ (ap (λ b. one_if b + count_by p (map f xs)) (same x) ∙ (ap (λ (n : ℕ). one_if (p x) + n) (preserved_all p f same xs) ∙ sym (count_cons p x xs)))
 
-pub changed_at : (p test : ToldStep → Bool) (f : ToldStep → ToldStep) (before after : Bool) → ((s : ToldStep) → test s ≡ true → (p s ≡ before) × (p (f s) ≡ after)) → (i : ℕ) (xs : List ToldStep)
+pub changed_at : (p test : StepRead → Bool) (f : StepRead → StepRead) (before after : Bool) → ((s : StepRead) → test s ≡ true → (p s ≡ before) × (p (f s) ≡ after)) → (i : ℕ) (xs : List StepRead)
     → passes_at i test xs ≡ true → count_by p (at_place i f xs) + one_if before ≡ count_by p xs + one_if after
 changed_at p test f before after h i [] e = absurd cc
 changed_at p test f before after h zero (x ∷ xs) e =
@@ -100,11 +100,11 @@ changed_at p test f before after h (suc i) (x ∷ xs) e =
     let old = count_cons p x xs in
     omega (arith, rest, new, old)
 
-skip_first : (p : ToldStep → Bool) (n i : ℕ) (x : ToldStep) (xs : List ToldStep) → p x ≡ false → first_of (places_from (n + 1) p xs) ≡ Some i → first_of (places_from n p (x ∷ xs)) ≡ Some i
+skip_first : (p : StepRead → Bool) (n i : ℕ) (x : StepRead) (xs : List StepRead) → p x ≡ false → first_of (places_from (n + 1) p xs) ≡ Some i → first_of (places_from n p (x ∷ xs)) ≡ Some i
 skip_first p n i x xs out e = rw out e
 
 -- where some pass, there is a first one
-pub first_some : (p : ToldStep → Bool) (n : ℕ) (xs : List ToldStep) → 1 ≤ count_by p xs → (i : ℕ) × (first_of (places_from n p xs) ≡ Some i)
+pub first_some : (p : StepRead → Bool) (n : ℕ) (xs : List StepRead) → 1 ≤ count_by p xs → (i : ℕ) × (first_of (places_from n p xs) ≡ Some i)
 first_some p n [] l = absurd (omega arith)
 first_some p n (x ∷ xs) l =
     ⊎_elim

@@ -5,7 +5,7 @@ pub mod DiagnosticBytes
 pub mod Held
 pub mod InSpan
 pub mod ItsLines
-pub mod KeptBytes
+pub mod StoredBytes
 pub mod Looking
 pub mod Matching
 pub mod NumberLaws

@@ -7,7 +7,7 @@ use Rattle.stream_check.specs.declared.messages.path.Path.{Path}
 use Rattle.stream_check.specs.declared.messages.path.Path.TheVariants as path
 use Rattle.stream_check.specs.declared.rules.fault.Fault.{Fault}
 use Rattle.stream_check.specs.declared.rules.fault.Fault.TheVariants.{Malformed}
-use Rattle.stream_check.specs.declared.messages.lack.Lack.TheVariants.{NoText}
+use Rattle.stream_check.specs.declared.messages.member_fault.MemberFault.TheVariants.{NoText}
 use Rattle.stream_check.specs.Members.{as_container, object_at, text_at, there}
 use Rattle.stream_check.specs.Message.{hook_address_of, subject_of}
 use Rattle.stream_check.specs.Results.{◌>>=◌, or_refuse}
@@ -30,8 +30,8 @@ object_is container (string s) h e = absurd cc
 object_is container (array ds) h e = absurd cc
 object_is container (object ms) h e = ap Some (same_ok (object ms) h e)
 
-pub object_found : (member : Path) (name : List ℕ) (container : Path) (d h : Data) → object_at member name container d ≡ Ok h → tree.member_of name d ≡ Some h
-object_found member name container d h e = each (get name d) e where
+pub object_located : (member : Path) (name : List ℕ) (container : Path) (d h : Data) → object_at member name container d ≡ Ok h → tree.member_of name d ≡ Some h
+object_located member name container d h e = each (get name d) e where
   each : (o : Option Data) → (there member o >>= as_container container) ≡ Ok h → tree.◌>>=◌ o tree.unless_null ≡ Some h
   each None f = absurd cc
   each (Some x) f = object_is container x h f
@@ -44,9 +44,9 @@ text_is member (string t) s e = ap Some (same_ok t s e)
 text_is member (array ds) s e = absurd cc
 text_is member (object ms) s e = absurd cc
 
-pub text_found : (member : Path) (name : List ℕ) (d : Data) (s : List ℕ) → text_at member name d ≡ Ok s → tree.text_of name d ≡ Some s
-text_found member name d s e = each (get name d) e where
-  each : (o : Option Data) → (there member o >>= λ found. or_refuse (Malformed member NoText) (as_str found)) ≡ Ok s → tree.◌>>=◌ (tree.◌>>=◌ o tree.unless_null) as_str ≡ Some s
+pub text_located : (member : Path) (name : List ℕ) (d : Data) (s : List ℕ) → text_at member name d ≡ Ok s → tree.text_of name d ≡ Some s
+text_located member name d s e = each (get name d) e where
+  each : (o : Option Data) → (there member o >>= λ value. or_refuse (Malformed member NoText) (as_str value)) ≡ Ok s → tree.◌>>=◌ (tree.◌>>=◌ o tree.unless_null) as_str ≡ Some s
   each None f = absurd cc
   each (Some x) f = text_is member x s f
 
@@ -60,26 +60,26 @@ pub record Subject (d : Data) (s : List ℕ × List ℕ) : Type 0 where
 same_subject : (x y : List ℕ × List ℕ) (a w : List ℕ) → (let r : Result (List ℕ × List ℕ) Fault = Ok (a, w) in let t : Result (List ℕ × List ℕ) Fault = Ok y in r ≡ t) → (a ≡ y.0) × (w ≡ y.1)
 same_subject x y a w e = let same : (a, w) ≡ y = same_ok (a, w) y e in (ap (λ (p : List ℕ × List ℕ). p.0) same, ap (λ (p : List ℕ × List ℕ). p.1) same)
 
-pub subject_found : (d hook : Data) (s : List ℕ × List ℕ) → object_at path.Address (codes "hook") path.Hook d ≡ Ok hook → subject_of hook ≡ Ok s → Subject d s
-subject_found d hook s h e =
-    let there = object_found path.Address (codes "hook") path.Hook d hook h in
+pub subject_located : (d hook : Data) (s : List ℕ × List ℕ) → object_at path.Address (codes "hook") path.Hook d ≡ Ok hook → subject_of hook ≡ Ok s → Subject d s
+subject_located d hook s h e =
+    let there = object_located path.Address (codes "hook") path.Hook d hook h in
     let b1 = bind_ok (object_at path.Address (codes "resource") path.Resource hook) _ s e in
     let b2 = bind_ok (text_at path.Address (codes "addr") b1.0) _ s b1.2 in
     let b3 = bind_ok (text_at path.Action (codes "action") hook) _ s b2.2 in
-    let resource = object_found path.Address (codes "resource") path.Resource hook b1.0 b1.1 in
-    let address = text_found path.Address (codes "addr") b1.0 b2.0 b2.1 in
-    let action = text_found path.Action (codes "action") hook b3.0 b3.1 in
+    let resource = object_located path.Address (codes "resource") path.Resource hook b1.0 b1.1 in
+    let address = text_located path.Address (codes "addr") b1.0 b2.0 b2.1 in
+    let action = text_located path.Action (codes "action") hook b3.0 b3.1 in
     let parts = same_subject s s b2.0 b3.0 b3.2 in
     record {
       address = rw (there, resource, address) (ap Some parts.0);
       action = rw (there, action) (ap Some parts.1);
     }
 
-pub hook_address_found : (d : Data) (a : List ℕ) → hook_address_of d ≡ Ok a → address_of d ≡ Some a
-hook_address_found d a e =
+pub hook_address_located : (d : Data) (a : List ℕ) → hook_address_of d ≡ Ok a → address_of d ≡ Some a
+hook_address_located d a e =
     let b1 = bind_ok (object_at path.Address (codes "hook") path.Hook d) _ a e in
     let b2 = bind_ok (object_at path.Address (codes "resource") path.Resource b1.0) _ a b1.2 in
-    let hook = object_found path.Address (codes "hook") path.Hook d b1.0 b1.1 in
-    let resource = object_found path.Address (codes "resource") path.Resource b1.0 b2.0 b2.1 in
-    let address = text_found path.Address (codes "addr") b2.0 a b2.2 in
+    let hook = object_located path.Address (codes "hook") path.Hook d b1.0 b1.1 in
+    let resource = object_located path.Address (codes "resource") path.Resource b1.0 b2.0 b2.1 in
+    let address = text_located path.Address (codes "addr") b2.0 a b2.2 in
     rw (hook, resource) address

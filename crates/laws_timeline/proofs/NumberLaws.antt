@@ -33,7 +33,7 @@ no_part : (x y : Bool) (n : ℕ) → y ≡ false → cond (x && y) n 0 ≡ 0
 no_part true y n e = rw e refl
 no_part false y n e = refl
 
--- behind its end nothing of it is left
+-- after the end of an interval nothing of it is left
 none_left : (i : Interval) (a : ℕ) (cs : List ℕ) → Ascends (a ∷ cs) → i.end ≤ a → between_from (part i) a cs ≡ 0
 none_left i a [] up l = refl
 none_left i a (b ∷ cs) up l =
@@ -51,14 +51,14 @@ has_at_least m a (c ∷ cs) h e =
     (λ (there : has m cs ≡ true). has_at_least m a cs h.1 there)
     (or_cases (eqb m c) (has m cs) e)
 
-at_or_behind : (m b : ℕ) (cs : List ℕ) → Above b cs → has m (b ∷ cs) ≡ true → b ≤ m
-at_or_behind m b cs h e =
+at_or_after : (m b : ℕ) (cs : List ℕ) → Above b cs → has m (b ∷ cs) ≡ true → b ≤ m
+at_or_after m b cs h e =
     ⊎_elim
     (λ (yes : eqb m b ≡ true). let same : m ≡ b = eqb-true m b yes in omega arith)
     (λ (there : has m cs ≡ true). let more = has_at_least m b cs h there in omega (arith, more))
     (or_cases (eqb m b) (has m cs) e)
 
--- from a moment on at which it is under way
+-- from a time on at which the interval runs
 left_from : (i : Interval) (a : ℕ) (cs : List ℕ) → Ascends (a ∷ cs) → i.begin ≤ a → has i.end (a ∷ cs) ≡ true → between_from (part i) a cs ≡ i.end - a
 left_from i a [] up l e =
     ⊎_elim
@@ -74,7 +74,7 @@ left_from i a (b ∷ cs) up l e =
     omega (arith, none))
     (λ (there : has i.end (b ∷ cs) ≡ true).
     let rest = left_from i b cs up.1 (omega arith) there in
-    let on : b ≤ i.end = at_or_behind i.end b cs up.1.0 there in
+    let on : b ≤ i.end = at_or_after i.end b cs up.1.0 there in
     let here : part i a b ≡ b - a = rw (le-leb i.begin a l, le-leb b i.end on) refl in
     omega (arith, here, rest))
     (or_cases (eqb i.end a) (has i.end (b ∷ cs)) e)
@@ -99,7 +99,7 @@ whole i a (c ∷ cs) up o b e =
     (λ (yes : eqb i.begin a ≡ true). let same : i.begin ≡ a = eqb-true i.begin a yes in left_from i a (c ∷ cs) up (omega arith) e ∙ ap (λ n. i.end - n) (sym same))
     (λ (there : has i.begin (c ∷ cs) ≡ true).
     let less : a < c = up.0.0 in
-    let on : c ≤ i.begin = at_or_behind i.begin c cs up.1.0 there in
+    let on : c ≤ i.begin = at_or_after i.begin c cs up.1.0 there in
     let ends : has i.end (c ∷ cs) ≡ true = not_first i.end a c cs (omega arith) e in
     let rest = whole i c cs up.1 o there ends in
     let here : part i a c ≡ 0 = rw (lt-leb i.begin a (omega arith)) refl in

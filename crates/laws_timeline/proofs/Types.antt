@@ -1,4 +1,4 @@
--- What a message of each type says to both.
+-- What a message of each type states, as both read it.
 use Rattle.std.proofs.Common.{◌≡◌, ℕ, List, codes, Bool, true, false, Option, Some, None, Ok, refl, sym, subst, ⊎_elim}
 use Rattle.std.specs.Prelude.{◌||◌}
 use Rattle.std.specs.Option.{option_map_or}
@@ -7,7 +7,7 @@ use Rattle.std.proofs.lemmas.Bool.{cases_Bool}
 use Rattle.serde_json.specs.Data.{Data}
 use Rattle.stream_check.specs.declared.messages.action.Action.{Action}
 use Rattle.stream_check.specs.declared.messages.action.Action.TheVariants.{Create, Update, Delete, Read, Refresh}
-use Rattle.stream_check.specs.declared.messages.stage.Stage.TheVariants as stage
+use Rattle.stream_check.specs.declared.messages.timed_stage.Stage.TheVariants as stage
 use Rattle.stream_check.specs.Message as check
 use Rattle.stream_check.specs.Words.{action_word}
 use Rattle.stream_timeline.specs.Messages as view
@@ -19,11 +19,11 @@ use Rattle.laws_timeline.proofs.Matching.{Harmless, Matches, is_change, same_tex
 -- ---- by the type
 
 abbrev At : List ℕ → Type 0
-At name = (d : Data) (m : check.Message) → check.typed_message name d ≡ Ok m → Matches m (view.said_of name d)
+At name = (d : Data) (m : check.Message) → check.typed_message name d ≡ Ok m → Matches m (view.content_of name d)
 
 at_version : At (codes "version")
 unfolding check.typed_message
-at_version = λ d m e. subst (λ n. Matches n (view.said_of (codes "version") d)) (same_ok check.version m e) tt
+at_version = λ d m e. subst (λ n. Matches n (view.content_of (codes "version") d)) (same_ok check.version m e) tt
 
 at_start : At (codes "apply_start")
 unfolding check.typed_message
@@ -51,35 +51,35 @@ at_refresh_complete = λ d m e. refresh_ends d m e
 
 at_provision_start : At (codes "provision_start")
 unfolding check.typed_message
-at_provision_start = λ d m e. provision_plain stage.Start d m e (view.said_of (codes "provision_start") d) (harmless_provisioner_begin d)
+at_provision_start = λ d m e. provision_plain stage.Start d m e (view.content_of (codes "provision_start") d) (harmless_provisioner_begin d)
 
 at_provision_progress : At (codes "provision_progress")
 unfolding check.typed_message
-at_provision_progress = λ d m e. provision_plain stage.Progress d m e (view.said_of (codes "provision_progress") d) tt
+at_provision_progress = λ d m e. provision_plain stage.Progress d m e (view.content_of (codes "provision_progress") d) tt
 
 at_provision_complete : At (codes "provision_complete")
 unfolding check.typed_message
-at_provision_complete = λ d m e. provision_plain stage.Complete d m e (view.said_of (codes "provision_complete") d) (harmless_provisioner_end false d)
+at_provision_complete = λ d m e. provision_plain stage.Complete d m e (view.content_of (codes "provision_complete") d) (harmless_provisioner_end false d)
 
 at_provision_errored : At (codes "provision_errored")
 unfolding check.typed_message
-at_provision_errored = λ d m e. provision_plain stage.Errored d m e (view.said_of (codes "provision_errored") d) (harmless_provisioner_end true d)
+at_provision_errored = λ d m e. provision_plain stage.Errored d m e (view.content_of (codes "provision_errored") d) (harmless_provisioner_end true d)
 
 at_planned : At (codes "planned_change")
 unfolding check.typed_message
-at_planned = λ d m e. planned_plain d m e (view.said_of (codes "planned_change") d) tt
+at_planned = λ d m e. planned_plain d m e (view.content_of (codes "planned_change") d) tt
 
 at_summary : At (codes "change_summary")
 unfolding check.typed_message
-at_summary = λ d m e. summary_plain d m e (view.said_of (codes "change_summary") d) (harmless_summary d)
+at_summary = λ d m e. summary_plain d m e (view.content_of (codes "change_summary") d) (harmless_summary d)
 
 at_diagnostic : At (codes "diagnostic")
 unfolding check.typed_message
-at_diagnostic = λ d m e. diagnostic_plain d m e (view.said_of (codes "diagnostic") d) (harmless_diagnostic d)
+at_diagnostic = λ d m e. diagnostic_plain d m e (view.content_of (codes "diagnostic") d) (harmless_diagnostic d)
 
 at_outputs : At (codes "outputs")
 unfolding check.typed_message
-at_outputs = λ d m e. subst (λ n. Matches n (view.said_of (codes "outputs") d)) (same_ok check.outputs m e) tt
+at_outputs = λ d m e. subst (λ n. Matches n (view.content_of (codes "outputs") d)) (same_ok check.outputs m e) tt
 
 -- of another type, and not about an ephemeral operation
 record IsOther (name : List ℕ) : Type 0 where
@@ -110,9 +110,9 @@ unfolding check.typed_message
 at_other name lasting h = λ d m e.
     let none = neither (bytes_eq name (codes "ephemeral_op_start")) (bytes_eq name (codes "ephemeral_op_complete")) (bytes_eq name (codes "ephemeral_op_errored")) lasting in
     let is = rw (h.version, h.start, h.progress, h.complete, h.errored, h.refresh_start, h.refresh_complete, h.provision_start, h.provision_progress, h.provision_complete, h.provision_errored, h.planned, h.summary, h.diagnostic, h.outputs) at e in
-    let other : view.said_of name d ≡ view.other =
+    let other : view.content_of name d ≡ view.other =
     rw (h.start, none.0, h.complete, none.1, h.errored, none.2, h.refresh_start, h.refresh_complete, h.provision_start, h.provision_complete, h.provision_errored, h.diagnostic, h.version, h.summary) refl in
-    subst (λ n. Matches n (view.said_of name d)) (same_ok check.other m is) (subst Harmless (sym other) tt)
+    subst (λ n. Matches n (view.content_of name d)) (same_ok check.other m is) (subst Harmless (sym other) tt)
 
 -- a type by itself, or another
 split : (name word : List ℕ) → At word → (bytes_eq name word ≡ false → At name) → At name
@@ -171,32 +171,32 @@ TellsNoChange d = option_map_or words.is_change (view.hook_text (codes "action")
 
 harmless_begin : (d : Data) → TellsNoChange d → Harmless (view.begin_of d)
 harmless_begin d e = each (view.address_of d) (view.hook_text (codes "action") d) e where
-  each : (a w : Option (List ℕ)) → option_map_or words.is_change w false ≡ false → Harmless (option_map_or (λ address. option_map_or (λ action. view.begins address action) w view.lacking) a view.lacking)
+  each : (a w : Option (List ℕ)) → option_map_or words.is_change w false ≡ false → Harmless (option_map_or (λ address. option_map_or (λ action. view.begins address action) w view.unusable) a view.unusable)
   each None w f = tt
   each (Some a) None f = tt
   each (Some a) (Some w) f = no_change w f
 
 harmless_end : (failed : Bool) (d : Data) → TellsNoChange d → Harmless (view.end_of failed d)
 harmless_end failed d e = each (view.address_of d) (view.hook_text (codes "action") d) e where
-  each : (a w : Option (List ℕ)) → option_map_or words.is_change w false ≡ false → Harmless (option_map_or (λ address. option_map_or (λ action. view.ends address action failed) w view.lacking) a view.lacking)
+  each : (a w : Option (List ℕ)) → option_map_or words.is_change w false ≡ false → Harmless (option_map_or (λ address. option_map_or (λ action. view.ends address action failed) w view.unusable) a view.unusable)
   each None w f = tt
   each (Some a) None f = tt
   each (Some a) (Some w) f = no_change w f
 
 abbrev AtEphemeral : List ℕ → Type 0
-AtEphemeral name = (d : Data) (m : check.Message) → TellsNoChange d → check.typed_message name d ≡ Ok m → Matches m (view.said_of name d)
+AtEphemeral name = (d : Data) (m : check.Message) → TellsNoChange d → check.typed_message name d ≡ Ok m → Matches m (view.content_of name d)
 
 at_ephemeral_start : AtEphemeral (codes "ephemeral_op_start")
 unfolding check.typed_message
-at_ephemeral_start = λ d m none e. subst (λ n. Matches n (view.said_of (codes "ephemeral_op_start") d)) (same_ok check.other m e) (harmless_begin d none)
+at_ephemeral_start = λ d m none e. subst (λ n. Matches n (view.content_of (codes "ephemeral_op_start") d)) (same_ok check.other m e) (harmless_begin d none)
 
 at_ephemeral_complete : AtEphemeral (codes "ephemeral_op_complete")
 unfolding check.typed_message
-at_ephemeral_complete = λ d m none e. subst (λ n. Matches n (view.said_of (codes "ephemeral_op_complete") d)) (same_ok check.other m e) (harmless_end false d none)
+at_ephemeral_complete = λ d m none e. subst (λ n. Matches n (view.content_of (codes "ephemeral_op_complete") d)) (same_ok check.other m e) (harmless_end false d none)
 
 at_ephemeral_errored : AtEphemeral (codes "ephemeral_op_errored")
 unfolding check.typed_message
-at_ephemeral_errored = λ d m none e. subst (λ n. Matches n (view.said_of (codes "ephemeral_op_errored") d)) (same_ok check.other m e) (harmless_end true d none)
+at_ephemeral_errored = λ d m none e. subst (λ n. Matches n (view.content_of (codes "ephemeral_op_errored") d)) (same_ok check.other m e) (harmless_end true d none)
 
 ephemeral_by : (name : List ℕ) (a b c : Bool) → bytes_eq name (codes "ephemeral_op_start") ≡ a → bytes_eq name (codes "ephemeral_op_complete") ≡ b → bytes_eq name (codes "ephemeral_op_errored") ≡ c
     → (a || (b || c)) ≡ true → AtEphemeral name
@@ -205,7 +205,7 @@ ephemeral_by name false true c x y z e = subst AtEphemeral (sym (same_text name 
 ephemeral_by name false false true x y z e = subst AtEphemeral (sym (same_text name (codes "ephemeral_op_errored") z)) at_ephemeral_errored
 ephemeral_by name false false false x y z e = absurd cc
 
-pub matched : (name : List ℕ) (d : Data) (m : check.Message) → (is_ephemeral name ≡ true → TellsNoChange d) → check.typed_message name d ≡ Ok m → Matches m (view.said_of name d)
+pub matched : (name : List ℕ) (d : Data) (m : check.Message) → (is_ephemeral name ≡ true → TellsNoChange d) → check.typed_message name d ≡ Ok m → Matches m (view.content_of name d)
 matched name d m lasting e =
     ⊎_elim
     (λ (yes : is_ephemeral name ≡ true).

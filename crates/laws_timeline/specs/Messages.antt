@@ -1,20 +1,20 @@
--- What the laws of what is told speak of.
+-- What the laws of the time line are about.
 use Rattle.std.specs.Prelude.{◌≡◌, ◌<◌, ℕ, ◌-◌, ℤ, get_or, List, [], Bool, true, false, if◌then◌else◌, Option, Some, None, IfSome}
 use Rattle.std.specs.Int.{int_max}
 use Rattle.std.specs.Option.{option_map_or}
-use Rattle.stream_timeline.specs.Messages.{Message, Said, begins, ends, begins_provisioner, ends_provisioner, error, warning, version, plan_summary, summary, other, lacking, message_of}
-use Rattle.stream_timeline.specs.Steps.{ToldStep, places_from}
-use Rattle.stream_timeline.specs.Telling.{is_blank_line}
+use Rattle.stream_timeline.specs.Messages.{Message, Content, begins, ends, begins_provisioner, ends_provisioner, error, warning, version, plan_summary, summary, other, unusable, message_of}
+use Rattle.stream_timeline.specs.Steps.{StepRead, places_from}
+use Rattle.stream_timeline.specs.TimelineRead.{is_blank_line}
 
--- the message that a line is; one that is blank is none
+-- the message in a line; a blank line has none
 abbrev pub message_in : List ℕ → Option Message
 message_in line = if is_blank_line line then None else message_of line
 
--- that of the line of that number, from 1 on
+-- the message in the line with this number, counted from 1
 abbrev pub message_at : List (List ℕ) → (number : ℕ) → Option Message
 message_at lines number = message_in (get_or lines (number - 1) [])
 
-abbrev pub is_begin : Said → Bool
+abbrev pub is_begin : Content → Bool
 is_begin (begins address action) = true
 is_begin (ends address action failed) = false
 is_begin (begins_provisioner address name) = false
@@ -25,22 +25,23 @@ is_begin (version text) = false
 is_begin plan_summary = false
 is_begin (summary totals) = false
 is_begin other = false
-is_begin lacking = false
+is_begin unusable = false
 
-abbrev pub begins_step : List ℕ → Bool
-begins_step line = option_map_or (λ (message : Message). is_begin message.said) (message_in line) false
+abbrev pub starts_step : List ℕ → Bool
+starts_step line = option_map_or (λ (message : Message). is_begin message.content) (message_in line) false
 
--- the numbers of the lines that begin a step, from 1 on
+-- the numbers of the lines that begin a step, counted from 1
 abbrev pub begin_lines : List (List ℕ) → List ℕ
-begin_lines lines = places_from 1 begins_step lines
+begin_lines lines = places_from 1 starts_step lines
 
-abbrev pub says : ℤ → Said → Option Message
-says moment said = Some (record { moment = moment; said = said })
+abbrev pub says : ℤ → Content → Option Message
+says time content = Some (record { time = time; content = content })
 
--- It begins at the moment of its line, which begins a step of its address and action. Where an end is told, a later
--- line ends one of these and says whether it failed, and it ends at that moment, but no sooner than it begins.
-pub record IsOfItsLines (lines : List (List ℕ)) (step : ToldStep) : Type 0 where
+-- The step begins at the time of its line, and that line begins a step with its address and action.
+-- If the step has an end, a later line ends a step with this address and action, and states whether
+-- it failed. The end is the time of that line, but not before the begin.
+pub record IsOfItsLines (lines : List (List ℕ)) (step : StepRead) : Type 0 where
   pub begin : message_at lines step.line ≡ says step.begin (begins step.address step.action)
-  pub end : IfSome step.end (λ told. (number : ℕ) × (moment : ℤ) × (step.line < number)
-      × (message_at lines number ≡ says moment (ends step.address step.action step.failed))
-      × (told ≡ int_max step.begin moment))
+  pub end : IfSome step.end (λ timeline. (number : ℕ) × (time : ℤ) × (step.line < number)
+      × (message_at lines number ≡ says time (ends step.address step.action step.failed))
+      × (timeline ≡ int_max step.begin time))

@@ -1,18 +1,18 @@
-//! Laws of rows and of bars. Each function does nothing; its contract is the law.
+//! Laws of rows and bars. Each function does nothing; its contract is the law.
 
 ghost use Rattle.std.specs.Prelude.{◌≡◌, ◌≤◌, ◌++◌, ℕ, List, Option};
 ghost use Rattle.std.specs.List.Sorted.{IsPermutation};
 ghost use Rattle.stream_timeline.specs.Bars.{end_half, first_half, place_on};
 ghost use Rattle.stream_timeline.specs.Rows.{chosen, left_out};
-ghost use Rattle.stream_timeline.specs.declared.rows.candidate.Candidate.{Candidate as candidate};
+ghost use Rattle.stream_timeline.specs.declared.rows.choosing.Candidate.{Candidate as candidate};
 
-/// The steps that get a row and those that get none are all of them.
+/// The steps with a row and the steps without one are all steps.
 pub fn shown_and_left_out_are_all()
     ensures { (limit : Option ℕ) (span : ℕ) (all : List candidate)
         → IsPermutation all (chosen limit span all ++ left_out limit span all) }
 {}
 
-/// Of two moments the one that is no later stands no further on a line, also in halves of cells.
+/// A time that is no later than another has no later place on an axis, in halves of cells too.
 pub fn what_comes_no_later_stands_no_further()
     ensures place { (width span sooner later : ℕ) → sooner ≤ later
         → place_on width span sooner ≤ place_on width span later }

@@ -1,5 +1,5 @@
--- A tree, and the one that a run reads of the same text, in which the members of some names are their own texts: what a script's
--- reader looks at is the same in both.
+-- The tree of a script, and the tree that a run reads of the same text. In the second, some members
+-- are stored as their own texts. What the reader of a script looks at is the same in both.
 use Rattle.std.proofs.Common.{◌≡◌, ℕ, List, [], ◌∷◌, Bool, true, false, ◌==◌, is_some, Option, Some, None, option_map, option_and_then, refl, sym, ap, subst, ◌∙◌, if◌then◌else◌, ⊎_elim, Ordering, Less, Equal, Greater}
 use Rattle.std.specs.Prelude.{codes, slice_index}
 use Rattle.std.specs.Ordering.{nat_cmp, match_ordering}
@@ -20,18 +20,18 @@ use Rattle.json.proofs.Numbered.{ArePrintableOrBad-tokens, value-HasNumbers}
 use Rattle.serde_json.specs.Data.{Data, null, boolean, number, string, array, object, Items, no_items, item, Members, no_members, member, put}
 use Rattle.serde_json.specs.Find.{as_bool, as_number, as_object, as_str, get, get_member}
 use Rattle.serde_json.specs.Read.{max_depth, number_of, of_items, of_json, of_members, read}
-use Rattle.apply_json.specs.Keeping.{as_own_text, keeping, keeping_items, keeping_member, keeping_members, keeping_tree_of, own_text}
-use Rattle.apply_json.proofs.Keeping.{no_item, no_value}
+use Rattle.apply_json.specs.Verbatim.{as_verbatim, mixed_tree, mixed_items, mixed_member, mixed_members, mixed_tree_of, verbatim}
+use Rattle.apply_json.proofs.VerbatimValues.{no_item, no_value}
 use Rattle.apply_json.specs.Tree.{◌>>=◌, member_of, tree_of, unless_null}
-use Rattle.apply_plan.specs.Script.Entry.{is_kept, object_or_none, object_text}
-use Rattle.input_validate.specs.declared.findings.want.Want.TheVariants as want
-use Rattle.input_validate.specs.Wants.{is_met}
+use Rattle.apply_plan.specs.Script.Entry.{is_verbatim_name, object_or_none, object_text}
+use Rattle.input_validate.specs.declared.findings.expected.Expected.TheVariants as expected
+use Rattle.input_validate.specs.Expectations.{is_met}
 
 -- ---- the relation
 
--- the text is that of an object, or of nothing, where the value is
+-- the text is the text of an object if the value is an object, or absent if the value is
 abbrev pub IsOwn : Data → Data → Type 0
-IsOwn d e = is_met want.ObjectOrAbsent (unless_null d) ≡ is_some (object_or_none (unless_null e))
+IsOwn d e = is_met expected.ObjectOrAbsent (unless_null d) ≡ is_some (object_or_none (unless_null e))
 
 abbrev mutual
   pub Alike : Data → Data → Type 0
@@ -48,11 +48,11 @@ abbrev mutual
 
   pub AlikeMembers : Members → Members → Type 0
   AlikeMembers no_members ns = ns ≡ no_members
-  AlikeMembers (member l d ms) ns = (e : Data) × (others : Members) × (ns ≡ member l e others) × (is_kept l ≡ false → Alike d e) × (is_kept l ≡ true → IsOwn d e) × AlikeMembers ms others
+  AlikeMembers (member l d ms) ns = (e : Data) × (others : Members) × (ns ≡ member l e others) × (is_verbatim_name l ≡ false → Alike d e) × (is_verbatim_name l ≡ true → IsOwn d e) × AlikeMembers ms others
 
 -- the values of a member of that name
 abbrev AlikeMember : List ℕ → Data → Data → Type 0
-AlikeMember l d e = (is_kept l ≡ false → Alike d e) × (is_kept l ≡ true → IsOwn d e)
+AlikeMember l d e = (is_verbatim_name l ≡ false → Alike d e) × (is_verbatim_name l ≡ true → IsOwn d e)
 
 -- ---- members are put in
 
@@ -61,7 +61,7 @@ by_order : (o : Ordering) (k l : List ℕ) (d e x y : Data) (ms ns : Members) �
 by_order Less k l d e x y ms ns same one other rest behind = (e, member l y ns, refl, one.0, one.1, (y, ns, refl, other.0, other.1, rest))
 by_order Equal k l d e x y ms ns same one other rest behind =
     let name : k ≡ l = same refl in
-    (e, ns, refl, (λ not. one.0 (ap is_kept name ∙ not)), (λ is. one.1 (ap is_kept name ∙ is)), rest)
+    (e, ns, refl, (λ not. one.0 (ap is_verbatim_name name ∙ not)), (λ is. one.1 (ap is_verbatim_name name ∙ is)), rest)
 by_order Greater k l d e x y ms ns same one other rest behind = (y, put k e ns, refl, other.0, other.1, behind)
 
 put_alike : (k : List ℕ) (d e : Data) (ms ns : Members) → AlikeMember k d e → AlikeMembers ms ns → AlikeMembers (put k d ms) (put k e ns)
@@ -105,7 +105,7 @@ no_word s is =
     ⊎_elim (λ (yes : bytes_eq s (codes "null") ≡ true). let same : s ≡ codes "null" = (bytes_eq-Decides s (codes "null")).0 yes in absurd (let never : after_number (codes "null") ≡ Some [] = ap after_number (sym same) ∙ is in cc))
     (λ (no : bytes_eq s (codes "null") ≡ false). no) (cases_Bool (bytes_eq s (codes "null")))
 
-own : (j : json.Json) (d : Data) → HasNumbers j → of_json j ≡ Some d → IsOwn d (string (own_text j))
+own : (j : json.Json) (d : Data) → HasNumbers j → of_json j ≡ Some d → IsOwn d (string (verbatim j))
 unfolding print_from
 own json.null d has is = rw (sym (some_is null d is)) refl
 own (json.boolean true) d has is = rw (sym (some_is (boolean true) d is)) refl
@@ -118,17 +118,17 @@ own (json.array js) d has is = let it = mapped array (of_items js) d is in rw it
 own (json.object ms) d has is = let it = mapped object (of_members ms no_members) d is in rw it.2 refl
 
 -- what a member of that name is read as
-one_member : (l : List ℕ) (j : json.Json) (d e : Data) → HasNumbers j → of_json j ≡ Some d → keeping_member is_kept l j ≡ Some e → ((x : Data) → keeping is_kept j ≡ Some x → Alike d x) → AlikeMember l d e
+one_member : (l : List ℕ) (j : json.Json) (d e : Data) → HasNumbers j → of_json j ≡ Some d → mixed_member is_verbatim_name l j ≡ Some e → ((x : Data) → mixed_tree is_verbatim_name j ≡ Some x → Alike d x) → AlikeMember l d e
 one_member l j d e has is read alike = (
-  (λ not. alike e (let plain : keeping_member is_kept l j ≡ keeping is_kept j = rw not refl in sym plain ∙ read)),
+  (λ not. alike e (let plain : mixed_member is_verbatim_name l j ≡ mixed_tree is_verbatim_name j = rw not refl in sym plain ∙ read)),
   (λ is_one.
-      let text : as_own_text j ≡ Some e = (let plain : keeping_member is_kept l j ≡ as_own_text j = rw is_one refl in sym plain ∙ read) in
-      let it = mapped (λ tree. string (own_text j)) (of_json j) e text in
+      let text : as_verbatim j ≡ Some e = (let plain : mixed_member is_verbatim_name l j ≡ as_verbatim j = rw is_one refl in sym plain ∙ read) in
+      let it = mapped (λ tree. string (verbatim j)) (of_json j) e text in
       rw it.2 (own j d has is)),
 )
 
 mutual
-  trees_alike : (j : json.Json) (d k : Data) → HasNumbers j → of_json j ≡ Some d → keeping is_kept j ≡ Some k → Alike d k
+  trees_alike : (j : json.Json) (d k : Data) → HasNumbers j → of_json j ≡ Some d → mixed_tree is_verbatim_name j ≡ Some k → Alike d k
   trees_alike json.null d k has is read = rw (sym (some_is null d is)) (sym (some_is null k read))
   trees_alike (json.boolean b) d k has is read = rw (sym (some_is (boolean b) d is)) (sym (some_is (boolean b) k read))
   trees_alike (json.number s) d k has is read =
@@ -137,29 +137,29 @@ mutual
   trees_alike (json.string s) d k has is read = rw (sym (some_is (string s) d is)) (sym (some_is (string s) k read))
   trees_alike (json.array js) d k has is read =
       let one = mapped array (of_items js) d is in
-      let other = mapped array (keeping_items is_kept js) k read in
+      let other = mapped array (mixed_items is_verbatim_name js) k read in
       rw one.2 (other.0, other.2, items_alike js one.0 other.0 has one.1 other.1)
   trees_alike (json.object ms) d k has is read =
       let one = mapped object (of_members ms no_members) d is in
-      let other = mapped object (keeping_members is_kept ms no_members) k read in
+      let other = mapped object (mixed_members is_verbatim_name ms no_members) k read in
       rw one.2 (other.0, other.2, members_alike ms no_members no_members one.0 other.0 has refl one.1 other.1)
 
-  items_alike : (js : json.Items) (ds es : Items) → ItemsHaveNumbers js → of_items js ≡ Some ds → keeping_items is_kept js ≡ Some es → AlikeItems ds es
+  items_alike : (js : json.Items) (ds es : Items) → ItemsHaveNumbers js → of_items js ≡ Some ds → mixed_items is_verbatim_name js ≡ Some es → AlikeItems ds es
   items_alike json.no_items ds es has is read = rw (sym (some_is no_items ds is)) (sym (some_is no_items es read))
   items_alike (json.item j js) ds es has is read =
       let one = behind (of_json j) (λ d. option_map (item d) (of_items js)) ds is in
       let ones = mapped (item one.0) (of_items js) ds one.2 in
-      let other = behind (keeping is_kept j) (λ d. option_map (item d) (keeping_items is_kept js)) es read in
-      let others = mapped (item other.0) (keeping_items is_kept js) es other.2 in
+      let other = behind (mixed_tree is_verbatim_name j) (λ d. option_map (item d) (mixed_items is_verbatim_name js)) es read in
+      let others = mapped (item other.0) (mixed_items is_verbatim_name js) es other.2 in
       rw ones.2 (other.0, others.0, others.2, trees_alike j one.0 other.0 has.0 one.1 other.1, items_alike js ones.0 others.0 has.1 ones.1 others.1)
 
-  members_alike : (ms : json.Members) (f g x y : Members) → MembersHaveNumbers ms → AlikeMembers f g → of_members ms f ≡ Some x → keeping_members is_kept ms g ≡ Some y → AlikeMembers x y
+  members_alike : (ms : json.Members) (f g x y : Members) → MembersHaveNumbers ms → AlikeMembers f g → of_members ms f ≡ Some x → mixed_members is_verbatim_name ms g ≡ Some y → AlikeMembers x y
   members_alike json.no_members f g x y has so_far is read = rw (sym (some_is f x is), sym (some_is g y read)) so_far
   members_alike (json.member l j ms) f g x y has so_far is read =
       let one = behind (of_json j) (λ d. of_members ms (put l d f)) x is in
-      let other = behind (keeping_member is_kept l j) (λ d. keeping_members is_kept ms (put l d g)) y read in
+      let other = behind (mixed_member is_verbatim_name l j) (λ d. mixed_members is_verbatim_name ms (put l d g)) y read in
       members_alike ms (put l one.0 f) (put l other.0 g) x y has.1
-      (put_alike l one.0 other.0 f g (one_member l j one.0 other.0 has.0 one.1 other.1 (λ k kept_read. trees_alike j one.0 k has.0 one.1 kept_read)) so_far)
+      (put_alike l one.0 other.0 f g (one_member l j one.0 other.0 has.0 one.1 other.1 (λ k verbatim_read. trees_alike j one.0 k has.0 one.1 verbatim_read)) so_far)
       one.2 other.2
 
 -- what stands in a text
@@ -175,20 +175,20 @@ has_numbers text j e =
     let p = behind (value max_depth (tokens text)) (λ q. json.if_last q.0 q.1) j e in
     subst HasNumbers (last_is p.0.0 p.0.1 j p.2) (value-HasNumbers max_depth (tokens text) p.0.1 p.0.0 (ArePrintableOrBad-tokens text) p.1)
 
-text_alike : (text : List ℕ) (d k : Data) → read text ≡ Some d → option_and_then (keeping is_kept) (parsed text) ≡ Some k → Alike d k
-text_alike text d k is kept =
+text_alike : (text : List ℕ) (d k : Data) → read text ≡ Some d → option_and_then (mixed_tree is_verbatim_name) (parsed text) ≡ Some k → Alike d k
+text_alike text d k is raw_tree =
     let one = behind (parsed text) of_json d is in
-    let other = behind (parsed text) (keeping is_kept) k kept in
+    let other = behind (parsed text) (mixed_tree is_verbatim_name) k raw_tree in
     let same : one.0 ≡ other.0 = some_is one.0 other.0 (sym one.1 ∙ other.1) in
-    trees_alike one.0 d k (has_numbers text one.0 one.1) one.2 (ap (keeping is_kept) same ∙ other.2)
+    trees_alike one.0 d k (has_numbers text one.0 one.1) one.2 (ap (mixed_tree is_verbatim_name) same ∙ other.2)
 
 by_utf8 : (b : Bool) (text : List ℕ) (d k : Data) → (let o : Option Data = if b then read text else None in o) ≡ Some d
-    → (let o : Option Data = if b then option_and_then (keeping is_kept) (parsed text) else None in o) ≡ Some k → Alike d k
-by_utf8 true text d k is kept = text_alike text d k is kept
-by_utf8 false text d k is kept = absurd cc
+    → (let o : Option Data = if b then option_and_then (mixed_tree is_verbatim_name) (parsed text) else None in o) ≡ Some k → Alike d k
+by_utf8 true text d k is raw_tree = text_alike text d k is raw_tree
+by_utf8 false text d k is raw_tree = absurd cc
 
-pub bytes_alike : (bytes : List ℕ) (d k : Data) → tree_of bytes ≡ Some d → keeping_tree_of is_kept bytes ≡ Some k → Alike d k
-bytes_alike bytes d k is kept = by_utf8 (is_utf8 bytes) bytes d k is kept
+pub bytes_alike : (bytes : List ℕ) (d k : Data) → tree_of bytes ≡ Some d → mixed_tree_of is_verbatim_name bytes ≡ Some k → Alike d k
+bytes_alike bytes d k is raw_tree = by_utf8 (is_utf8 bytes) bytes d k is raw_tree
 
 -- of one text there are both, or neither
 unmapped : {A B : Type 0} (f : A → B) (o : Option A) → option_map f o ≡ None → o ≡ None
@@ -203,13 +203,13 @@ of_one_there (Some x) (Some y) one other = refl
 no_pair : {A : Type 0} (o : Option A) → o ≡ None → option_map (λ x. let q : A × List Token = (x, []) in q) o ≡ None
 no_pair o e = rw e refl
 
-both_of : (j : json.Json) → is_some (of_json j) ≡ is_some (keeping is_kept j)
+both_of : (j : json.Json) → is_some (of_json j) ≡ is_some (mixed_tree is_verbatim_name j)
 both_of j =
-    of_one_there (of_json j) (keeping is_kept j)
-    (λ none. unmapped (λ x. let q : Data × List Token = (x, []) in q) (keeping is_kept j) (no_item is_kept (Some (j, [])) (no_pair (of_json j) none)))
-    (λ none. unmapped (λ x. let q : Data × List Token = (x, []) in q) (of_json j) (no_value is_kept (Some (j, [])) (no_pair (keeping is_kept j) none)))
+    of_one_there (of_json j) (mixed_tree is_verbatim_name j)
+    (λ none. unmapped (λ x. let q : Data × List Token = (x, []) in q) (mixed_tree is_verbatim_name j) (no_item is_verbatim_name (Some (j, [])) (no_pair (of_json j) none)))
+    (λ none. unmapped (λ x. let q : Data × List Token = (x, []) in q) (of_json j) (no_value is_verbatim_name (Some (j, [])) (no_pair (mixed_tree is_verbatim_name j) none)))
 
-both_read : (o : Option json.Json) → is_some (option_and_then of_json o) ≡ is_some (option_and_then (keeping is_kept) o)
+both_read : (o : Option json.Json) → is_some (option_and_then of_json o) ≡ is_some (option_and_then (mixed_tree is_verbatim_name) o)
 both_read None = refl
 both_read (Some j) = both_of j
 
@@ -217,8 +217,8 @@ both_by : (b : Bool) (o p : Option Data) → is_some o ≡ is_some p → is_some
 both_by true o p e = e
 both_by false o p e = refl
 
-pub both_trees : (bytes : List ℕ) → is_some (tree_of bytes) ≡ is_some (keeping_tree_of is_kept bytes)
-both_trees bytes = both_by (is_utf8 bytes) (read bytes) (option_and_then (keeping is_kept) (parsed bytes)) (both_read (parsed bytes))
+pub both_trees : (bytes : List ℕ) → is_some (tree_of bytes) ≡ is_some (mixed_tree_of is_verbatim_name bytes)
+both_trees bytes = both_by (is_utf8 bytes) (read bytes) (option_and_then (mixed_tree is_verbatim_name) (parsed bytes)) (both_read (parsed bytes))
 
 -- ---- a member is looked up
 
@@ -227,54 +227,54 @@ abbrev pub AreAlike : Option Data → Option Data → Type 0
 AreAlike None p = p ≡ None
 AreAlike (Some d) p = (e : Data) × (p ≡ Some e) × Alike d e
 
--- the same of what stands at a name
-abbrev AreFound : List ℕ → Option Data → Option Data → Type 0
-AreFound n None p = p ≡ None
-AreFound n (Some d) p = (e : Data) × (p ≡ Some e) × AlikeMember n d e
+-- the same for the values at a name
+abbrev AreAlikeAt : List ℕ → Option Data → Option Data → Type 0
+AreAlikeAt n None p = p ≡ None
+AreAlikeAt n (Some d) p = (e : Data) × (p ≡ Some e) × AlikeMember n d e
 
-found_by_order : (o : Ordering) (n l : List ℕ) (x y : Data) (p q : Option Data) → (o ≡ Equal → n ≡ l) → AlikeMember l x y → AreFound n p q
-    → AreFound n (match_ordering o p (Some x) p) (match_ordering o q (Some y) q)
-found_by_order Less n l x y p q same one rest = rest
-found_by_order Equal n l x y p q same one rest =
+ordered_names : (o : Ordering) (n l : List ℕ) (x y : Data) (p q : Option Data) → (o ≡ Equal → n ≡ l) → AlikeMember l x y → AreAlikeAt n p q
+    → AreAlikeAt n (match_ordering o p (Some x) p) (match_ordering o q (Some y) q)
+ordered_names Less n l x y p q same one rest = rest
+ordered_names Equal n l x y p q same one rest =
     let name : n ≡ l = same refl in
-    (y, refl, ((λ not. one.0 (sym (ap is_kept name) ∙ not)), (λ is. one.1 (sym (ap is_kept name) ∙ is))))
-found_by_order Greater n l x y p q same one rest = rest
+    (y, refl, ((λ not. one.0 (sym (ap is_verbatim_name name) ∙ not)), (λ is. one.1 (sym (ap is_verbatim_name name) ∙ is))))
+ordered_names Greater n l x y p q same one rest = rest
 
-found_in : (n : List ℕ) (ms ns : Members) → AlikeMembers ms ns → AreFound n (get_member n ms) (get_member n ns)
-found_in n no_members ns rest = rw rest refl
-found_in n (member l x ms) ns rest =
-    rw (rest.2) (found_by_order (slice_cmp nat_cmp n l) n l x rest.0 (get_member n ms) (get_member n rest.1) (exact_bytes n l) (rest.3, rest.4) (found_in n ms rest.1 rest.5))
+findings_of_one : (n : List ℕ) (ms ns : Members) → AlikeMembers ms ns → AreAlikeAt n (get_member n ms) (get_member n ns)
+findings_of_one n no_members ns rest = rw rest refl
+findings_of_one n (member l x ms) ns rest =
+    rw (rest.2) (ordered_names (slice_cmp nat_cmp n l) n l x rest.0 (get_member n ms) (get_member n rest.1) (exact_bytes n l) (rest.3, rest.4) (findings_of_one n ms rest.1 rest.5))
 
-found : (n : List ℕ) (d k : Data) → Alike d k → AreFound n (get n d) (get n k)
-found n null k a = rw a refl
-found n (boolean b) k a = rw a refl
-found n (number z) k a = rw a refl
-found n (string s) k a = rw a refl
-found n (array ds) k a = rw (a.1) refl
-found n (object ms) k a = rw (a.1) (found_in n ms a.0 a.2)
+findings : (n : List ℕ) (d k : Data) → Alike d k → AreAlikeAt n (get n d) (get n k)
+findings n null k a = rw a refl
+findings n (boolean b) k a = rw a refl
+findings n (number z) k a = rw a refl
+findings n (string s) k a = rw a refl
+findings n (array ds) k a = rw (a.1) refl
+findings n (object ms) k a = rw (a.1) (findings_of_one n ms a.0 a.2)
 
-told : (d k : Data) → Alike d k → AreAlike (unless_null d) (unless_null k)
-told null k a = rw a refl
-told (boolean b) k a = rw a (boolean b, refl, refl)
-told (number n) k a = rw a (number n, refl, refl)
-told (string s) k a = rw a (string s, refl, refl)
-told (array ds) k a = rw (a.1) (array a.0, refl, (a.0, refl, a.2))
-told (object ms) k a = rw (a.1) (object a.0, refl, (a.0, refl, a.2))
+reported : (d k : Data) → Alike d k → AreAlike (unless_null d) (unless_null k)
+reported null k a = rw a refl
+reported (boolean b) k a = rw a (boolean b, refl, refl)
+reported (number n) k a = rw a (number n, refl, refl)
+reported (string s) k a = rw a (string s, refl, refl)
+reported (array ds) k a = rw (a.1) (array a.0, refl, (a.0, refl, a.2))
+reported (object ms) k a = rw (a.1) (object a.0, refl, (a.0, refl, a.2))
 
-at_name : (n : List ℕ) → is_kept n ≡ false → (p q : Option Data) → AreFound n p q → AreAlike (p >>= unless_null) (q >>= unless_null)
+at_name : (n : List ℕ) → is_verbatim_name n ≡ false → (p q : Option Data) → AreAlikeAt n p q → AreAlike (p >>= unless_null) (q >>= unless_null)
 at_name n not None q a = rw a refl
-at_name n not (Some d) q a = rw (a.1) (told d a.0 (a.2.0 not))
+at_name n not (Some d) q a = rw (a.1) (reported d a.0 (a.2.0 not))
 
-pub member_alike : (n : List ℕ) → is_kept n ≡ false → (d k : Data) → Alike d k → AreAlike (member_of n d) (member_of n k)
-member_alike n not d k a = at_name n not (get n d) (get n k) (found n d k a)
+pub member_alike : (n : List ℕ) → is_verbatim_name n ≡ false → (d k : Data) → Alike d k → AreAlike (member_of n d) (member_of n k)
+member_alike n not d k a = at_name n not (get n d) (get n k) (findings n d k a)
 
-at_kept : (n : List ℕ) → is_kept n ≡ true → (p q : Option Data) → AreFound n p q → is_met want.ObjectOrAbsent (p >>= unless_null) ≡ is_some (object_or_none (q >>= unless_null))
-at_kept n is None q a = rw a refl
-at_kept n is (Some d) q a = rw (a.1) (a.2.1 is)
+at_verbatim : (n : List ℕ) → is_verbatim_name n ≡ true → (p q : Option Data) → AreAlikeAt n p q → is_met expected.ObjectOrAbsent (p >>= unless_null) ≡ is_some (object_or_none (q >>= unless_null))
+at_verbatim n is None q a = rw a refl
+at_verbatim n is (Some d) q a = rw (a.1) (a.2.1 is)
 
--- an object that is kept as its own text
-pub met_own : (n : List ℕ) → is_kept n ≡ true → (d k : Data) → Alike d k → is_met want.ObjectOrAbsent (member_of n d) ≡ is_some (object_or_none (member_of n k))
-met_own n is d k a = at_kept n is (get n d) (get n k) (found n d k a)
+-- an object that is stored as its own text
+pub met_own : (n : List ℕ) → is_verbatim_name n ≡ true → (d k : Data) → Alike d k → is_met expected.ObjectOrAbsent (member_of n d) ≡ is_some (object_or_none (member_of n k))
+met_own n is d k a = at_verbatim n is (get n d) (get n k) (findings n d k a)
 
 -- ---- what values are
 
@@ -310,7 +310,7 @@ object_alike (string s) k a = rw a refl
 object_alike (array ds) k a = rw (a.1) refl
 object_alike (object ms) k a = rw (a.1) refl
 
--- anything that is read of a value alike is the same of a member that may be missing
+-- what a run reads the same from alike values, it reads the same from optional members
 pub same_read : {A : Type 0} (f : Data → A) → ((d k : Data) → Alike d k → f d ≡ f k) → (o p : Option Data) → AreAlike o p → option_map f o ≡ option_map f p
 same_read {A} f same None p a = rw a refl
 same_read {A} f same (Some d) p a = rw (a.1) (ap (λ (x : A). Some x) (same d a.0 a.2))

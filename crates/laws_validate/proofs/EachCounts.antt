@@ -1,4 +1,5 @@
--- Each member of a known name counts for a run: with some value of it another thing is read.
+-- Each member with a known name counts for a run: with some value of it, the run reads another
+-- thing.
 use Rattle.std.proofs.Common.{◌≢◌, ℕ, List, codes, All, Some, None}
 use Rattle.std.proofs.lemmas.List.Elements.{All-from_recursion}
 use Rattle.serde_json.specs.Data.{Data, number, string, array, no_items, Members, no_members, member, unsigned}
@@ -14,7 +15,7 @@ there x e = absurd cc
 gone : {A : Type 0} (x : A) → None ≢ Some x
 gone x e = absurd cc
 
--- ---- values, and members that stand beside one
+-- ---- values, and members next to one
 
 abbrev one : Data
 one = number (unsigned 1)

@@ -1,4 +1,4 @@
--- Elements of `resource_changes` by themselves: nothing is found, exactly where a run reads one.
+-- An element of `resource_changes` alone has no error if and only if a run reads it.
 use Rattle.std.proofs.Common.{◌≡◌, ℕ, List, [], ◌∷◌, ◌++◌, Bool, true, false, not, ◌&&◌, ◌||◌, is_some, Option, Some, None, refl, sym, ap, ◌∙◌}
 use Rattle.std.specs.Prelude.{codes, if◌then◌else◌, is_none}
 use Rattle.std.specs.List.{list_all}
@@ -15,11 +15,11 @@ use Rattle.apply_plan.specs.Plan.Element.{Element, element_of, key_of, mode_name
 use Rattle.apply_plan.specs.Plan.Steps.{steps_of_actions}
 use Rattle.input_validate.specs.declared.findings.finding.Finding.{Finding}
 use Rattle.input_validate.specs.declared.findings.name.Name.TheVariants as name
-use Rattle.input_validate.specs.declared.findings.want.Want.TheVariants as want
-use Rattle.input_validate.specs.PlanFindings.{actions_mark, address_marks, by_itself, element_table, has_empty_address, in_change, is_misplaced, is_one_of_eight, is_sound, misplaces, name_read}
-use Rattle.input_validate.specs.Walks.{faults_of, inside, known, marked, member_at}
-use Rattle.input_validate.specs.Wants.{is_met}
-use Rattle.laws_validate.proofs.Clean.{clean, clean-append, clean-faults_of, clean-inside, clean-marked, clean-where, is_absent_or}
+use Rattle.input_validate.specs.declared.findings.expected.Expected.TheVariants as expected
+use Rattle.input_validate.specs.PlanFindings.{actions_violation, address_violations, by_itself, element_table, has_empty_address, in_change, is_misplaced, is_one_of_eight, is_sound, misplaces, name_read}
+use Rattle.input_validate.specs.Rules.{faults_of, inside, rule, violation_findings, member_at}
+use Rattle.input_validate.specs.Expectations.{is_met}
+use Rattle.laws_validate.proofs.Clean.{clean, clean-append, clean-faults_of, clean-inside, clean-violation_findings, clean-where, is_absent_or}
 use Rattle.input_validate.proofs.Options.{and_then_is, and_true, not_not}
 use Rattle.laws_validate.proofs.Wanted.{met_array, met_non_empty, met_text, met_text_or, needs_object}
 
@@ -36,11 +36,11 @@ mode_text : (text : Option (List ℕ))
 mode_text None = refl
 mode_text (Some t) = of_tests (bytes_eq t (codes "managed")) (bytes_eq t (codes "data")) Managed DataSource
 
-met_mode : (o : Option Data) → is_met want.Mode o ≡ is_some (o >>= as_str >>= mode_named)
+met_mode : (o : Option Data) → is_met expected.Mode o ≡ is_some (o >>= as_str >>= mode_named)
 met_mode None = refl
 met_mode (Some d) = mode_text (as_str d)
 
-met_key : (o : Option Data) → is_met want.Key o ≡ is_some (key_of o)
+met_key : (o : Option Data) → is_met expected.Key o ≡ is_some (key_of o)
 met_key None = refl
 met_key (Some d) = refl
 
@@ -54,14 +54,14 @@ of_actions : (o : Option Items) → (is_some o && not (option_map_or (λ actions
 of_actions None = refl
 of_actions (Some actions) = not_not (is_one_of_eight actions)
 
-clean_members_of_change : (d : Data) → clean (faults_of (known name.Actions want.Array ∷ []) d ++ marked (actions_mark d ∷ [])) ≡ has_steps d
+clean_members_of_change : (d : Data) → clean (faults_of (rule name.Actions expected.Array ∷ []) d ++ violation_findings (actions_violation d ∷ [])) ≡ has_steps d
 clean_members_of_change d =
     let o : Option Data = member_of (codes "actions") d in
-    clean-append (faults_of (known name.Actions want.Array ∷ []) d) (marked (actions_mark d ∷ []))
-    ∙ ap (λ (b : Bool). b && clean (marked (actions_mark d ∷ [])))
-    (clean-faults_of (known name.Actions want.Array ∷ []) d ∙ and_true (is_met want.Array o) ∙ met_array o)
+    clean-append (faults_of (rule name.Actions expected.Array ∷ []) d) (violation_findings (actions_violation d ∷ []))
+    ∙ ap (λ (b : Bool). b && clean (violation_findings (actions_violation d ∷ [])))
+    (clean-faults_of (rule name.Actions expected.Array ∷ []) d ∙ and_true (is_met expected.Array o) ∙ met_array o)
     ∙ ap (λ (b : Bool). is_some (o >>= as_array) && b)
-    (clean-marked (actions_mark d ∷ []) refl ∙ and_true (not (actions_mark d).holds)
+    (clean-violation_findings (actions_violation d ∷ []) refl ∙ and_true (not (actions_violation d).holds)
     ∙ ap (λ (x : Option Items). not (option_map_or (λ actions. not (is_one_of_eight actions)) x false)) (and_then_is as_array o))
     ∙ of_actions (o >>= as_array)
 
@@ -72,17 +72,17 @@ is_change d = if is_some (as_object d) then has_steps d else true
 clean_change : (d : Data) → clean (in_change d) ≡ is_change d
 unfolding in_change
 clean_change d =
-    clean-where (is_some (as_object d)) (faults_of (known name.Actions want.Array ∷ []) d ++ marked (actions_mark d ∷ [])) (has_steps d) (clean_members_of_change d)
+    clean-where (is_some (as_object d)) (faults_of (rule name.Actions expected.Array ∷ []) d ++ violation_findings (actions_violation d ∷ [])) (has_steps d) (clean_members_of_change d)
 
 -- ---- the address
 
-of_marks : (m e : Bool) → (not (m && e) && (not (m && not e) && true)) ≡ not m
-of_marks true true = refl
-of_marks true false = refl
-of_marks false e = refl
+of_violations : (m e : Bool) → (not (m && e) && (not (m && not e) && true)) ≡ not m
+of_violations true true = refl
+of_violations true false = refl
+of_violations false e = refl
 
-clean_address : (d : Data) → clean (marked (address_marks d)) ≡ not (misplaces d)
-clean_address d = clean-marked (address_marks d) refl ∙ of_marks (misplaces d) (has_empty_address d)
+clean_address : (d : Data) → clean (violation_findings (address_violations d)) ≡ not (misplaces d)
+clean_address d = clean-violation_findings (address_violations d) refl ∙ of_violations (misplaces d) (has_empty_address d)
 
 -- ---- what a run reads
 
@@ -116,14 +116,14 @@ there (Some x) = refl
 pub some_is : {A : Type 0} (x y : A) → Some x ≡ Some y → x ≡ y
 some_is x y e = cc
 
--- what a change says, as a run reads it
+-- what a run reads of a change
 abbrev pub planned : Items → Option (List ℕ) → Items × Option (List ℕ)
 planned actions prior = (actions, prior)
 
 abbrev has_one_of_eight : Option (Items × Option (List ℕ)) → Bool
 has_one_of_eight o = option_map_or (λ change. is_one_of_eight change.0) o false
 
--- what was gathered, by what it was gathered of
+-- the gathered values come from the members
 all_there : (a : Option (List ℕ)) (o : Option Mode) (k n m : Option (List ℕ)) (x : Option Key) (p : Option (List ℕ)) (c : Option (Items × Option (List ℕ)))
     → (is_some a && (is_some o && (is_some k && (is_some n && (is_some m && (is_some x && (is_some p && (has_one_of_eight c && not (is_misplaced a m)))))))))
     ≡ option_map_or has_change (gathered a o k n m x p c) false
@@ -145,7 +145,7 @@ pub record IsGathered (address module_address deposed : Option (List ℕ)) (chan
   pub address_is : address ≡ Some e.address
   pub module_is : module_address ≡ Some e.module_address
   pub change_is : change ≡ Some (planned e.actions e.prior_id)
-  -- which object it is
+  -- the object that the element is of
   pub name_is : (address >>= λ a. deposed >>= λ p. Some (named a (unless_empty p))) ≡ Some (named e.address e.deposed)
 
 is_gathered : (a : Option (List ℕ)) (o : Option Mode) (k n m : Option (List ℕ)) (x : Option Key) (p : Option (List ℕ)) (c : Option (Items × Option (List ℕ))) (e : Element)
@@ -185,7 +185,7 @@ shuffle true true true true true true true j c r = ap (λ (b : Bool). (b && c) &
 -- ---- `change`, as a run reads it
 
 planned_of : (actions : Option Items) (prior : Option (List ℕ))
-    → option_map_or is_one_of_eight actions false ≡ has_one_of_eight (actions >>= λ found. Some (planned found prior))
+    → option_map_or is_one_of_eight actions false ≡ has_one_of_eight (actions >>= λ findings. Some (planned findings prior))
 planned_of None prior = refl
 planned_of (Some actions) prior = refl
 
@@ -202,7 +202,7 @@ by_test true h = refl
 by_test false h = refl
 
 change_there : (d : Data) (o : Option Data) → o ≡ member_of (codes "change") d
-    → (is_met want.Object o && is_absent_or is_change o) ≡ has_one_of_eight (o >>= read_change)
+    → (is_met expected.Object o && is_absent_or is_change o) ≡ has_one_of_eight (o >>= read_change)
 change_there d None e = refl
 change_there d (Some change) e =
     by_test (is_some (as_object change)) (has_steps change)
@@ -243,12 +243,12 @@ gathered_there d e is =
 
 -- each member is what it has to be, where a run reads each, and finds an object in `change`
 pub members_met : (d : Data)
-    → list_all (λ known. is_met known.want (member_at known.name d)) element_table
+    → list_all (λ rule. is_met rule.expected (member_at rule.name d)) element_table
     ≡ (is_some (text_of (codes "address") d) && (is_some (text_or [] (member_of (codes "module_address") d)) && (is_some (text_of (codes "mode") d >>= mode_named)
     && (is_some (non_empty_text_of (codes "type") d) && (is_some (non_empty_text_of (codes "name") d) && (is_some (key_of (member_of (codes "index") d))
-    && (is_some (text_or [] (member_of (codes "deposed") d)) && (is_met want.Object (member_of (codes "change") d) && true))))))))
+    && (is_some (text_or [] (member_of (codes "deposed") d)) && (is_met expected.Object (member_of (codes "change") d) && true))))))))
 members_met d =
-    members (is_met want.Object (member_of (codes "change") d)) (met_text (member_of (codes "address") d)) (met_text_or (member_of (codes "module_address") d))
+    members (is_met expected.Object (member_of (codes "change") d)) (met_text (member_of (codes "address") d)) (met_text_or (member_of (codes "module_address") d))
     (met_mode (member_of (codes "mode") d)) (met_non_empty (member_of (codes "type") d)) (met_non_empty (member_of (codes "name") d))
     (met_key (member_of (codes "index") d)) (met_text_or (member_of (codes "deposed") d))
 
@@ -264,15 +264,15 @@ clean_itself d =
     let ch : Option Data = member_of (codes "change") d in
     let wrong : List Finding = faults_of element_table d in
     let change : List Finding = inside in_change name.Change d in
-    let address : List Finding = marked (address_marks d) in
-    let all_met : Bool = is_some a && (is_some m && (is_some o && (is_some k && (is_some n && (is_some x && (is_some p && (is_met want.Object ch && true))))))) in
+    let address : List Finding = violation_findings (address_violations d) in
+    let all_met : Bool = is_some a && (is_some m && (is_some o && (is_some k && (is_some n && (is_some x && (is_some p && (is_met expected.Object ch && true))))))) in
     let e1 : clean wrong ≡ all_met = clean-faults_of element_table d ∙ members_met d in
     let e2 : clean change ≡ is_absent_or is_change ch = clean-inside in_change is_change clean_change name.Change d in
     let e3 : clean address ≡ not (is_misplaced a m) = clean_address d in
     clean-append (wrong ++ change) address
     ∙ ap (λ (b : Bool). b && clean address) (clean-append wrong change ∙ ap (λ (b : Bool). b && clean change) e1 ∙ ap (λ (b : Bool). all_met && b) e2)
     ∙ ap (λ (b : Bool). (all_met && is_absent_or is_change ch) && b) e3
-    ∙ shuffle (is_some a) (is_some m) (is_some o) (is_some k) (is_some n) (is_some x) (is_some p) (is_met want.Object ch) (is_absent_or is_change ch) (not (is_misplaced a m))
+    ∙ shuffle (is_some a) (is_some m) (is_some o) (is_some k) (is_some n) (is_some x) (is_some p) (is_met expected.Object ch) (is_absent_or is_change ch) (not (is_misplaced a m))
     ∙ ap (λ (b : Bool). is_some a && (is_some o && (is_some k && (is_some n && (is_some m && (is_some x && (is_some p && (b && not (is_misplaced a m)))))))))
     (change_there d ch refl)
     ∙ all_there a o k n m x p (planned_change_of d)

@@ -1,4 +1,4 @@
--- Entries beside a plan: nothing is found for which a run refuses, exactly where a run takes them.
+-- Entries that are compared with a plan have no error if and only if a run accepts them.
 use Rattle.std.proofs.Common.{◌≡◌, ℕ, suc, ◌+◌, ◌≤◌, List, [], ◌∷◌, ◌++◌, length, map, take, Bool, true, false, cond, not, ◌&&◌, ◌||◌}
 use Rattle.std.proofs.Common.{is_ok, is_some, Option, Some, None, Result, Err, refl, sym, ap, ◌∙◌, append_assoc, arith}
 use Rattle.std.specs.Prelude.{codes, is_none, nat_le, nat_lt}
@@ -22,25 +22,25 @@ use Rattle.apply_resolve.specs.ObjectName.{name_one_object}
 use Rattle.apply_plan.specs.Results as results
 use Rattle.apply_plan.specs.Results.{or_refuse, unless_refused}
 use Rattle.apply_plan.specs.Script.Entry.{Entry, EntryStep, entry_of, step_from}
-use Rattle.apply_plan.specs.Script.OutcomeMap.{Said, change_of_entry, count_in, entry_at, names_change, said_by}
+use Rattle.apply_plan.specs.Script.OutcomeMap.{ResolvedEntry, change_of_entry, count_in, entry_at, names_change, resolved_by}
 use Rattle.apply_plan.specs.Script.Refusals as run
 use Rattle.apply_plan.specs.Script.Refusals.{count_of_waits, fault_of_entry, fault_of_names, fault_of_steps, fault_of_waits, is_any_wait, misplaces_provisioners, passes, warns_not_a_read}
 use Rattle.input_validate.specs.declared.findings.name.Name.TheVariants as name
-use Rattle.input_validate.specs.Beside.{change_at, change_named, named_first, object_named, waits_in, waits_in_all, waits_left}
+use Rattle.input_validate.specs.AgainstPlan.{change_at, change_named, named_first, object_named, waits_in, waits_in_all, waits_left}
 use Rattle.laws_validate.specs.Laws.{is_bounded, is_entry, is_within_limits}
 use Rattle.input_validate.specs.ObjectNames.{Named}
 use Rattle.input_validate.specs.PlanFindings.{first_named, is_named, name_read}
-use Rattle.input_validate.specs.Walks.{items_at}
-use Rattle.laws_validate.proofs.Besides.{fits_kind, has_room, is_unknown, too_many}
+use Rattle.input_validate.specs.Rules.{items_at}
+use Rattle.laws_validate.proofs.CleanAgainstPlan.{fits_kind, has_room, is_unknown, too_many}
 use Rattle.laws_validate.proofs.Elements.{named}
 use Rattle.input_validate.proofs.FirstNames.{same_name}
 use Rattle.laws_validate.proofs.Members.{all_from}
 use Rattle.input_validate.proofs.Options.{and_false, and_if, and_left, and_right, and_true, crossed}
 use Rattle.laws_validate.proofs.Provisioners.{length_of_all}
-use Rattle.laws_validate.proofs.Scripts.{entries_fit, fits_entry, is_again, steps_beside}
-use Rattle.laws_validate.proofs.CleanSteps.{is_beside, waits_found}
-use Rattle.laws_validate.proofs.Taken.{found_with, kinds_read, outcomes, waits_known, waits_read}
-use Rattle.laws_validate.proofs.EntriesRead.{entry_read, name_of_change, found_passes, any_first, named_before, counts_before, room_is}
+use Rattle.laws_validate.proofs.Scripts.{entries_fit, fits_entry, is_again, steps_fit_plan}
+use Rattle.laws_validate.proofs.CleanSteps.{fits_plan, waits_fit}
+use Rattle.laws_validate.proofs.AcceptedSteps.{findings_with, kinds_read, outcomes, waits_known, waits_read}
+use Rattle.laws_validate.proofs.EntriesRead.{entry_read, name_of_change, findings_pass, any_first, named_before, counts_before, room_is}
 
 -- ---- what a run tests of an entry
 
@@ -57,13 +57,13 @@ misplaced deposed kinds steps = list_any (misplaces_provisioners deposed) (zip (
 abbrev pub warned : List StepKind → List EntryStep → Bool
 warned kinds steps = list_any warns_not_a_read (zip (enumerate_from 0 kinds) (outcomes steps))
 
-steps_taken : (n : ℕ) (deposed : Bool) (kinds : List StepKind) (steps : List EntryStep)
+steps_accepted : (n : ℕ) (deposed : Bool) (kinds : List StepKind) (steps : List EntryStep)
     → is_none (fault_of_steps n deposed kinds (outcomes steps))
     ≡ (not (nat_lt (length kinds) (length (outcomes steps)))
     && (not (any_of is_too_long steps)
     && (not (any_of has_too_many_provisioners steps) && (not (any_of has_too_much_output steps) && (not (misplaced deposed kinds steps) && not (warned kinds steps))))))
 unfolding fault_of_steps
-steps_taken n deposed kinds steps =
+steps_accepted n deposed kinds steps =
     chain (nat_lt (length kinds) (length (outcomes steps))) (TooManySteps n) _ _
     (chain (any_of is_too_long steps) (SecondsRange n) _ _
     (chain (any_of has_too_many_provisioners steps) (TooManyProvisioners n) _ _
@@ -71,11 +71,11 @@ steps_taken n deposed kinds steps =
     (chain (misplaced deposed kinds steps) (NotACreate n) _ _
     (chain (warned kinds steps) (WarnsNotARead n) None true refl ∙ and_true (not (warned kinds steps)))))))
 
-waits_taken : (n : ℕ) (changes : List ResourceChange) (earlier : ℕ) (steps : List EntryStep)
+waits_accepted : (n : ℕ) (changes : List ResourceChange) (earlier : ℕ) (steps : List EntryStep)
     → is_none (fault_of_waits n changes earlier steps)
     ≡ (not (nat_lt max_waits (earlier + count_of_waits steps)) && (not (is_any_wait (run.is_unknown changes) steps) && not (is_any_wait (run.lacks_step changes) steps)))
 unfolding fault_of_waits
-waits_taken n changes earlier steps =
+waits_accepted n changes earlier steps =
     chain (nat_lt max_waits (earlier + count_of_waits steps)) (TooManyWaits n) _ _
     (chain (is_any_wait (run.is_unknown changes) steps) (UnknownWait n) _ _
     (chain (is_any_wait (run.lacks_step changes) steps) (NoSuchStep n) None true refl ∙ and_true (not (is_any_wait (run.lacks_step changes) steps))))
@@ -107,41 +107,41 @@ both_from q p n [] = refl
 both_from q p n (k ∷ ks) =
     ap (λ (b : Bool). (q n k && p k) && b) (both_from q p (suc n) ks) ∙ crossed (q n k) (p k) (all_from q (suc n) ks) (list_all p ks)
 
-reorder : (new long wide loud placed reads room known has : Bool)
-    → (new && ((long && (wide && (loud && (placed && reads)))) && (room && (known && has)))) ≡ ((long && (wide && loud)) && (new && (((placed && reads) && (known && has)) && room)))
-reorder false long wide loud placed reads room known has = sym (and_false (long && (wide && loud)))
-reorder true false wide loud placed reads room known has = refl
-reorder true true false loud placed reads room known has = refl
-reorder true true true false placed reads room known has = refl
-reorder true true true true false reads room known has = refl
-reorder true true true true true false room known has = refl
-reorder true true true true true true false known has = sym (and_false (known && has))
-reorder true true true true true true true known has = sym (and_true (known && has))
+reorder : (new long wide loud placed reads room rule has : Bool)
+    → (new && ((long && (wide && (loud && (placed && reads)))) && (room && (rule && has)))) ≡ ((long && (wide && loud)) && (new && (((placed && reads) && (rule && has)) && room)))
+reorder false long wide loud placed reads room rule has = sym (and_false (long && (wide && loud)))
+reorder true false wide loud placed reads room rule has = refl
+reorder true true false loud placed reads room rule has = refl
+reorder true true true false placed reads room rule has = refl
+reorder true true true true false reads room rule has = refl
+reorder true true true true true false room rule has = refl
+reorder true true true true true true false rule has = sym (and_false (rule && has))
+reorder true true true true true true true rule has = sym (and_true (rule && has))
 
--- where the entry has no more steps than its change, they fit it by their kinds
-by_many : (many new long wide loud placed reads room known has steps : Bool) → (many ≡ false → steps ≡ ((placed && reads) && (known && has)))
-    → (new && ((not many && (long && (wide && (loud && (placed && reads))))) && (room && (known && has)))) ≡ ((long && (wide && loud)) && (new && (not many && (steps && room))))
-by_many true new long wide loud placed reads room known has steps fit = and_false new ∙ sym (ap (λ (b : Bool). (long && (wide && loud)) && b) (and_false new) ∙ and_false (long && (wide && loud)))
-by_many false new long wide loud placed reads room known has steps fit =
-    reorder new long wide loud placed reads room known has ∙ ap (λ (b : Bool). (long && (wide && loud)) && (new && (b && room))) (sym (fit refl))
+-- if an entry has no more steps than its change, the steps fit by their kinds
+by_many : (many new long wide loud placed reads room rule has steps : Bool) → (many ≡ false → steps ≡ ((placed && reads) && (rule && has)))
+    → (new && ((not many && (long && (wide && (loud && (placed && reads))))) && (room && (rule && has)))) ≡ ((long && (wide && loud)) && (new && (not many && (steps && room))))
+by_many true new long wide loud placed reads room rule has steps fit = and_false new ∙ sym (ap (λ (b : Bool). (long && (wide && loud)) && b) (and_false new) ∙ and_false (long && (wide && loud)))
+by_many false new long wide loud placed reads room rule has steps fit =
+    reorder new long wide loud placed reads room rule has ∙ ap (λ (b : Bool). (long && (wide && loud)) && (new && (b && room))) (sym (fit refl))
 
-ok_unless : (dup : Bool) (n : ℕ) (a b : Option ScriptError) (said : Said) (x y : Bool) → is_none a ≡ x → is_none b ≡ y
-    → is_ok (let r : Result Said ScriptError = cond dup (Err (Duplicate n)) (unless_refused (option_or a b) said) in r) ≡ (not dup && (x && y))
-ok_unless true n a b said x y e f = refl
-ok_unless false n None None said x y e f = rw (sym e, sym f) refl
-ok_unless false n None (Some z) said x y e f = rw (sym e, sym f) refl
-ok_unless false n (Some z) b said x y e f = rw (sym e) refl
+ok_unless : (dup : Bool) (n : ℕ) (a b : Option ScriptError) (decoded : ResolvedEntry) (x y : Bool) → is_none a ≡ x → is_none b ≡ y
+    → is_ok (let r : Result ResolvedEntry ScriptError = cond dup (Err (Duplicate n)) (unless_refused (option_or a b) decoded) in r) ≡ (not dup && (x && y))
+ok_unless true n a b decoded x y e f = refl
+ok_unless false n None None decoded x y e f = rw (sym e, sym f) refl
+ok_unless false n None (Some z) decoded x y e f = rw (sym e, sym f) refl
+ok_unless false n (Some z) b decoded x y e f = rw (sym e) refl
 
 not_many : (most count : ℕ) → nat_lt most count ≡ false → count ≤ most
 not_many most count e = grind (arith, nat_tests)
 
-taken_is : (changes : List ResourceChange) (before : List Data) (d : Data) (entry : Entry) (it : ℕ × ResourceChange) → entry_of d ≡ Some entry → change_of_entry changes entry ≡ Some it
+accepted_is : (changes : List ResourceChange) (before : List Data) (d : Data) (entry : Entry) (it : ℕ × ResourceChange) → entry_of d ≡ Some entry → change_of_entry changes entry ≡ Some it
     → list_all is_entry before ≡ true → nat_le (sum_by waits_in_all before) max_waits ≡ true
-    → is_ok (let r : Result Said ScriptError =
+    → is_ok (let r : Result ResolvedEntry ScriptError =
     cond (list_any (names_change it.1) before) (Err (Duplicate (length before)))
-    (unless_refused (fault_of_entry (length before) changes (sum_by count_in before) it.1 entry.steps) (said_by changes it.0 entry.steps)) in r)
+    (unless_refused (fault_of_entry (length before) changes (sum_by count_in before) it.1 entry.steps) (resolved_by changes it.0 entry.steps)) in r)
     ≡ (is_entry d && fits_entry (Some changes) (named_first before d) (waits_left (sum_by waits_in_all before)) d)
-taken_is changes before d entry it is about are few =
+accepted_is changes before d entry it is about are few =
     let read = entry_read d entry is in
     let change : ResourceChange = it.1 in
     let object : Named = named entry.address entry.deposed in
@@ -153,19 +153,19 @@ taken_is changes before d entry it is about are few =
     let left : Option ℕ = waits_left earlier in
     let counted : length read.items ≡ length steps = length_of_all step_from read.items steps read.steps in
     let many : Bool = nat_lt (length kinds) (length (outcomes steps)) in
-    let held : change_named changes object ≡ Some change = found_with (λ c. name_one_object c.address c.deposed entry.address entry.deposed) 0 changes ∙ ap (option_map (λ p. p.1)) about in
-    let same : name_of_change change ≡ object = same_name (name_of_change change) object (found_passes (λ c. name_one_object c.address c.deposed entry.address entry.deposed) changes change held) in
+    let held : change_named changes object ≡ Some change = findings_with (λ c. name_one_object c.address c.deposed entry.address entry.deposed) 0 changes ∙ ap (option_map (λ p. p.1)) about in
+    let same : name_of_change change ≡ object = same_name (name_of_change change) object (findings_pass (λ c. name_one_object c.address c.deposed entry.address entry.deposed) changes change held) in
     let dup : Bool = list_any (names_change change) before in
     -- what a run tests
-    let tests : is_ok (let r : Result Said ScriptError =
-    cond dup (Err (Duplicate (length before))) (unless_refused (fault_of_entry (length before) changes (sum_by count_in before) change steps) (said_by changes it.0 steps)) in r)
+    let tests : is_ok (let r : Result ResolvedEntry ScriptError =
+    cond dup (Err (Duplicate (length before))) (unless_refused (fault_of_entry (length before) changes (sum_by count_in before) change steps) (resolved_by changes it.0 steps)) in r)
     ≡ (not dup && ((not many && (not (any_of is_too_long steps)
     && (not (any_of has_too_many_provisioners steps) && (not (any_of has_too_much_output steps) && (not (misplaced deposed kinds steps) && not (warned kinds steps))))))
     && (not (nat_lt max_waits (sum_by count_in before + count_of_waits steps)) && (not (is_any_wait (run.is_unknown changes) steps) && not (is_any_wait (run.lacks_step changes) steps))))) =
     ok_unless dup (length before) (fault_of_steps (length before) deposed kinds (outcomes steps))
-    (fault_of_waits (length before) changes (sum_by count_in before) steps) (said_by changes it.0 steps) _ _
-    (steps_taken (length before) deposed kinds steps) (waits_taken (length before) changes (sum_by count_in before) steps) in
-    -- what is found
+    (fault_of_waits (length before) changes (sum_by count_in before) steps) (resolved_by changes it.0 steps) _ _
+    (steps_accepted (length before) deposed kinds steps) (waits_accepted (length before) changes (sum_by count_in before) steps) in
+    -- the findings
     let unknown : is_unknown (Some changes) (object_named d) ≡ false = ap (λ (o : Option Named). is_unknown (Some changes) o) read.object ∙ ap is_none held in
     let about_it : change_at (Some changes) d ≡ Some change = ap (λ (o : Option Named). option_and_then (change_named changes) o) read.object ∙ held in
     let named_first_is : is_some first ≡ dup =
@@ -178,16 +178,16 @@ taken_is changes before d entry it is about are few =
     ap (λ (o : Option ResourceChange). too_many o (length (items_at name.Steps d))) about_it
     ∙ ap (λ (xs : List Data). nat_lt (length kinds) (length xs)) read.listed
     ∙ ap (nat_lt (length kinds)) (counted ∙ sym (length-map steps (λ step. step.outcome))) in
-    let beside : steps_beside (Some changes) (change_at (Some changes) d) (member_of (codes "steps") d)
-    ≡ (all_from (fits_kind (Some change)) 0 read.items && list_all (waits_found (Some changes)) read.items) =
-    ap (λ (o : Option ResourceChange). steps_beside (Some changes) o (member_of (codes "steps") d)) about_it
-    ∙ read.each (is_beside (Some changes) (Some change))
-    ∙ both_from (fits_kind (Some change)) (waits_found (Some changes)) 0 read.items in
-    let kind : many ≡ false → (all_from (fits_kind (Some change)) 0 read.items && list_all (waits_found (Some changes)) read.items)
+    let fit_plan : steps_fit_plan (Some changes) (change_at (Some changes) d) (member_of (codes "steps") d)
+    ≡ (all_from (fits_kind (Some change)) 0 read.items && list_all (waits_fit (Some changes)) read.items) =
+    ap (λ (o : Option ResourceChange). steps_fit_plan (Some changes) o (member_of (codes "steps") d)) about_it
+    ∙ read.each (fits_plan (Some changes) (Some change))
+    ∙ both_from (fits_kind (Some change)) (waits_fit (Some changes)) 0 read.items in
+    let kind : many ≡ false → (all_from (fits_kind (Some change)) 0 read.items && list_all (waits_fit (Some changes)) read.items)
     ≡ ((not (misplaced deposed kinds steps) && not (warned kinds steps)) && (not (is_any_wait (run.is_unknown changes) steps) && not (is_any_wait (run.lacks_step changes) steps))) =
     λ fewer.
     let short : length steps ≤ length kinds = not_many (length kinds) (length steps) (ap (nat_lt (length kinds)) (sym (length-map steps (λ step. step.outcome))) ∙ fewer) in
-    ap (λ (b : Bool). b && list_all (waits_found (Some changes)) read.items) (kinds_read change 0 kinds read.items steps refl read.steps short)
+    ap (λ (b : Bool). b && list_all (waits_fit (Some changes)) read.items) (kinds_read change 0 kinds read.items steps refl read.steps short)
     ∙ ap (λ (b : Bool). (not (misplaced deposed kinds steps) && not (warned kinds steps)) && b) (waits_known changes read.items steps read.steps) in
     let room : has_room true left (waits_in_all d) ≡ not (nat_lt max_waits (sum_by count_in before + count_of_waits steps)) =
     room_is earlier (waits_in_all d) few
@@ -199,15 +199,15 @@ taken_is changes before d entry it is about are few =
     ∙ by_many many (not dup) (not (any_of is_too_long steps)) (not (any_of has_too_many_provisioners steps)) (not (any_of has_too_much_output steps))
     (not (misplaced deposed kinds steps)) (not (warned kinds steps))
     (not (nat_lt max_waits (sum_by count_in before + count_of_waits steps))) (not (is_any_wait (run.is_unknown changes) steps)) (not (is_any_wait (run.lacks_step changes) steps))
-    (all_from (fits_kind (Some change)) 0 read.items && list_all (waits_found (Some changes)) read.items) kind
-    ∙ sym (rw (within, unknown, again, too, beside, room) refl)
+    (all_from (fits_kind (Some change)) 0 read.items && list_all (waits_fit (Some changes)) read.items) kind
+    ∙ sym (rw (within, unknown, again, too, fit_plan, room) refl)
 
 no_change : (changes : List ResourceChange) (first left : Option ℕ) (d : Data) (entry : Entry) → entry_of d ≡ Some entry → change_of_entry changes entry ≡ None
     → false ≡ (is_entry d && fits_entry (Some changes) first left d)
 no_change changes first left d entry is about =
     let read = entry_read d entry is in
     let none : change_named changes (named entry.address entry.deposed) ≡ None =
-    found_with (λ c. name_one_object c.address c.deposed entry.address entry.deposed) 0 changes ∙ ap (option_map (λ p. p.1)) about in
+    findings_with (λ c. name_one_object c.address c.deposed entry.address entry.deposed) 0 changes ∙ ap (option_map (λ p. p.1)) about in
     let unknown : is_unknown (Some changes) (object_named d) ≡ true = ap (λ (o : Option Named). is_unknown (Some changes) o) read.object ∙ ap is_none none in
     sym (rw unknown (and_false (is_entry d)))
 
@@ -215,19 +215,19 @@ by_change : (changes : List ResourceChange) (before : List Data) (d : Data) (ent
     → nat_le (sum_by waits_in_all before) max_waits ≡ true
     → (o : Option (ℕ × ResourceChange)) → change_of_entry changes entry ≡ o
     → is_ok (results.◌>>=◌ (or_refuse (UnknownChange (length before)) o)
-    (λ it. let r : Result Said ScriptError =
+    (λ it. let r : Result ResolvedEntry ScriptError =
     cond (list_any (names_change it.1) before) (Err (Duplicate (length before)))
-    (unless_refused (fault_of_entry (length before) changes (sum_by count_in before) it.1 entry.steps) (said_by changes it.0 entry.steps)) in r))
+    (unless_refused (fault_of_entry (length before) changes (sum_by count_in before) it.1 entry.steps) (resolved_by changes it.0 entry.steps)) in r))
     ≡ (is_entry d && fits_entry (Some changes) (named_first before d) (waits_left (sum_by waits_in_all before)) d)
 by_change changes before d entry is are few None about = no_change changes (named_first before d) (waits_left (sum_by waits_in_all before)) d entry is about
-by_change changes before d entry is are few (Some it) about = taken_is changes before d entry it is about are few
+by_change changes before d entry is are few (Some it) about = accepted_is changes before d entry it is about are few
 
 by_entry : (changes : List ResourceChange) (before : List Data) (d : Data) → list_all is_entry before ≡ true
     → nat_le (sum_by waits_in_all before) max_waits ≡ true → (o : Option Entry) → entry_of d ≡ o
     → is_ok (results.◌>>=◌ (or_refuse (BadShape (Some (length before))) o) (λ entry. results.◌>>=◌ (or_refuse (UnknownChange (length before)) (change_of_entry changes entry))
-    (λ it. let r : Result Said ScriptError =
+    (λ it. let r : Result ResolvedEntry ScriptError =
     cond (list_any (names_change it.1) before) (Err (Duplicate (length before)))
-    (unless_refused (fault_of_entry (length before) changes (sum_by count_in before) it.1 entry.steps) (said_by changes it.0 entry.steps)) in r)))
+    (unless_refused (fault_of_entry (length before) changes (sum_by count_in before) it.1 entry.steps) (resolved_by changes it.0 entry.steps)) in r)))
     ≡ (is_entry d && fits_entry (Some changes) (named_first before d) (waits_left (sum_by waits_in_all before)) d)
 by_entry changes before d are few None is =
     let none : is_entry d ≡ false = ap (λ (o : Option Entry). option_map_or (λ x. list_all is_within_limits x.steps) o false) is in
@@ -251,18 +251,18 @@ last_of true true false e room f = absurd cc
 last_of true false c e room f = absurd cc
 last_of false b c e room f = absurd cc
 
--- behind an entry that a run takes, its items are no more than a script may have
-pub behind_one : (changes : List ResourceChange) (before : List Data) (d : Data) → list_all is_entry before ≡ true → nat_le (sum_by waits_in_all before) max_waits ≡ true
+-- after an entry that a run accepts, the items are within the limit
+pub after_one : (changes : List ResourceChange) (before : List Data) (d : Data) → list_all is_entry before ≡ true → nat_le (sum_by waits_in_all before) max_waits ≡ true
     → (is_entry d && fits_entry (Some changes) (named_first before d) (waits_left (sum_by waits_in_all before)) d) ≡ true
     → (list_all is_entry (before ++ d ∷ []) ≡ true) × (nat_le (sum_by waits_in_all (before ++ d ∷ [])) max_waits ≡ true)
-behind_one changes before d are few taken =
+after_one changes before d are few accepted =
     let fits : Bool = fits_entry (Some changes) (named_first before d) (waits_left (sum_by waits_in_all before)) d in
-    let itself : is_entry d ≡ true = and_left (is_entry d) fits taken in
+    let itself : is_entry d ≡ true = and_left (is_entry d) fits accepted in
     let room : has_room true (waits_left (sum_by waits_in_all before)) (waits_in_all d) ≡ true =
     last_of (not (is_unknown (Some changes) (object_named d))) (not (is_again (change_at (Some changes) d) (named_first before d)))
     (not (too_many (change_at (Some changes) d) (length (items_at name.Steps d))))
-    (steps_beside (Some changes) (change_at (Some changes) d) (member_of (codes "steps") d))
-    (has_room true (waits_left (sum_by waits_in_all before)) (waits_in_all d)) (and_right (is_entry d) fits taken) in
+    (steps_fit_plan (Some changes) (change_at (Some changes) d) (member_of (codes "steps") d))
+    (has_room true (waits_left (sum_by waits_in_all before)) (waits_in_all d)) (and_right (is_entry d) fits accepted) in
     let summed : sum_by waits_in_all (before ++ d ∷ []) ≡ sum_by waits_in_all before + waits_in_all d =
     sum_by-append waits_in_all before (d ∷ [])
     ∙ ap (λ (n : ℕ). sum_by waits_in_all before + n) (sum_by-cons waits_in_all d [] ∙ (let e : waits_in_all d + sum_by waits_in_all [] ≡ waits_in_all d = omega arith in e)) in (
@@ -282,7 +282,7 @@ entries_are changes (d ∷ ds) before all whole are few =
     and_if (is_ok (entry_at changes (take (length before) all) d)) (is_entry d && fits) rest others
     (ap (λ (xs : List Data). is_ok (entry_at changes xs d)) front ∙ one_entry changes before d are few)
     (λ new.
-    let known = behind_one changes before d are few new in
+    let rule = after_one changes before d are few new in
     ap (λ (n : ℕ). list_all is_ok (map (λ p. entry_at changes (take p.0 all) p.1) (enumerate_from n ds))) (sym longer)
-    ∙ entries_are changes ds (before ++ d ∷ []) all (whole ∙ sym (append_assoc before (d ∷ []) ds)) known.0 known.1)
+    ∙ entries_are changes ds (before ++ d ∷ []) all (whole ∙ sym (append_assoc before (d ∷ []) ds)) rule.0 rule.1)
     ∙ crossed (is_entry d) fits (list_all is_entry ds) (entries_fit (Some changes) (before ++ d ∷ []) ds)

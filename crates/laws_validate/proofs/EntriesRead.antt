@@ -1,4 +1,4 @@
--- What is read of an entry, and of those before it.
+-- What a run reads of an entry, and of the entries before it.
 use Rattle.std.proofs.Common.{◌≡◌, ℕ, ◌+◌, ◌-◌, ◌≤◌, List, [], ◌∷◌, map, Bool, true, false, cond, not, ◌||◌, is_some, Option, Some, None, if◌then◌else◌, refl, sym, ap, ◌∙◌, ⊎_elim, arith}
 use Rattle.std.specs.Prelude.{codes, find, nat_le, nat_lt}
 use Rattle.std.specs.List.{list_all, list_any, position_from, sum_by}
@@ -8,7 +8,7 @@ use Rattle.std.proofs.lemmas.Bool.Decides.{nat_tests}
 use Rattle.std.proofs.lemmas.List.Sums.{sum_by-cons}
 use Rattle.serde_json.specs.Data.{Data, null, boolean, number, string, array, object}
 use Rattle.serde_json.specs.Find.{as_array, as_str}
-use Rattle.apply_json.specs.Seen.{items_in}
+use Rattle.apply_json.specs.ShallowView.{items_in}
 use Rattle.apply_json.specs.Tree.{◌>>=◌, list_of, member_of, text_of, text_or, unless_empty}
 use Rattle.apply_model.specs.Plan.ResourceChange.{ResourceChange}
 use Rattle.apply_model.specs.Script.Limits.{max_waits}
@@ -17,18 +17,18 @@ use Rattle.apply_plan.specs.Script.Entry.{Entry, EntryStep, all_some, entry_of, 
 use Rattle.apply_plan.specs.Script.OutcomeMap.{count_in, names_change}
 use Rattle.apply_plan.specs.Script.Refusals.{count_of_waits}
 use Rattle.input_validate.specs.declared.findings.name.Name.TheVariants as name
-use Rattle.input_validate.specs.Beside.{object_named, waits_in, waits_in_all, waits_left}
+use Rattle.input_validate.specs.AgainstPlan.{object_named, waits_in, waits_in_all, waits_left}
 use Rattle.laws_validate.specs.Laws.{is_entry, is_within_limits}
 use Rattle.input_validate.specs.ObjectNames.{Named}
 use Rattle.input_validate.specs.PlanFindings.{is_named, name_read}
-use Rattle.input_validate.specs.Walks.{items_at}
-use Rattle.laws_validate.proofs.Besides.{has_room, less}
+use Rattle.input_validate.specs.Rules.{items_at}
+use Rattle.laws_validate.proofs.CleanAgainstPlan.{has_room, less}
 use Rattle.laws_validate.proofs.Clean.{is_absent_or}
 use Rattle.laws_validate.proofs.Elements.{named}
 use Rattle.input_validate.proofs.FirstNames.{same_name}
 use Rattle.laws_validate.proofs.Members.{all_from, all_items_from}
 use Rattle.input_validate.proofs.Options.{and_left, and_right, bind_some}
-use Rattle.laws_validate.proofs.Taken.{named_by, waits_read}
+use Rattle.laws_validate.proofs.AcceptedSteps.{named_by, waits_read}
 use Rattle.laws_validate.proofs.Wanted.{array_in}
 
 some_is : {A : Type 0} (x y : A) → Some x ≡ Some y → x ≡ y
@@ -105,9 +105,9 @@ by_pass : (test : ResourceChange → Bool) (change x : ResourceChange) (b : Bool
 by_pass test change x true o is rest e = ap test (sym (some_is change x e)) ∙ is
 by_pass test change x false o is rest e = rest e
 
-pub found_passes : (test : ResourceChange → Bool) (changes : List ResourceChange) (x : ResourceChange) → find test changes ≡ Some x → test x ≡ true
-found_passes test [] x e = absurd cc
-found_passes test (change ∷ changes) x e = by_pass test change x (test change) (find test changes) refl (found_passes test changes x) e
+pub findings_pass : (test : ResourceChange → Bool) (changes : List ResourceChange) (x : ResourceChange) → find test changes ≡ Some x → test x ≡ true
+findings_pass test [] x e = absurd cc
+findings_pass test (change ∷ changes) x e = by_pass test change x (test change) (find test changes) refl (findings_pass test changes x) e
 
 by_test : (b : Bool) (n : ℕ) (o : Option ℕ) (r : Bool) → is_some o ≡ r → is_some (cond b (Some n) o) ≡ (b || r)
 by_test true n o r e = refl

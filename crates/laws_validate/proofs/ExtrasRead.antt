@@ -1,4 +1,4 @@
--- What a script says for Terraform's form alone: nothing is found for which a run refuses, exactly where a run reads it.
+-- The members that only Terraform's form reads have no error if and only if a run reads them.
 use Rattle.std.proofs.Common.{◌≡◌, ◌≤◌, ℕ, suc, List, [], ◌∷◌, ◌++◌, map, Bool, true, false, not, ◌&&◌, is_ok, is_some, Option, Some, None, Result, Ok, Err, refl, sym, ap, subst, ◌∙◌, if◌then◌else◌, arith}
 use Rattle.std.specs.Prelude.{codes, is_none, option_map}
 use Rattle.std.specs.List.{list_all}
@@ -12,7 +12,7 @@ use Rattle.serde_json.specs.Find.{as_object, get}
 use Rattle.serde_json.specs.Read.{max_depth, number_of, of_items, of_json, of_members}
 use Rattle.apply_json.specs.Tree.{◌>>=◌, list_of, member_of, unless_empty, unless_null}
 use Rattle.apply_model.specs.declared.details.note.Note.{Note}
-use Rattle.apply_model.specs.declared.details.severity.Severity.{Severity}
+use Rattle.apply_model.specs.declared.details.note.Severity.{Severity}
 use Rattle.apply_model.specs.declared.script.diag.Diag.{Diag}
 use Rattle.apply_plan.specs.declared.script.script_error.ScriptError.{ScriptError}
 use Rattle.apply_plan.specs.declared.script.script_error.ScriptError.TheVariants.{BadDiagnostic, BadOutput, BadShape, UnknownOutput}
@@ -20,22 +20,22 @@ use Rattle.apply_plan.specs.Results as results
 use Rattle.apply_plan_terraform.specs.declared.texts.part.Part.TheVariants as part
 use Rattle.apply_plan_terraform.specs.Extras.{extras_of_script, with_notes}
 use Rattle.apply_plan_terraform.specs.Notes as noted
-use Rattle.apply_plan_terraform.specs.Notes.{items_of, kept_at, note_in, notes_from, notes_in_script, object_or_none, said_at, said_or_empty, severity_in}
+use Rattle.apply_plan_terraform.specs.Notes.{items_of, raw_member, note_in, notes_from, notes_in_script, object_or_none, decoded_member, decoded_or_empty, severity_in}
 use Rattle.apply_plan_terraform.specs.Outputs.{OutputsOfPlan, fault_of, has_output, is_flag_or_absent, is_output, is_typed, outputs_in_script, text_at, unless_faulty}
 use Rattle.apply_plan_terraform.specs.Texts.{json_of_text, members_with_texts, text_of, with_texts}
 use Rattle.input_validate.specs.declared.findings.finding.Finding.{Finding}
 use Rattle.input_validate.specs.declared.findings.name.Name.TheVariants as name
-use Rattle.input_validate.specs.declared.findings.part.Part.TheVariants.{Other}
-use Rattle.input_validate.specs.declared.findings.want.Want.TheVariants as want
-use Rattle.input_validate.specs.declared.walks.known.Known.{Known}
+use Rattle.input_validate.specs.declared.findings.path.Segment.TheVariants.{Other}
+use Rattle.input_validate.specs.declared.findings.expected.Expected.TheVariants as expected
+use Rattle.input_validate.specs.declared.rules.rule.MemberRule.{MemberRule}
 use Rattle.input_validate.specs.Extras.{in_extras, in_note, in_plan_output, in_plan_outputs, members_from, note_names, note_table, plan_output_names, plan_output_table, unless_planned}
 use Rattle.input_validate.specs.Findings.{under}
-use Rattle.input_validate.specs.Walks as walks
-use Rattle.input_validate.specs.Walks.{faults_of, in_list, inside, known, unread, where_suits}
-use Rattle.input_validate.specs.Wants.{is_met}
+use Rattle.input_validate.specs.Rules as walks
+use Rattle.input_validate.specs.Rules.{faults_of, in_list, inside, rule, ignored, where_suits}
+use Rattle.input_validate.specs.Expectations.{is_met}
 use Rattle.laws_validate.proofs.Clean.{all_items, appended, clean, clean-append, clean-fault_of, clean-faults_of, clean-in_list, clean-inside, clean-then_unread, clean-under, clean-where_suits, is_absent_or}
 use Rattle.laws_validate.proofs.Diagnostics.{two}
-use Rattle.laws_validate.proofs.KeptBeside.{AreOf, AreOutputs, all_outputs, at_part, behind, kept_whole, member_spelt, text_spelt}
+use Rattle.laws_validate.proofs.VerbatimTrees.{AreOf, AreOutputs, all_outputs, at_part, behind, verbatim_whole, member_spelt, text_spelt}
 use Rattle.laws_validate.proofs.Spelt.{IsOf, flag_met, mapped, null_text, object_met, read_back, severity_met, text_met, text_or_met, typed_met}
 use Rattle.laws_validate.proofs.Wanted.{needs_object}
 
@@ -55,17 +55,17 @@ by_has false = refl
 pub clean_output : (plan : OutputsOfPlan) (text : List ℕ) (j : Json) (d : Data) → IsOf j d → clean (in_plan_output (Some plan) text d) ≡ (is_output (with_texts part.Output j) && has_output plan text)
 unfolding in_plan_output
 clean_output plan text j d of =
-    let kind : is_met want.NotNull (member_of (codes "type") d) ≡ is_typed (with_texts part.Output j) =
+    let kind : is_met expected.NotNull (member_of (codes "type") d) ≡ is_typed (with_texts part.Output j) =
     typed_met (get (codes "type") d) (text_at (codes "type") (with_texts part.Output j)) (text_spelt part.Output (codes "type") refl refl j d of) in
-    let flag : is_met want.FlagOrAbsent (member_of (codes "sensitive") d) ≡ is_flag_or_absent (text_at (codes "sensitive") (with_texts part.Output j)) =
+    let flag : is_met expected.FlagOrAbsent (member_of (codes "sensitive") d) ≡ is_flag_or_absent (text_at (codes "sensitive") (with_texts part.Output j)) =
     flag_met (get (codes "sensitive") d) (text_at (codes "sensitive") (with_texts part.Output j)) (text_spelt part.Output (codes "sensitive") refl refl j d of) in
-    let both : Bool = is_met want.NotNull (member_of (codes "type") d) && is_met want.FlagOrAbsent (member_of (codes "sensitive") d) in
-    let wrong : List Finding = where_suits want.PlanOutput d (faults_of plan_output_table d) in
+    let both : Bool = is_met expected.NotNull (member_of (codes "type") d) && is_met expected.FlagOrAbsent (member_of (codes "sensitive") d) in
+    let wrong : List Finding = where_suits expected.PlanOutput d (faults_of plan_output_table d) in
     let own : clean wrong ≡ is_output (with_texts part.Output j) =
-    clean-where_suits want.PlanOutput d (faults_of plan_output_table d)
-    ∙ ap (λ (b : Bool). is_some (as_object d) && b) (two (known name.Kind want.NotNull) (known name.Sensitive want.FlagOrAbsent) d)
-    ∙ needs_object (codes "type") d both (λ none. ap (λ (o : Option Data). is_met want.NotNull o && is_met want.FlagOrAbsent (member_of (codes "sensitive") d)) none)
-    ∙ ap (λ (b : Bool). b && is_met want.FlagOrAbsent (member_of (codes "sensitive") d)) kind
+    clean-where_suits expected.PlanOutput d (faults_of plan_output_table d)
+    ∙ ap (λ (b : Bool). is_some (as_object d) && b) (two (rule name.Kind expected.NotNull) (rule name.Sensitive expected.FlagOrAbsent) d)
+    ∙ needs_object (codes "type") d both (λ none. ap (λ (o : Option Data). is_met expected.NotNull o && is_met expected.FlagOrAbsent (member_of (codes "sensitive") d)) none)
+    ∙ ap (λ (b : Bool). b && is_met expected.FlagOrAbsent (member_of (codes "sensitive") d)) kind
     ∙ ap (λ (b : Bool). is_typed (with_texts part.Output j) && b) flag in
     let planned : clean (unless_planned (Some plan) text) ≡ has_output plan text = clean_planned (has_output plan text) _ ∙ by_has (has_output plan text) in
     clean-then_unread (wrong ++ unless_planned (Some plan) text) plan_output_names d
@@ -86,15 +86,15 @@ clean_members plan n (member l d ms) ts a =
     (clean-under (Other n) (in_plan_output (Some plan) l d) ∙ clean_output plan l a.0 d a.3)
     ∙ by_fault (is_output (with_texts part.Output a.0)) (has_output plan l) _ (BadOutput n) (UnknownOutput n) (fault_of plan (suc n) a.1) (clean_members plan (suc n) ms a.1 a.4))
 
-taken : (o : Option ScriptError) (ts : Members) → is_ok (results.unless_refused o ts) ≡ is_none o
-taken None ts = refl
-taken (Some refusal) ts = refl
+accepted : (o : Option ScriptError) (ts : Members) → is_ok (results.unless_refused o ts) ≡ is_none o
+accepted None ts = refl
+accepted (Some refusal) ts = refl
 
 abbrev outputs_read : OutputsOfPlan → Option Data → Bool
 outputs_read plan p = is_ok (unless_faulty plan (outputs_in_script p))
 
 abbrev outputs_clean : OutputsOfPlan → Option Data → Bool
-outputs_clean plan o = is_met want.ObjectOrAbsent o && is_absent_or (λ v. clean (in_plan_outputs (Some plan) v)) o
+outputs_clean plan o = is_met expected.ObjectOrAbsent o && is_absent_or (λ v. clean (in_plan_outputs (Some plan) v)) o
 
 not_read : (plan : OutputsOfPlan) (text : List ℕ) → bytes_eq text (codes "null") ≡ false → false ≡ outputs_read plan (Some (string text))
 not_read plan text is = rw is refl
@@ -115,7 +115,7 @@ one_outputs plan (json.object ms) d of =
     let it = mapped object (of_members ms no_members) d of.is in
     rw it.2
     (clean_members plan 0 it.0 (members_with_texts part.Outputs ms no_members) (all_outputs ms no_members no_members it.0 of.numbers (omega (arith, of.shallow)) it.1 refl)
-    ∙ sym (taken (fault_of plan 0 (members_with_texts part.Outputs ms no_members)) (members_with_texts part.Outputs ms no_members)))
+    ∙ sym (accepted (fault_of plan 0 (members_with_texts part.Outputs ms no_members)) (members_with_texts part.Outputs ms no_members)))
 
 outputs_both : (plan : OutputsOfPlan) (o p : Option Data) → AreOf part.Outputs o p → outputs_clean plan (o >>= unless_null) ≡ outputs_read plan p
 outputs_both plan None p a = rw a refl
@@ -152,25 +152,25 @@ unfolding in_note
 clean_note j d of =
     let t : Data = with_texts part.Diagnostic j in
     let read : Bool =
-    is_some (severity_in t) && (is_some (said_at (codes "summary") t) && (is_some (said_or_empty (kept_at (codes "detail") t)) && (is_some (said_or_empty (kept_at (codes "address") t))
-    && (is_some (object_or_none (kept_at (codes "range") t)) && (is_some (object_or_none (kept_at (codes "snippet") t)) && true))))) in
-    let rest : List Known =
-    known name.Summary want.Text ∷ known name.Detail want.TextOrAbsent ∷ known name.Address want.TextOrAbsent ∷ known name.Range want.ObjectOrAbsent
-    ∷ known name.Snippet want.ObjectOrAbsent ∷ [] in
-    let same : list_all (λ it. is_met it.want (walks.member_at it.name d)) note_table ≡ read =
-    six (severity_met (member_of (codes "severity") d) (kept_at (codes "severity") t) (member_spelt part.Diagnostic (codes "severity") refl refl j d of))
-    (text_met (member_of (codes "summary") d) (kept_at (codes "summary") t) (member_spelt part.Diagnostic (codes "summary") refl refl j d of))
-    (text_or_met (member_of (codes "detail") d) (kept_at (codes "detail") t) (member_spelt part.Diagnostic (codes "detail") refl refl j d of))
-    (text_or_met (member_of (codes "address") d) (kept_at (codes "address") t) (member_spelt part.Diagnostic (codes "address") refl refl j d of))
-    (object_met (member_of (codes "range") d) (kept_at (codes "range") t) (member_spelt part.Diagnostic (codes "range") refl refl j d of))
-    (object_met (member_of (codes "snippet") d) (kept_at (codes "snippet") t) (member_spelt part.Diagnostic (codes "snippet") refl refl j d of)) in
-    clean-where_suits want.Note d (faults_of note_table d ++ unread note_names d)
+    is_some (severity_in t) && (is_some (decoded_member (codes "summary") t) && (is_some (decoded_or_empty (raw_member (codes "detail") t)) && (is_some (decoded_or_empty (raw_member (codes "address") t))
+    && (is_some (object_or_none (raw_member (codes "range") t)) && (is_some (object_or_none (raw_member (codes "snippet") t)) && true))))) in
+    let rest : List MemberRule =
+    rule name.Summary expected.Text ∷ rule name.Detail expected.TextOrAbsent ∷ rule name.Address expected.TextOrAbsent ∷ rule name.Range expected.ObjectOrAbsent
+    ∷ rule name.Snippet expected.ObjectOrAbsent ∷ [] in
+    let same : list_all (λ it. is_met it.expected (walks.member_at it.name d)) note_table ≡ read =
+    six (severity_met (member_of (codes "severity") d) (raw_member (codes "severity") t) (member_spelt part.Diagnostic (codes "severity") refl refl j d of))
+    (text_met (member_of (codes "summary") d) (raw_member (codes "summary") t) (member_spelt part.Diagnostic (codes "summary") refl refl j d of))
+    (text_or_met (member_of (codes "detail") d) (raw_member (codes "detail") t) (member_spelt part.Diagnostic (codes "detail") refl refl j d of))
+    (text_or_met (member_of (codes "address") d) (raw_member (codes "address") t) (member_spelt part.Diagnostic (codes "address") refl refl j d of))
+    (object_met (member_of (codes "range") d) (raw_member (codes "range") t) (member_spelt part.Diagnostic (codes "range") refl refl j d of))
+    (object_met (member_of (codes "snippet") d) (raw_member (codes "snippet") t) (member_spelt part.Diagnostic (codes "snippet") refl refl j d of)) in
+    clean-where_suits expected.Note d (faults_of note_table d ++ ignored note_names d)
     ∙ ap (λ (b : Bool). is_some (as_object d) && b) (clean-then_unread (faults_of note_table d) note_names d ∙ clean-faults_of note_table d)
-    ∙ needs_object (codes "severity") d (list_all (λ it. is_met it.want (walks.member_at it.name d)) note_table)
-    (λ none. ap (λ (o : Option Data). is_met want.NoteSeverity o && list_all (λ it. is_met it.want (walks.member_at it.name d)) rest) none)
+    ∙ needs_object (codes "severity") d (list_all (λ it. is_met it.expected (walks.member_at it.name d)) note_table)
+    (λ none. ap (λ (o : Option Data). is_met expected.NoteSeverity o && list_all (λ it. is_met it.expected (walks.member_at it.name d)) rest) none)
     ∙ same
-    ∙ sym (note_reads (severity_in t) (said_at (codes "summary") t) (said_or_empty (kept_at (codes "detail") t)) (object_or_none (kept_at (codes "range") t))
-    (object_or_none (kept_at (codes "snippet") t)) (said_or_empty (kept_at (codes "address") t)))
+    ∙ sym (note_reads (severity_in t) (decoded_member (codes "summary") t) (decoded_or_empty (raw_member (codes "detail") t)) (object_or_none (raw_member (codes "range") t))
+    (object_or_none (raw_member (codes "snippet") t)) (decoded_or_empty (raw_member (codes "address") t)))
 
 with_note : (o : Option Note) (n : ℕ) (r : Result (List Note) ScriptError) (b : Bool) → b ≡ is_ok r
     → (is_some o && b) ≡ is_ok (results.◌>>=◌ (results.or_refuse (BadDiagnostic n) o) (λ note. results.◌>>=◌ r (λ notes. Ok (note ∷ notes))))
@@ -191,7 +191,7 @@ clean_items n (json.item j js) ds has shallow e =
     (clean_items (suc n) js more.0 has.1 (omega (arith, shallow)) more.1))
 
 abbrev notes_clean : Option Data → Bool
-notes_clean o = is_met want.ArrayOrAbsent o && is_absent_or (all_items (λ d. clean (in_note d))) o
+notes_clean o = is_met expected.ArrayOrAbsent o && is_absent_or (all_items (λ d. clean (in_note d))) o
 
 abbrev notes_read : Option Data → Bool
 notes_read p = is_ok (notes_in_script p)
@@ -229,13 +229,13 @@ one_notes (json.object ms) d of =
 notes_both : (o p : Option Data) → AreOf part.Diagnostics o p → notes_clean (o >>= unless_null) ≡ notes_read p
 notes_both None p a = rw a refl
 notes_both (Some d) p a =
-    rw (a.2) (one_notes a.0 d a.1 ∙ ap (λ (t : Data). notes_read (Some t)) (sym (kept_whole part.Diagnostics a.0 refl)))
+    rw (a.2) (one_notes a.0 d a.1 ∙ ap (λ (t : Data). notes_read (Some t)) (sym (verbatim_whole part.Diagnostics a.0 refl)))
 
 -- ---- the whole
 
 both_read : (r : Result Members ScriptError) (q : Result (List Note) ScriptError)
-    → (is_ok r && is_ok q) ≡ is_ok (results.◌>>=◌ r (λ outputs. results.◌>>=◌ q (λ found. Ok (with_notes outputs found))))
-both_read (Ok outputs) (Ok found) = refl
+    → (is_ok r && is_ok q) ≡ is_ok (results.◌>>=◌ r (λ outputs. results.◌>>=◌ q (λ findings. Ok (with_notes outputs findings))))
+both_read (Ok outputs) (Ok findings) = refl
 both_read (Ok outputs) (Err refusal) = refl
 both_read (Err refusal) q = refl
 
@@ -243,15 +243,15 @@ pub clean_extras : (plan : OutputsOfPlan) (j : Json) (d : Data) → IsOf j d →
 unfolding in_extras
 clean_extras plan j d of =
     let t : Data = with_texts part.Script j in
-    let fault : List Finding = walks.fault_of d (known name.Outputs want.ObjectOrAbsent) in
+    let fault : List Finding = walks.fault_of d (rule name.Outputs expected.ObjectOrAbsent) in
     let inner : List Finding = inside (in_plan_outputs (Some plan)) name.Outputs d in
-    let list : List Finding = in_list (λ number. in_note) (known name.Diagnostics want.ArrayOrAbsent) d in
+    let list : List Finding = in_list (λ number. in_note) (rule name.Diagnostics expected.ArrayOrAbsent) d in
     let outputs : clean (fault ++ inner) ≡ outputs_read plan (get (codes "outputs") t) =
-    appended fault inner _ _ (clean-fault_of d (known name.Outputs want.ObjectOrAbsent))
+    appended fault inner _ _ (clean-fault_of d (rule name.Outputs expected.ObjectOrAbsent))
     (clean-inside (in_plan_outputs (Some plan)) (λ v. clean (in_plan_outputs (Some plan) v)) (λ v. refl) name.Outputs d)
     ∙ outputs_both plan (get (codes "outputs") d) (get (codes "outputs") t) (at_part part.Script part.Outputs (codes "outputs") refl refl j d of) in
     let diagnostics : clean list ≡ notes_read (get (codes "diagnostics") t) =
-    clean-in_list (λ number. in_note) (λ v. clean (in_note v)) (λ n v. refl) (known name.Diagnostics want.ArrayOrAbsent) d
+    clean-in_list (λ number. in_note) (λ v. clean (in_note v)) (λ n v. refl) (rule name.Diagnostics expected.ArrayOrAbsent) d
     ∙ notes_both (get (codes "diagnostics") d) (get (codes "diagnostics") t) (at_part part.Script part.Diagnostics (codes "diagnostics") refl refl j d of) in
     appended (fault ++ inner) list _ _ outputs diagnostics
     ∙ both_read (unless_faulty plan (outputs_in_script (get (codes "outputs") t))) (notes_in_script (get (codes "diagnostics") t))

@@ -1,4 +1,5 @@
--- Where a run refuses what a script says for Terraform's form alone, something is found where the refusal says.
+-- If a run in Terraform's form refuses members that only it reads, an error is reported where the
+-- refusal points.
 use Rattle.std.proofs.Common.{◌≡◌, ◌≤◌, ℕ, suc, List, [], ◌∷◌, ◌++◌, map, Bool, true, false, not, ◌&&◌, ◌||◌, is_err, is_ok, is_some, Option, Some, None, Result, Ok, Err, refl, sym, ap, subst, ◌∙◌, if◌then◌else◌, arith}
 use Rattle.std.specs.Prelude.{codes, nat_eq, option_map}
 use Rattle.std.specs.List.{list_any}
@@ -30,31 +31,31 @@ use Rattle.apply_plan_terraform.specs.Notes as noted
 use Rattle.apply_plan_terraform.specs.Notes.{items_of, note_in, notes_from, notes_in_script}
 use Rattle.apply_plan_terraform.specs.Outputs.{OutputsOfPlan, fault_of, has_output, is_output, outputs_in_script, unless_faulty}
 use Rattle.apply_plan_terraform.specs.Texts.{members_with_texts, text_of, with_texts}
-use Rattle.apply_plan_terraform.specs.Told.{DetailsOfPlan, details_of}
+use Rattle.apply_plan_terraform.specs.ReadDetails.{DetailsOfPlan, details_of}
 use Rattle.input_validate.specs.declared.findings.finding.Finding.{Finding}
 use Rattle.input_validate.specs.declared.findings.name.Name.{Name}
 use Rattle.input_validate.specs.declared.findings.name.Name.TheVariants as name
-use Rattle.input_validate.specs.declared.findings.part.Part.{Part}
-use Rattle.input_validate.specs.declared.findings.part.Part.TheVariants.{Item, Member, Other}
-use Rattle.input_validate.specs.declared.findings.want.Want.{Want}
-use Rattle.input_validate.specs.declared.findings.want.Want.TheVariants as want
+use Rattle.input_validate.specs.declared.findings.path.Segment.{Segment}
+use Rattle.input_validate.specs.declared.findings.path.Segment.TheVariants.{Item, Member, Other}
+use Rattle.input_validate.specs.declared.findings.expected.Expected.{Expected}
+use Rattle.input_validate.specs.declared.findings.expected.Expected.TheVariants as expected
 use Rattle.input_validate.specs.declared.form.Form.TheVariants.{Terraform}
 use Rattle.input_validate.specs.Extras.{extras_findings, in_extras, in_note, in_plan_output, in_plan_outputs, members_from, outputs_unless}
 use Rattle.input_validate.specs.Findings.{finding_at, is_refusal, under}
 use Rattle.input_validate.specs.InForm.{findings_in}
 use Rattle.laws_validate.specs.Laws.{goes_to, has_refusal, has_refusal_to}
-use Rattle.input_validate.specs.Walks.{in_items, items_from, lack}
-use Rattle.input_validate.specs.Wants.{is_met}
+use Rattle.input_validate.specs.Rules.{in_items, items_from, mismatch}
+use Rattle.input_validate.specs.Expectations.{is_met}
 use Rattle.input_validate.specs.Whole.{given_findings, plan_findings}
 use Rattle.laws_validate.proofs.Clean.{clean}
 use Rattle.laws_validate.proofs.ExtrasRead.{clean_note, clean_output}
-use Rattle.laws_validate.proofs.FormRuns.{of_taken_tree}
-use Rattle.laws_validate.proofs.KeptBeside.{AreOf, AreOutputs, all_outputs, at_part, behind, kept_whole}
+use Rattle.laws_validate.proofs.FormRuns.{of_accepted_tree}
+use Rattle.laws_validate.proofs.VerbatimTrees.{AreOf, AreOutputs, all_outputs, at_part, behind, verbatim_whole}
 use Rattle.input_validate.proofs.Options.{not_not}
 use Rattle.laws_validate.proofs.Plans.{refusals_of_plan}
 use Rattle.laws_validate.proofs.Spelt.{IsOf, mapped, null_text, read_back}
 
--- one of them is where the refusal says
+-- one of the findings is where the refusal points
 abbrev is_to : ScriptError → Finding → Bool
 is_to refusal finding = is_refusal finding && goes_to refusal finding.path
 
@@ -78,16 +79,16 @@ any_right p xs ys e = list_any-append p xs ys ∙ or_true (list_any p xs) (list_
 not_clean : (xs : List Finding) → clean xs ≡ false → list_any is_refusal xs ≡ true
 not_clean xs e = sym (not_not (list_any is_refusal xs)) ∙ ap not e
 
--- what is found in an item or a member of that number of a member at the top
-module _ (refusal : ScriptError) (at : Name) (inner : Part) (goes : (path : List Part) → goes_to refusal (Member at ∷ inner ∷ path) ≡ true) where
+-- the findings of an item or a member with this number, in a member at the top
+module _ (refusal : ScriptError) (at : Name) (inner : Segment) (goes : (path : List Segment) → goes_to refusal (Member at ∷ inner ∷ path) ≡ true) where
   all_there : (xs : List Finding) → list_any (is_to refusal) (map (under (Member at)) (map (under inner) xs)) ≡ list_any is_refusal xs
   all_there [] = refl
   all_there (x ∷ xs) =
       ap (λ (b : Bool). b || list_any (is_to refusal) (map (under (Member at)) (map (under inner) xs))) (and_one (is_refusal x) _ (goes x.path))
       ∙ ap (λ (b : Bool). is_refusal x || b) (all_there xs)
 
-  told_there : (xs : List Finding) → clean xs ≡ false → list_any (is_to refusal) (map (under (Member at)) (map (under inner) xs)) ≡ true
-  told_there xs e = all_there xs ∙ not_clean xs e
+  reported_there : (xs : List Finding) → clean xs ≡ false → list_any (is_to refusal) (map (under (Member at)) (map (under inner) xs)) ≡ true
+  reported_there xs e = all_there xs ∙ not_clean xs e
 
 -- ---- outputs
 
@@ -101,26 +102,26 @@ by_fault : (a b : Bool) (n : ℕ) (r : Option ScriptError) (refusal : ScriptErro
     → (let o : Option ScriptError = if not a then Some (BadOutput n) else if not b then Some (UnknownOutput n) else r in o) ≡ Some refusal
     → (r ≡ Some refusal → list_any (is_to refusal) (outputs_at rest) ≡ true)
     → list_any (is_to refusal) (outputs_at (map (under (Other n)) own) ++ outputs_at rest) ≡ true
-by_fault false b n r refusal own rest found e later =
+by_fault false b n r refusal own rest findings e later =
     let is : BadOutput n ≡ refusal = some_is (BadOutput n) refusal e in
     any_left (is_to refusal) (outputs_at (map (under (Other n)) own)) (outputs_at rest)
-    (told_there refusal name.Outputs (Other n) (λ path. ap (λ (x : ScriptError). goes_to x (Member name.Outputs ∷ Other n ∷ path)) (sym is) ∙ same_number n) own found)
-by_fault true false n r refusal own rest found e later =
+    (reported_there refusal name.Outputs (Other n) (λ path. ap (λ (x : ScriptError). goes_to x (Member name.Outputs ∷ Other n ∷ path)) (sym is) ∙ same_number n) own findings)
+by_fault true false n r refusal own rest findings e later =
     let is : UnknownOutput n ≡ refusal = some_is (UnknownOutput n) refusal e in
     any_left (is_to refusal) (outputs_at (map (under (Other n)) own)) (outputs_at rest)
-    (told_there refusal name.Outputs (Other n) (λ path. ap (λ (x : ScriptError). goes_to x (Member name.Outputs ∷ Other n ∷ path)) (sym is) ∙ same_number n) own found)
-by_fault true true n r refusal own rest found e later =
+    (reported_there refusal name.Outputs (Other n) (λ path. ap (λ (x : ScriptError). goes_to x (Member name.Outputs ∷ Other n ∷ path)) (sym is) ∙ same_number n) own findings)
+by_fault true true n r refusal own rest findings e later =
     any_right (is_to refusal) (outputs_at (map (under (Other n)) own)) (outputs_at rest) (later e)
 
-told_members : (plan : OutputsOfPlan) (refusal : ScriptError) (n : ℕ) (ms ts : Members) → AreOutputs ms ts → fault_of plan n ts ≡ Some refusal
+reported_members : (plan : OutputsOfPlan) (refusal : ScriptError) (n : ℕ) (ms ts : Members) → AreOutputs ms ts → fault_of plan n ts ≡ Some refusal
     → list_any (is_to refusal) (outputs_at (members_from (in_plan_output (Some plan)) n ms)) ≡ true
-told_members plan refusal n no_members ts a e = absurd (let never : fault_of plan n no_members ≡ Some refusal = ap (fault_of plan n) (sym a) ∙ e in cc)
-told_members plan refusal n (member l d ms) ts a e =
+reported_members plan refusal n no_members ts a e = absurd (let never : fault_of plan n no_members ≡ Some refusal = ap (fault_of plan n) (sym a) ∙ e in cc)
+reported_members plan refusal n (member l d ms) ts a e =
     let own : List Finding = in_plan_output (Some plan) l d in
     let rest : List Finding = members_from (in_plan_output (Some plan)) (suc n) ms in
     ap (list_any (is_to refusal)) (map-append (under (Member name.Outputs)) (map (under (Other n)) own) rest)
     ∙ by_fault (is_output (with_texts part.Output a.0)) (has_output plan l) n (fault_of plan (suc n) a.1) refusal own rest (clean_output plan l a.0 d a.3)
-    (ap (fault_of plan n) (sym a.2) ∙ e) (told_members plan refusal (suc n) ms a.1 a.4)
+    (ap (fault_of plan n) (sym a.2) ∙ e) (reported_members plan refusal (suc n) ms a.1 a.4)
 
 -- ---- diagnostics of no step
 
@@ -134,146 +135,146 @@ by_note : (o : Option Note) (n : ℕ) (r : Result (List Note) ScriptError) (refu
     → results.◌>>=◌ (results.or_refuse (BadDiagnostic n) o) (λ note. results.◌>>=◌ r (λ notes. Ok (note ∷ notes))) ≡ Err refusal
     → (r ≡ Err refusal → list_any (is_to refusal) (notes_at rest) ≡ true)
     → list_any (is_to refusal) (notes_at (map (under (Item n)) own) ++ notes_at rest) ≡ true
-by_note None n r refusal own rest found e later =
+by_note None n r refusal own rest findings e later =
     let is : BadDiagnostic n ≡ refusal = err_is (BadDiagnostic n) refusal e in
     any_left (is_to refusal) (notes_at (map (under (Item n)) own)) (notes_at rest)
-    (told_there refusal name.Diagnostics (Item n) (λ path. ap (λ (x : ScriptError). goes_to x (Member name.Diagnostics ∷ Item n ∷ path)) (sym is) ∙ same_number n) own found)
-by_note (Some note) n (Ok notes) refusal own rest found e later = absurd cc
-by_note (Some note) n (Err x) refusal own rest found e later =
+    (reported_there refusal name.Diagnostics (Item n) (λ path. ap (λ (x : ScriptError). goes_to x (Member name.Diagnostics ∷ Item n ∷ path)) (sym is) ∙ same_number n) own findings)
+by_note (Some note) n (Ok notes) refusal own rest findings e later = absurd cc
+by_note (Some note) n (Err x) refusal own rest findings e later =
     any_right (is_to refusal) (notes_at (map (under (Item n)) own)) (notes_at rest) (later e)
 
-told_items : (refusal : ScriptError) (n : ℕ) (js : json.Items) (ds : Items) → ItemsHaveNumbers js → items_depth js ≤ max_depth → of_items js ≡ Some ds → notes_from n (items_of js) ≡ Err refusal
+reported_items : (refusal : ScriptError) (n : ℕ) (js : json.Items) (ds : Items) → ItemsHaveNumbers js → items_depth js ≤ max_depth → of_items js ≡ Some ds → notes_from n (items_of js) ≡ Err refusal
     → list_any (is_to refusal) (notes_at (items_from (λ number. in_note) n (list_of ds))) ≡ true
-told_items refusal n json.no_items ds has shallow is e = absurd cc
-told_items refusal n (json.item j js) ds has shallow is e =
+reported_items refusal n json.no_items ds has shallow is e = absurd cc
+reported_items refusal n (json.item j js) ds has shallow is e =
     let one = behind (of_json j) (λ d. option_map (item d) (of_items js)) ds is in
     let more = mapped (item one.0) (of_items js) ds one.2 in
     let of : IsOf j one.0 = record { numbers = has.0; shallow = omega (arith, shallow); is = one.1 } in
     rw more.2
     (ap (list_any (is_to refusal)) (map-append (under (Member name.Diagnostics)) (map (under (Item n)) (in_note one.0)) (items_from (λ number. in_note) (suc n) (list_of more.0)))
     ∙ by_note (note_in (with_texts part.Diagnostic j)) n (notes_from (suc n) (items_of js)) refusal (in_note one.0) (items_from (λ number. in_note) (suc n) (list_of more.0)) (clean_note j one.0 of)
-    e (told_items refusal (suc n) js more.0 has.1 (omega (arith, shallow)) more.1))
+    e (reported_items refusal (suc n) js more.0 has.1 (omega (arith, shallow)) more.1))
 
 -- ---- the two members
 
--- what is found at a member at the top, in which the value stands that was found
-abbrev at_top : Name → Want → (Data → List Finding) → Option Data → List Finding
-at_top at wanted found o =
-    (if is_met wanted (o >>= unless_null) then [] else finding_at (Member at) (lack wanted o) ∷ [])
-    ++ option_map_or (λ value. map (under (Member at)) (found value)) (o >>= unless_null) []
+-- the findings of a member at the top that holds the value
+abbrev at_top : Name → Expected → (Data → List Finding) → Option Data → List Finding
+at_top at wanted findings o =
+    (if is_met wanted (o >>= unless_null) then [] else finding_at (Member at) (mismatch wanted o) ∷ [])
+    ++ option_map_or (λ value. map (under (Member at)) (findings value)) (o >>= unless_null) []
 
 -- the value is not what it has to be
 no_shape : (refusal : ScriptError) (xs : List Finding) → (let r : Result (List Note) ScriptError = Err (BadShape None) in r) ≡ Err refusal → list_any (is_to (BadShape None)) xs ≡ true → list_any (is_to refusal) xs ≡ true
-no_shape refusal xs e found = ap (λ (x : ScriptError). list_any (is_to x) xs) (sym (err_is (BadShape None) refusal e)) ∙ found
+no_shape refusal xs e findings = ap (λ (x : ScriptError). list_any (is_to x) xs) (sym (err_is (BadShape None) refusal e)) ∙ findings
 
 no_members_shape : (refusal : ScriptError) (xs : List Finding) → (let r : Result Members ScriptError = Err (BadShape None) in r) ≡ Err refusal → list_any (is_to (BadShape None)) xs ≡ true → list_any (is_to refusal) xs ≡ true
-no_members_shape refusal xs e found = ap (λ (x : ScriptError). list_any (is_to x) xs) (sym (err_is (BadShape None) refusal e)) ∙ found
+no_members_shape refusal xs e findings = ap (λ (x : ScriptError). list_any (is_to x) xs) (sym (err_is (BadShape None) refusal e)) ∙ findings
 
-abbrev outputs_found : OutputsOfPlan → Option Data → List Finding
-outputs_found plan o = at_top name.Outputs want.ObjectOrAbsent (in_plan_outputs (Some plan)) o
+abbrev outputs_findings : OutputsOfPlan → Option Data → List Finding
+outputs_findings plan o = at_top name.Outputs expected.ObjectOrAbsent (in_plan_outputs (Some plan)) o
 
-abbrev outputs_taken : OutputsOfPlan → Option Data → Result Members ScriptError
-outputs_taken plan p = unless_faulty plan (outputs_in_script p)
+abbrev outputs_accepted : OutputsOfPlan → Option Data → Result Members ScriptError
+outputs_accepted plan p = unless_faulty plan (outputs_in_script p)
 
-no_object : (plan : OutputsOfPlan) (text : List ℕ) (refusal : ScriptError) → bytes_eq text (codes "null") ≡ false → outputs_taken plan (Some (string text)) ≡ Err refusal
+no_object : (plan : OutputsOfPlan) (text : List ℕ) (refusal : ScriptError) → bytes_eq text (codes "null") ≡ false → outputs_accepted plan (Some (string text)) ≡ Err refusal
     → (let r : Result Members ScriptError = Err (BadShape None) in r) ≡ Err refusal
-no_object plan text refusal not e = (let is : outputs_taken plan (Some (string text)) ≡ Err (BadShape None) = rw not refl in sym is) ∙ e
+no_object plan text refusal not e = (let is : outputs_accepted plan (Some (string text)) ≡ Err (BadShape None) = rw not refl in sym is) ∙ e
 
 faulty : (ts : Members) (refusal : ScriptError) (o : Option ScriptError) → results.unless_refused o ts ≡ Err refusal → o ≡ Some refusal
 faulty ts refusal None e = absurd cc
 faulty ts refusal (Some x) e = ap (λ (y : ScriptError). Some y) (err_is x refusal e)
 
-outputs_told : (plan : OutputsOfPlan) (refusal : ScriptError) (j : Json) (d : Data) → IsOf j d → outputs_taken plan (Some (with_texts part.Outputs j)) ≡ Err refusal
-    → list_any (is_to refusal) (outputs_found plan (Some d)) ≡ true
+outputs_reported : (plan : OutputsOfPlan) (refusal : ScriptError) (j : Json) (d : Data) → IsOf j d → outputs_accepted plan (Some (with_texts part.Outputs j)) ≡ Err refusal
+    → list_any (is_to refusal) (outputs_findings plan (Some d)) ≡ true
 unfolding print_from
-outputs_told plan refusal json.null d of e = absurd cc
-outputs_told plan refusal (json.boolean true) d of e = rw (sym (some_is (boolean true) d of.is)) (no_members_shape refusal (outputs_found plan (Some (boolean true))) e refl)
-outputs_told plan refusal (json.boolean false) d of e = rw (sym (some_is (boolean false) d of.is)) (no_members_shape refusal (outputs_found plan (Some (boolean false))) e refl)
-outputs_told plan refusal (json.number s) d of e =
+outputs_reported plan refusal json.null d of e = absurd cc
+outputs_reported plan refusal (json.boolean true) d of e = rw (sym (some_is (boolean true) d of.is)) (no_members_shape refusal (outputs_findings plan (Some (boolean true))) e refl)
+outputs_reported plan refusal (json.boolean false) d of e = rw (sym (some_is (boolean false) d of.is)) (no_members_shape refusal (outputs_findings plan (Some (boolean false))) e refl)
+outputs_reported plan refusal (json.number s) d of e =
     let it = mapped number (number_of s) d of.is in
     rw it.2
-    (no_members_shape refusal (outputs_found plan (Some (number it.0)))
+    (no_members_shape refusal (outputs_findings plan (Some (number it.0)))
     (no_object plan (text_of (json.number s)) refusal (null_text (json.number s) (number it.0) (subst (IsOf (json.number s)) it.2 of)) e) refl)
-outputs_told plan refusal (json.string s) d of e = rw (sym (some_is (string s) d of.is)) (no_members_shape refusal (outputs_found plan (Some (string s))) e refl)
-outputs_told plan refusal (json.array js) d of e =
+outputs_reported plan refusal (json.string s) d of e = rw (sym (some_is (string s) d of.is)) (no_members_shape refusal (outputs_findings plan (Some (string s))) e refl)
+outputs_reported plan refusal (json.array js) d of e =
     let it = mapped array (of_items js) d of.is in
-    rw it.2 (no_members_shape refusal (outputs_found plan (Some (array it.0))) e refl)
-outputs_told plan refusal (json.object ms) d of e =
+    rw it.2 (no_members_shape refusal (outputs_findings plan (Some (array it.0))) e refl)
+outputs_reported plan refusal (json.object ms) d of e =
     let it = mapped object (of_members ms no_members) d of.is in
     let ts : Members = members_with_texts part.Outputs ms no_members in
     rw it.2
-    (told_members plan refusal 0 it.0 ts (all_outputs ms no_members no_members it.0 of.numbers (omega (arith, of.shallow)) it.1 refl) (faulty ts refusal (fault_of plan 0 ts) e))
+    (reported_members plan refusal 0 it.0 ts (all_outputs ms no_members no_members it.0 of.numbers (omega (arith, of.shallow)) it.1 refl) (faulty ts refusal (fault_of plan 0 ts) e))
 
-outputs_there : (plan : OutputsOfPlan) (refusal : ScriptError) (o p : Option Data) → AreOf part.Outputs o p → outputs_taken plan p ≡ Err refusal → list_any (is_to refusal) (outputs_found plan o) ≡ true
-outputs_there plan refusal None p a e = absurd (let never : outputs_taken plan None ≡ Err refusal = ap (outputs_taken plan) (sym a) ∙ e in cc)
-outputs_there plan refusal (Some d) p a e = outputs_told plan refusal a.0 d a.1 (ap (outputs_taken plan) (sym a.2) ∙ e)
+outputs_there : (plan : OutputsOfPlan) (refusal : ScriptError) (o p : Option Data) → AreOf part.Outputs o p → outputs_accepted plan p ≡ Err refusal → list_any (is_to refusal) (outputs_findings plan o) ≡ true
+outputs_there plan refusal None p a e = absurd (let never : outputs_accepted plan None ≡ Err refusal = ap (outputs_accepted plan) (sym a) ∙ e in cc)
+outputs_there plan refusal (Some d) p a e = outputs_reported plan refusal a.0 d a.1 (ap (outputs_accepted plan) (sym a.2) ∙ e)
 
-abbrev notes_found : Option Data → List Finding
-notes_found o = at_top name.Diagnostics want.ArrayOrAbsent (in_items (λ number. in_note)) o
+abbrev notes_findings : Option Data → List Finding
+notes_findings o = at_top name.Diagnostics expected.ArrayOrAbsent (in_items (λ number. in_note)) o
 
--- what is taken of an own text
-taken_of : (j : Json) (d : Data) → IsOf j d → is_some (unless_null d) ≡ true → notes_in_script (Some (string (text_of j))) ≡ results.◌>>=◌ (results.or_refuse (BadShape None) (noted.items_in j)) (notes_from 0)
-taken_of j d of there = rw (null_text j d of ∙ ap not there, read_back j of.numbers of.shallow) refl
+-- what a run reads of a value's own text
+accepted_of : (j : Json) (d : Data) → IsOf j d → is_some (unless_null d) ≡ true → notes_in_script (Some (string (text_of j))) ≡ results.◌>>=◌ (results.or_refuse (BadShape None) (noted.items_in j)) (notes_from 0)
+accepted_of j d of there = rw (null_text j d of ∙ ap not there, read_back j of.numbers of.shallow) refl
 
-notes_told : (refusal : ScriptError) (j : Json) (d : Data) → IsOf j d → notes_in_script (Some (string (text_of j))) ≡ Err refusal → list_any (is_to refusal) (notes_found (Some d)) ≡ true
+notes_reported : (refusal : ScriptError) (j : Json) (d : Data) → IsOf j d → notes_in_script (Some (string (text_of j))) ≡ Err refusal → list_any (is_to refusal) (notes_findings (Some d)) ≡ true
 unfolding print_from
-notes_told refusal json.null d of e = absurd cc
-notes_told refusal (json.boolean b) d of e =
+notes_reported refusal json.null d of e = absurd cc
+notes_reported refusal (json.boolean b) d of e =
     let is : d ≡ boolean b = sym (some_is (boolean b) d of.is) in
-    rw is (no_shape refusal (notes_found (Some (boolean b))) (sym (taken_of (json.boolean b) (boolean b) (subst (IsOf (json.boolean b)) is of) refl) ∙ e) refl)
-notes_told refusal (json.number s) d of e =
+    rw is (no_shape refusal (notes_findings (Some (boolean b))) (sym (accepted_of (json.boolean b) (boolean b) (subst (IsOf (json.boolean b)) is of) refl) ∙ e) refl)
+notes_reported refusal (json.number s) d of e =
     let it = mapped number (number_of s) d of.is in
-    rw it.2 (no_shape refusal (notes_found (Some (number it.0))) (sym (taken_of (json.number s) (number it.0) (subst (IsOf (json.number s)) it.2 of) refl) ∙ e) refl)
-notes_told refusal (json.string s) d of e =
+    rw it.2 (no_shape refusal (notes_findings (Some (number it.0))) (sym (accepted_of (json.number s) (number it.0) (subst (IsOf (json.number s)) it.2 of) refl) ∙ e) refl)
+notes_reported refusal (json.string s) d of e =
     let is : d ≡ string s = sym (some_is (string s) d of.is) in
-    rw is (no_shape refusal (notes_found (Some (string s))) (sym (taken_of (json.string s) (string s) (subst (IsOf (json.string s)) is of) refl) ∙ e) refl)
-notes_told refusal (json.array js) d of e =
+    rw is (no_shape refusal (notes_findings (Some (string s))) (sym (accepted_of (json.string s) (string s) (subst (IsOf (json.string s)) is of) refl) ∙ e) refl)
+notes_reported refusal (json.array js) d of e =
     let it = mapped array (of_items js) d of.is in
     rw it.2
-    (told_items refusal 0 js it.0 of.numbers (omega (arith, of.shallow)) it.1
-    (sym (taken_of (json.array js) (array it.0) (subst (IsOf (json.array js)) it.2 of) refl) ∙ e))
-notes_told refusal (json.object ms) d of e =
+    (reported_items refusal 0 js it.0 of.numbers (omega (arith, of.shallow)) it.1
+    (sym (accepted_of (json.array js) (array it.0) (subst (IsOf (json.array js)) it.2 of) refl) ∙ e))
+notes_reported refusal (json.object ms) d of e =
     let it = mapped object (of_members ms no_members) d of.is in
-    rw it.2 (no_shape refusal (notes_found (Some (object it.0))) (sym (taken_of (json.object ms) (object it.0) (subst (IsOf (json.object ms)) it.2 of) refl) ∙ e) refl)
+    rw it.2 (no_shape refusal (notes_findings (Some (object it.0))) (sym (accepted_of (json.object ms) (object it.0) (subst (IsOf (json.object ms)) it.2 of) refl) ∙ e) refl)
 
-notes_there : (refusal : ScriptError) (o p : Option Data) → AreOf part.Diagnostics o p → notes_in_script p ≡ Err refusal → list_any (is_to refusal) (notes_found o) ≡ true
+notes_there : (refusal : ScriptError) (o p : Option Data) → AreOf part.Diagnostics o p → notes_in_script p ≡ Err refusal → list_any (is_to refusal) (notes_findings o) ≡ true
 notes_there refusal None p a e = absurd (let never : notes_in_script None ≡ Err refusal = ap notes_in_script (sym a) ∙ e in cc)
 notes_there refusal (Some d) p a e =
-    notes_told refusal a.0 d a.1 (ap (λ (t : Data). notes_in_script (Some t)) (sym (kept_whole part.Diagnostics a.0 refl)) ∙ ap notes_in_script (sym a.2) ∙ e)
+    notes_reported refusal a.0 d a.1 (ap (λ (t : Data). notes_in_script (Some t)) (sym (verbatim_whole part.Diagnostics a.0 refl)) ∙ ap notes_in_script (sym a.2) ∙ e)
 
 -- ---- the whole
 
 by_refusal : (r : Result Members ScriptError) (q : Result (List Note) ScriptError) (refusal : ScriptError) (xs ys : List Finding)
-    → results.◌>>=◌ r (λ outputs. results.◌>>=◌ q (λ found. Ok (with_notes outputs found))) ≡ Err refusal
+    → results.◌>>=◌ r (λ outputs. results.◌>>=◌ q (λ findings. Ok (with_notes outputs findings))) ≡ Err refusal
     → (r ≡ Err refusal → list_any (is_to refusal) xs ≡ true) → (q ≡ Err refusal → list_any (is_to refusal) ys ≡ true) → list_any (is_to refusal) (xs ++ ys) ≡ true
-by_refusal (Ok outputs) (Ok found) refusal xs ys e one other = absurd cc
+by_refusal (Ok outputs) (Ok findings) refusal xs ys e one other = absurd cc
 by_refusal (Ok outputs) (Err x) refusal xs ys e one other =
     any_right (is_to refusal) xs ys (other (ap (λ (y : ScriptError). let r : Result (List Note) ScriptError = Err y in r) (err_is x refusal e)))
 by_refusal (Err x) q refusal xs ys e one other =
     any_left (is_to refusal) xs ys (one (ap (λ (y : ScriptError). let r : Result Members ScriptError = Err y in r) (err_is x refusal e)))
 
-pub told_extras : (plan : OutputsOfPlan) (refusal : ScriptError) (j : Json) (d : Data) → IsOf j d → extras_of_script plan (with_texts part.Script j) ≡ Err refusal → has_refusal_to refusal (in_extras (Some plan) d) ≡ true
+pub reported_extras : (plan : OutputsOfPlan) (refusal : ScriptError) (j : Json) (d : Data) → IsOf j d → extras_of_script plan (with_texts part.Script j) ≡ Err refusal → has_refusal_to refusal (in_extras (Some plan) d) ≡ true
 unfolding in_extras
-told_extras plan refusal j d of e =
+reported_extras plan refusal j d of e =
     let t : Data = with_texts part.Script j in
-    by_refusal (outputs_taken plan (get (codes "outputs") t)) (notes_in_script (get (codes "diagnostics") t)) refusal (outputs_found plan (get (codes "outputs") d)) (notes_found (get (codes "diagnostics") d)) e
+    by_refusal (outputs_accepted plan (get (codes "outputs") t)) (notes_in_script (get (codes "diagnostics") t)) refusal (outputs_findings plan (get (codes "outputs") d)) (notes_findings (get (codes "diagnostics") d)) e
     (outputs_there plan refusal (get (codes "outputs") d) (get (codes "outputs") t) (at_part part.Script part.Outputs (codes "outputs") refl refl j d of))
     (notes_there refusal (get (codes "diagnostics") d) (get (codes "diagnostics") t) (at_part part.Script part.Diagnostics (codes "diagnostics") refl refl j d of))
 
--- in a script that a run takes
+-- in a script that a run accepts
 in_bytes : (saved : SavedPlan) (plan : OutputsOfPlan) (bytes : List ℕ) (refusal : ScriptError) → is_ok (script_of saved bytes) ≡ true → extras_of_bytes plan bytes ≡ Err refusal
     → has_refusal_to refusal (extras_findings (Some plan) bytes) ≡ true
-in_bytes saved plan bytes refusal taken e =
-    let of = of_taken_tree saved bytes taken in
+in_bytes saved plan bytes refusal accepted e =
+    let of = of_accepted_tree saved bytes accepted in
     ap (λ (large : Bool). has_refusal_to refusal (if large then [] else option_map_or (in_extras (Some plan)) (tree_of bytes) [])) of.small
     ∙ ap (λ (o : Option Data). has_refusal_to refusal (option_map_or (in_extras (Some plan)) o [])) of.tree_is
-    ∙ (told_extras plan refusal of.value of.tree of.is_of (ap (extras_of_json plan) (sym of.value_is) ∙ e))
+    ∙ (reported_extras plan refusal of.value of.tree of.is_of (ap (extras_of_json plan) (sym of.value_is) ∙ e))
 
 pub refusal_in_form : (lanes : Bool) (plan bytes : List ℕ) (saved : SavedPlan) (script : OutcomeMap) (details : DetailsOfPlan) (refusal : ScriptError) → plan_of plan ≡ Ok saved → script_of saved bytes ≡ Ok script
     → details_of plan ≡ Some details → extras_of_bytes details.outputs bytes ≡ Err refusal → has_refusal_to refusal (findings_in Terraform lanes plan (Some bytes)) ≡ true
-refusal_in_form lanes plan bytes saved script details refusal planned taken told e =
+refusal_in_form lanes plan bytes saved script details refusal planned accepted reported e =
     let fine : has_refusal (plan_findings plan) ≡ false = refusals_of_plan plan ∙ ap (λ (r : Result SavedPlan PlanError). is_err r) planned in
     any_right (is_to refusal) (given_findings lanes (plan_of plan) (Some bytes)) (extras_findings (outputs_unless (has_refusal (plan_findings plan)) plan) bytes)
     (ap (λ (b : Bool). has_refusal_to refusal (extras_findings (outputs_unless b plan) bytes)) fine
-    ∙ ap (λ (o : Option DetailsOfPlan). has_refusal_to refusal (extras_findings (option_map (λ it. it.outputs) o) bytes)) told
-    ∙ (in_bytes saved details.outputs bytes refusal (ap (λ (r : Result OutcomeMap ScriptError). is_ok r) taken) e))
+    ∙ ap (λ (o : Option DetailsOfPlan). has_refusal_to refusal (extras_findings (option_map (λ it. it.outputs) o) bytes)) reported
+    ∙ (in_bytes saved details.outputs bytes refusal (ap (λ (r : Result OutcomeMap ScriptError). is_ok r) accepted) e))

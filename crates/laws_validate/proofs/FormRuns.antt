@@ -1,4 +1,4 @@
--- In Terraform's form too something is found for which a run refuses, exactly where a run refuses.
+-- In Terraform's form too, there is an error if and only if a run refuses.
 use Rattle.std.proofs.Common.{◌≡◌, ◌≤◌, ℕ, List, [], length, Bool, true, false, cond, not, ◌||◌, if◌then◌else◌, is_err, is_ok, is_some, Option, Some, None, Result, Ok, Err, refl, sym, ap, subst, ◌∙◌}
 use Rattle.std.specs.Prelude.{nat_lt, option_map}
 use Rattle.std.specs.Option.{option_map_or}
@@ -11,7 +11,7 @@ use Rattle.json.specs.Tree.{depth}
 use Rattle.json.proofs.Nesting.{value-depth}
 use Rattle.serde_json.specs.Data.{Data}
 use Rattle.serde_json.specs.Read.{max_depth, of_json, read}
-use Rattle.apply_json.specs.Keeping.{keeping_tree_of}
+use Rattle.apply_json.specs.Verbatim.{mixed_tree_of}
 use Rattle.apply_json.specs.Tree.{tree_of}
 use Rattle.apply_model.specs.Plan.SavedPlan.{SavedPlan}
 use Rattle.apply_model.specs.Script.OutcomeMap.{OutcomeMap}
@@ -21,12 +21,12 @@ use Rattle.apply_plan.specs.declared.plan.plan_error.PlanError.TheVariants.{NotJ
 use Rattle.apply_plan.specs.declared.script.script_error.ScriptError.{ScriptError}
 use Rattle.apply_plan.specs.Plan.SavedPlan.{plan_of, plan_of_tree}
 use Rattle.apply_plan.specs.Results as results
-use Rattle.apply_plan.specs.Script.Entry.{is_kept}
+use Rattle.apply_plan.specs.Script.Entry.{is_verbatim_name}
 use Rattle.apply_plan.specs.Script.OutcomeMap.{script_of}
 use Rattle.apply_plan_terraform.specs.Extras.{extras_of_bytes, extras_of_json}
 use Rattle.apply_plan_terraform.specs.Outputs.{OutputsOfPlan}
 use Rattle.apply_plan_terraform.specs.Texts.{json_of, json_of_text}
-use Rattle.apply_plan_terraform.specs.Told.{DetailsOfPlan, details_of}
+use Rattle.apply_plan_terraform.specs.ReadDetails.{DetailsOfPlan, details_of}
 use Rattle.input_validate.specs.declared.findings.finding.Finding.{Finding}
 use Rattle.input_validate.specs.declared.form.Form.{Form}
 use Rattle.input_validate.specs.declared.form.Form.TheVariants.{Applystream, Terraform}
@@ -37,12 +37,12 @@ use Rattle.laws_validate.specs.Laws.{has_refusal, refuses_extras, refuses_given,
 use Rattle.input_validate.specs.Whole.{given_findings, plan_findings}
 use Rattle.laws_validate.proofs.Alike.{both_trees, has_numbers, last_is}
 use Rattle.laws_validate.proofs.ExtrasRead.{clean_extras}
-use Rattle.laws_validate.proofs.KeptBeside.{behind}
+use Rattle.laws_validate.proofs.VerbatimTrees.{behind}
 use Rattle.input_validate.proofs.Options.{not_not}
 use Rattle.laws_validate.proofs.Plans.{refusals_of_plan}
 use Rattle.laws_validate.proofs.Refused.{script_ok}
 use Rattle.laws_validate.proofs.Runs.{refusals_of_run}
-use Rattle.laws_validate.proofs.Scripts.{is_script_beside}
+use Rattle.laws_validate.proofs.Scripts.{is_script_for_plan}
 use Rattle.laws_validate.proofs.Spelt.{IsOf}
 
 -- ---- the value that bytes are
@@ -91,17 +91,17 @@ pub record AreTree (bytes : List ℕ) : Type 0 where
   pub value_is : json_of bytes ≡ Some value
   pub is_of : IsOf value tree
 
--- those of a script that a run takes are
-pub of_taken_tree : (saved : SavedPlan) (bytes : List ℕ) → is_ok (script_of saved bytes) ≡ true → AreTree bytes
-of_taken_tree saved bytes taken =
-    let is = sized (nat_lt max_bytes (length bytes)) (keeping_tree_of is_kept bytes) (is_script_beside (Some saved.changes)) (script_ok saved bytes taken) in
+-- the steps of a script that a run accepts are
+pub of_accepted_tree : (saved : SavedPlan) (bytes : List ℕ) → is_ok (script_of saved bytes) ≡ true → AreTree bytes
+of_accepted_tree saved bytes accepted =
+    let is = sized (nat_lt max_bytes (length bytes)) (mixed_tree_of is_verbatim_name bytes) (is_script_for_plan (Some saved.changes)) (script_ok saved bytes accepted) in
     let tree = is_there (tree_of bytes) (both_trees bytes ∙ is.1) in
     let of = of_tree bytes tree.0 tree.1 in
     record { small = is.0; tree = tree.0; tree_is = tree.1; value = of.0; value_is = of.1; is_of = of.2 }
 
-of_taken : (saved : SavedPlan) (plan : OutputsOfPlan) (bytes : List ℕ) → is_ok (script_of saved bytes) ≡ true → has_refusal (extras_findings (Some plan) bytes) ≡ is_err (extras_of_bytes plan bytes)
-of_taken saved plan bytes taken =
-    let of = of_taken_tree saved bytes taken in
+of_accepted : (saved : SavedPlan) (plan : OutputsOfPlan) (bytes : List ℕ) → is_ok (script_of saved bytes) ≡ true → has_refusal (extras_findings (Some plan) bytes) ≡ is_err (extras_of_bytes plan bytes)
+of_accepted saved plan bytes accepted =
+    let of = of_accepted_tree saved bytes accepted in
     ap (λ (large : Bool). has_refusal (if large then [] else option_map_or (in_extras (Some plan)) (tree_of bytes) [])) of.small
     ∙ ap (λ (o : Option Data). has_refusal (option_map_or (in_extras (Some plan)) o [])) of.tree_is
     ∙ sym (not_not (has_refusal (in_extras (Some plan) of.tree)))
@@ -129,10 +129,10 @@ details_there bytes saved is =
 
 -- ---- a run
 
--- it takes both
-taken_both : (lanes : Bool) (bytes : List ℕ) (r : Result SavedPlan PlanError) → refuses_given lanes r (Some bytes) ≡ false → (saved : SavedPlan) × (r ≡ Ok saved) × (is_ok (script_of saved bytes) ≡ true)
-taken_both lanes bytes (Err refusal) e = absurd cc
-taken_both lanes bytes (Ok saved) e = (saved, refl, was_ok (script_of saved bytes) e)
+-- a run accepts both
+accepted_both : (lanes : Bool) (bytes : List ℕ) (r : Result SavedPlan PlanError) → refuses_given lanes r (Some bytes) ≡ false → (saved : SavedPlan) × (r ≡ Ok saved) × (is_ok (script_of saved bytes) ≡ true)
+accepted_both lanes bytes (Err refusal) e = absurd cc
+accepted_both lanes bytes (Ok saved) e = (saved, refl, was_ok (script_of saved bytes) e)
   where
     was_ok : (q : Result OutcomeMap ScriptError) → refuses_read lanes q ≡ false → is_ok q ≡ true
     was_ok (Ok script) e = refl
@@ -146,22 +146,22 @@ or_assoc : (a b c : Bool) → (a || (b || c)) ≡ ((a || b) || c)
 or_assoc true b c = refl
 or_assoc false b c = refl
 
-besides : (lanes : Bool) (plan bytes : List ℕ) → run_refuses lanes plan (Some bytes) ≡ false
+with_extras : (lanes : Bool) (plan bytes : List ℕ) → run_refuses lanes plan (Some bytes) ≡ false
     → has_refusal (extras_findings (outputs_unless (has_refusal (plan_findings plan)) plan) bytes) ≡ refuses_extras (details_of plan) bytes
-besides lanes plan bytes takes =
-    let both = taken_both lanes bytes (plan_of plan) takes in
+with_extras lanes plan bytes takes =
+    let both = accepted_both lanes bytes (plan_of plan) takes in
     let it = details_there plan both.0 both.1 in
     let fine : has_refusal (plan_findings plan) ≡ false = refusals_of_plan plan ∙ ap (λ (r : Result SavedPlan PlanError). is_err r) both.1 in
     ap (λ (b : Bool). has_refusal (extras_findings (outputs_unless b plan) bytes)) fine
     ∙ ap (λ (o : Option DetailsOfPlan). has_refusal (extras_findings (option_map (λ details. details.outputs) o) bytes)) it.1
-    ∙ of_taken both.0 it.0.outputs bytes both.2
+    ∙ of_accepted both.0 it.0.outputs bytes both.2
     ∙ ap (λ (o : Option DetailsOfPlan). refuses_extras o bytes) (sym it.1)
 
 in_form : (form : Form) (lanes : Bool) (plan : List ℕ) (script : Option (List ℕ))
     → (run_refuses lanes plan script || has_refusal (extras_for form (has_refusal (plan_findings plan)) plan script)) ≡ run_refuses_in form lanes plan script
 in_form Applystream lanes plan script = refl
 in_form Terraform lanes plan None = refl
-in_form Terraform lanes plan (Some bytes) = either (run_refuses lanes plan (Some bytes)) _ _ (besides lanes plan bytes)
+in_form Terraform lanes plan (Some bytes) = either (run_refuses lanes plan (Some bytes)) _ _ (with_extras lanes plan bytes)
 
 pub refusals_in_form : (form : Form) (lanes : Bool) (plan : List ℕ) (script : Option (List ℕ))
     → (has_refusal (plan_findings plan) || has_refusal (findings_in form lanes plan script)) ≡ run_refuses_in form lanes plan script

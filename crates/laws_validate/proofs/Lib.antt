@@ -1,5 +1,5 @@
 pub mod Alike
-pub mod Besides
+pub mod CleanAgainstPlan
 pub mod BytesPlaced
 pub mod Clean
 pub mod CleanSteps
@@ -7,7 +7,7 @@ pub mod Diagnostics
 pub mod EachCounts
 pub mod ElementRefusals
 pub mod Elements
-pub mod ElementsTold
+pub mod ElementsReported
 pub mod Entries
 pub mod EntriesRead
 pub mod ExtrasPlaced
@@ -15,11 +15,11 @@ pub mod ExtrasRead
 pub mod ExtrasWarn
 pub mod FormRefusals
 pub mod FormRuns
-pub mod Found
+pub mod AnyFinding
 pub mod Joined
-pub mod KeptBeside
-pub mod KeptNames
-pub mod Marks
+pub mod VerbatimTrees
+pub mod VerbatimNames
+pub mod ViolationPlaces
 pub mod Members
 pub mod NoneLeft
 pub mod Outputs
@@ -48,8 +48,8 @@ pub mod ShapedSteps
 pub mod Shapes
 pub mod Spelt
 pub mod Steps
-pub mod StuckTold
-pub mod Taken
+pub mod StuckReported
+pub mod AcceptedSteps
 pub mod Wanted
 pub mod Warned
 pub mod WarnedInForm

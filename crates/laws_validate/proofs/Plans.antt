@@ -1,4 +1,4 @@
--- Plans: something is found exactly where a run refuses one.
+-- A plan has an error if and only if a run refuses it.
 use Rattle.std.proofs.Common.{◌≡◌, ◌+◌, ◌++◌, length, map, take, cond, not, ◌&&◌, ◌||◌, is_err, is_ok, is_some, refl, sym, ap, ◌∙◌, append_assoc, arith}
 use Rattle.std.specs.Prelude.{ℕ, suc, List, [], ◌∷◌, Bool, true, false, Option, Some, None, Result, Ok, Err, codes, if◌then◌else◌, nat_eq, nat_lt}
 use Rattle.std.specs.List.{enumerate_from, list_all, list_any, position_from, starts_with}
@@ -8,7 +8,7 @@ use Rattle.std.proofs.lemmas.List.Folds.{list_all-append}
 use Rattle.serde_json.specs.Data.{Data, Items, no_items, item, null, boolean, number, string, array, object}
 use Rattle.serde_json.specs.Events.{items_len}
 use Rattle.serde_json.specs.Find.{as_object, as_str}
-use Rattle.apply_json.specs.Seen.{items_in}
+use Rattle.apply_json.specs.ShallowView.{items_in}
 use Rattle.apply_json.specs.Tree.{◌>>=◌, items_or_empty, list_of, member_of, text_of, text_or, tree_of}
 use Rattle.apply_model.specs.Plan.ResourceChange.{ResourceChange}
 use Rattle.apply_model.specs.Plan.SavedPlan.{SavedPlan, max_changes}
@@ -26,14 +26,14 @@ use Rattle.apply_plan.specs.Results as results
 use Rattle.apply_plan.specs.Results.{all_or_first, each_with_earlier, or_refuse}
 use Rattle.input_validate.specs.declared.findings.finding.Finding.{Finding}
 use Rattle.input_validate.specs.declared.findings.name.Name.TheVariants as name
-use Rattle.input_validate.specs.declared.findings.part.Part.TheVariants.{Item, Member}
-use Rattle.input_validate.specs.declared.findings.want.Want.TheVariants as want
-use Rattle.input_validate.specs.declared.findings.what.What.TheVariants as what
+use Rattle.input_validate.specs.declared.findings.path.Segment.TheVariants.{Item, Member}
+use Rattle.input_validate.specs.declared.findings.expected.Expected.TheVariants as expected
+use Rattle.input_validate.specs.declared.findings.problem.Problem.TheVariants as problem
 use Rattle.input_validate.specs.Findings.{finding_at, finding_here, under}
 use Rattle.laws_validate.specs.Laws.{has_refusal}
 use Rattle.input_validate.specs.PlanFindings.{by_itself, first_named, header_table, in_element, in_elements, in_plan, is_named, is_sound, name_of, named_again}
-use Rattle.input_validate.specs.Walks.{faults_of, items_at, items_behind, member_at}
-use Rattle.input_validate.specs.Wants.{is_met}
+use Rattle.input_validate.specs.Rules.{faults_of, items_at, items_after, member_at}
+use Rattle.input_validate.specs.Expectations.{is_met}
 use Rattle.input_validate.specs.Whole.{plan_findings}
 use Rattle.laws_validate.proofs.Clean.{clean, clean-append, clean-faults_of, clean-under, clean-where_suits}
 use Rattle.laws_validate.proofs.Elements.{has_change, name_read_is, some_is, sound_is}
@@ -53,7 +53,7 @@ name_in e = (e.address, e.deposed)
 pub name_is : (d : Data) (e : Element) → element_of d ≡ Some e → is_sound d ≡ true → name_of d ≡ Some (name_in e)
 name_is d e is sound = rw sound (name_read_is d e is)
 
--- and names the object of that name
+-- a sound element names the object that a run reads
 named_as_read : (d : Data) (o : Option Element) → element_of d ≡ o → is_sound d ≡ true → (nm : List ℕ × Option (List ℕ))
     → is_named nm (name_of d) ≡ option_map_or (λ x. name_one_object x.address x.deposed nm.0 nm.1) o false
 named_as_read d None e sound nm =
@@ -78,14 +78,14 @@ any_position p n (x ∷ xs) = by_first (p x) n (position_from p (n + 1) xs) (lis
 
 -- ---- one element
 
--- nothing is found in what stands before it
+-- what stands before has no error
 abbrev is_new : List Data → Data → Bool
 is_new before d = clean (named_again (first_named (map name_of before) (name_of d)))
 
 in_element_is : (before : List Data) (d : Data) → clean (in_element before d) ≡ (is_sound d && is_new before d)
 in_element_is before d =
     let again : List Finding = named_again (first_named (map name_of before) (name_of d)) in
-    clean-where_suits want.Object d (by_itself d ++ again)
+    clean-where_suits expected.Object d (by_itself d ++ again)
     ∙ ap (λ (b : Bool). is_some (as_object d) && b) (clean-append (by_itself d) again)
     ∙ and_assoc (is_some (as_object d)) (clean (by_itself d)) (clean again)
 
@@ -101,7 +101,7 @@ abbrev with_relative : ℕ → Element → List StepKind → Option (List ℕ) �
 with_relative n e steps relative = results.◌>>=◌ (or_refuse (BadAddress n) relative) (λ it. Ok (change_of e steps))
 
 abbrev pub with_steps : ℕ → Element → Option (List StepKind) → Option (List ℕ) → Result ResourceChange PlanError
-with_steps n e steps relative = results.◌>>=◌ (or_refuse (BadActions n) steps) (λ found. with_relative n e found relative)
+with_steps n e steps relative = results.◌>>=◌ (or_refuse (BadActions n) steps) (λ findings. with_relative n e findings relative)
 
 abbrev pub with_element : ℕ → Option Element → Result ResourceChange PlanError
 with_element n o = results.◌>>=◌ (or_refuse (BadChange n) o) (λ e. with_steps n e (steps_of_actions e.actions) (relative_address e.module_address e.address))
@@ -141,7 +141,7 @@ by_read before d sound (Some e) is =
 one : (before : List Data) (d : Data) → list_all is_sound before ≡ true → is_ok (change_at before d) ≡ (is_sound d && is_new before d)
 one before d sound = ap (λ (r : Result ResourceChange PlanError). is_ok r) (change_is before d) ∙ by_read before d sound (element_of d) refl
 
--- an element that a run takes is sound, as those before it are
+-- an element that a run accepts is sound, and so are the elements before it
 pub all_sound : (before : List Data) (d : Data) → list_all is_sound before ≡ true → is_ok (change_at before d) ≡ true → list_all is_sound (before ++ d ∷ []) ≡ true
 all_sound before d sound ok =
     let itself : is_sound d ≡ true = and_left (is_sound d) (is_new before d) (sym (one before d sound) ∙ ok) in
@@ -150,20 +150,20 @@ all_sound before d sound ok =
 -- ---- the elements
 
 changes_are : (ds before all : List Data) → all ≡ before ++ ds → list_all is_sound before ≡ true
-    → list_all is_ok (map (λ p. change_at (take p.0 all) p.1) (enumerate_from (length before) ds)) ≡ clean (items_behind in_element before ds)
+    → list_all is_ok (map (λ p. change_at (take p.0 all) p.1) (enumerate_from (length before) ds)) ≡ clean (items_after in_element before ds)
 changes_are [] before all whole sound = refl
 changes_are (d ∷ ds) before all whole sound =
     let front : take (length before) all ≡ before = rw whole (take_at before (d ∷ ds) (length before) refl) in
     let longer : length (before ++ d ∷ []) ≡ length before + 1 = omega (arith, length-append before (d ∷ [])) in
     let rest : Bool = list_all is_ok (map (λ p. change_at (take p.0 all) p.1) (enumerate_from (length before + 1) ds)) in
     let is : is_ok (change_at before d) ≡ clean (in_element before d) = one before d sound ∙ sym (in_element_is before d) in
-    and_if (is_ok (change_at (take (length before) all) d)) (clean (in_element before d)) rest (clean (items_behind in_element (before ++ d ∷ []) ds))
+    and_if (is_ok (change_at (take (length before) all) d)) (clean (in_element before d)) rest (clean (items_after in_element (before ++ d ∷ []) ds))
     (ap (λ (xs : List Data). is_ok (change_at xs d)) front ∙ is)
     (λ new.
     ap (λ (n : ℕ). list_all is_ok (map (λ p. change_at (take p.0 all) p.1) (enumerate_from n ds))) (sym longer)
     ∙ changes_are ds (before ++ d ∷ []) all (whole ∙ sym (append_assoc before (d ∷ []) ds)) (all_sound before d sound (is ∙ new)))
-    ∙ sym (clean-append (map (under (Item (length before))) (in_element before d)) (items_behind in_element (before ++ d ∷ []) ds)
-    ∙ ap (λ (b : Bool). b && clean (items_behind in_element (before ++ d ∷ []) ds)) (clean-under (Item (length before)) (in_element before d)))
+    ∙ sym (clean-append (map (under (Item (length before))) (in_element before d)) (items_after in_element (before ++ d ∷ []) ds)
+    ∙ ap (λ (b : Bool). b && clean (items_after in_element (before ++ d ∷ []) ds)) (clean-under (Item (length before)) (in_element before d)))
 
 one_more_ok : {A E : Type 0} (r : Result A E) (rs : Result (List A) E) → is_ok (results.◌>>=◌ r (λ x. results.◌>>=◌ rs (λ xs. Ok (x ∷ xs)))) ≡ (is_ok r && is_ok rs)
 one_more_ok (Err e) rs = refl
@@ -174,7 +174,7 @@ pub all_ok : {A E : Type 0} (rs : List (Result A E)) → is_ok (all_or_first rs)
 all_ok [] = refl
 all_ok (r ∷ rs) = one_more_ok r (all_or_first rs) ∙ ap (λ (b : Bool). is_ok r && b) (all_ok rs)
 
-changes_ok : (ds : List Data) → is_ok (changes_of ds) ≡ clean (items_behind in_element [] ds)
+changes_ok : (ds : List Data) → is_ok (changes_of ds) ≡ clean (items_after in_element [] ds)
 unfolding changes_of
 changes_ok ds = all_ok (each_with_earlier change_at ds) ∙ changes_are ds [] ds refl refl
 
@@ -183,7 +183,7 @@ changes_ok ds = all_ok (each_with_earlier change_at ds) ∙ changes_are ds [] ds
 abbrev pub is_first_format : List ℕ → Bool
 is_first_format text = starts_with nat_eq text (codes "1.")
 
-met_format : (o : Option Data) → is_met want.FormatVersion o ≡ option_map_or is_first_format (o >>= as_str) false
+met_format : (o : Option Data) → is_met expected.FormatVersion o ≡ option_map_or is_first_format (o >>= as_str) false
 met_format None = refl
 met_format (Some d) = refl
 
@@ -205,15 +205,15 @@ then_ok version (Err e) = refl
 
 by_many : (many : Bool) (version : List ℕ) (r : Result (List ResourceChange) PlanError) (xs : List Finding) → is_ok r ≡ clean xs
     → is_ok (then_changes version many r)
-    ≡ clean (if many then finding_at (Member name.ResourceChanges) what.TooManyChanges ∷ [] else xs)
+    ≡ clean (if many then finding_at (Member name.ResourceChanges) problem.TooManyChanges ∷ [] else xs)
 by_many true version r xs is = refl
 by_many false version r xs is = then_ok version r ∙ is
 
 elements_ok : (version : List ℕ) (ds : Items) → is_ok (of_header (record { version = version; elements = ds })) ≡ clean (in_elements (list_of ds))
 elements_ok version ds =
     ap (λ (n : ℕ). is_ok (then_changes version (nat_lt max_changes n) (changes_of (list_of ds)))) (len_is ds)
-    ∙ by_many (nat_lt max_changes (length (list_of ds))) version (changes_of (list_of ds)) (map (under (Member name.ResourceChanges)) (items_behind in_element [] (list_of ds)))
-    (changes_ok (list_of ds) ∙ sym (clean-under (Member name.ResourceChanges) (items_behind in_element [] (list_of ds))))
+    ∙ by_many (nat_lt max_changes (length (list_of ds))) version (changes_of (list_of ds)) (map (under (Member name.ResourceChanges)) (items_after in_element [] (list_of ds)))
+    (changes_ok (list_of ds) ∙ sym (clean-under (Member name.ResourceChanges) (items_after in_element [] (list_of ds))))
 
 abbrev pub with_format : Bool → List ℕ → Items → Option Header
 with_format b version ds = if b then Some (record { version = version; elements = ds }) else None
@@ -264,7 +264,7 @@ members : {a v e a1 v1 e1 : Bool} → a ≡ a1 → v ≡ v1 → e ≡ e1 → (a 
 members ea ev ee = cc
 
 pub header_met : (d : Data)
-    → list_all (λ known. is_met known.want (member_at known.name d)) header_table
+    → list_all (λ rule. is_met rule.expected (member_at rule.name d)) header_table
     ≡ passes (text_of (codes "format_version") d) (text_or (codes "0.0.0") (member_of (codes "terraform_version") d)) (items_or_empty (member_of (codes "resource_changes") d))
 header_met d =
     let v : Option Data = member_of (codes "terraform_version") d in
@@ -279,7 +279,7 @@ clean_plan d =
     let changes : List Finding = in_elements (items_at name.ResourceChanges d) in
     let tests : Bool = passes (f >>= as_str) v (items_or_empty r) in
     let wrong : clean (faults_of header_table d) ≡ tests = clean-faults_of header_table d ∙ header_met d in
-    clean-where_suits want.Plan d (faults_of header_table d ++ changes)
+    clean-where_suits expected.Plan d (faults_of header_table d ++ changes)
     ∙ ap (λ (b : Bool). is_some (as_object d) && b) (clean-append (faults_of header_table d) changes ∙ ap (λ (b : Bool). b && clean changes) wrong)
     ∙ needs_object (codes "format_version") d (tests && clean changes)
     (λ none. ap (λ (o : Option Data). passes (o >>= as_str) v (items_or_empty r) && clean changes) none)
@@ -288,12 +288,12 @@ clean_plan d =
 
 -- ---- the bytes
 
-of_tree : (o : Option Data) → clean (option_map_or in_plan o (finding_here what.NotJson ∷ [])) ≡ is_ok (results.◌>>=◌ (or_refuse NotJson o) plan_of_tree)
+of_tree : (o : Option Data) → clean (option_map_or in_plan o (finding_here problem.NotJson ∷ [])) ≡ is_ok (results.◌>>=◌ (or_refuse NotJson o) plan_of_tree)
 of_tree None = refl
 of_tree (Some d) = clean_plan d
 
 by_size : (large : Bool) (xs : List Finding) (r : Result SavedPlan PlanError) → clean xs ≡ is_ok r
-    → clean (if large then finding_here what.TooManyBytes ∷ [] else xs) ≡ is_ok (if large then Err TooLarge else r)
+    → clean (if large then finding_here problem.TooManyBytes ∷ [] else xs) ≡ is_ok (if large then Err TooLarge else r)
 by_size true xs r is = refl
 by_size false xs r is = is
 
@@ -306,6 +306,6 @@ unfolding plan_of
 refusals_of_plan bytes =
     sym (not_not (has_refusal (plan_findings bytes)))
     ∙ ap not
-    (by_size (nat_lt max_bytes (length bytes)) (option_map_or in_plan (tree_of bytes) (finding_here what.NotJson ∷ []))
+    (by_size (nat_lt max_bytes (length bytes)) (option_map_or in_plan (tree_of bytes) (finding_here problem.NotJson ∷ []))
     (results.◌>>=◌ (or_refuse NotJson (tree_of bytes)) plan_of_tree) (of_tree (tree_of bytes)))
     ∙ refused (plan_of bytes)

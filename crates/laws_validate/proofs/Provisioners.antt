@@ -1,4 +1,5 @@
--- Provisioners: nothing is found for which a run refuses, exactly where one is read and puts out no more than it may.
+-- A provisioner has no error if and only if a run reads it and it has no more output items than
+-- allowed.
 use Rattle.std.proofs.Common.{◌≡◌, ℕ, suc, ◌+◌, List, [], ◌∷◌, ◌++◌, length, map, Bool, true, false, not, ◌&&◌, if◌then◌else◌, is_some, Option, Some, None, unwrap_or, refl, sym, ap, ◌∙◌, subst}
 use Rattle.std.specs.Prelude.{codes, nat_lt}
 use Rattle.std.specs.List.{sum_by}
@@ -7,7 +8,7 @@ use Rattle.std.proofs.lemmas.List.{length-map}
 use Rattle.std.proofs.lemmas.List.Sums.{sum_by-cons}
 use Rattle.serde_json.specs.Data.{Data, null, boolean, number, string, array, object}
 use Rattle.serde_json.specs.Find.{as_number, as_object, as_str, as_u64}
-use Rattle.apply_json.specs.Seen.{items_in}
+use Rattle.apply_json.specs.ShallowView.{items_in}
 use Rattle.apply_json.specs.Tree.{◌>>=◌, list_of, member_of, non_empty_text_of, unless_empty}
 use Rattle.apply_model.specs.declared.script.diag.Diag.{Diag}
 use Rattle.apply_model.specs.declared.script.provisioner.Provisioner.{Provisioner}
@@ -17,15 +18,15 @@ use Rattle.apply_model.specs.Script.Outcome.{are_in_time, puts_out_too_much, sec
 use Rattle.apply_plan.specs.Script.Entry.{OutputItem, all_some, diag_from, diag_or_none, each_of, may_fail_or_not, output_from, provisioner_from, seconds_of, timed, timed_outputs}
 use Rattle.input_validate.specs.declared.findings.finding.Finding.{Finding}
 use Rattle.input_validate.specs.declared.findings.name.Name.TheVariants as name
-use Rattle.input_validate.specs.declared.findings.want.Want.TheVariants as want
-use Rattle.input_validate.specs.ScriptFindings.{growth_of_provisioner, in_diagnostic, in_outputs, in_provisioner, provisioner_mark, provisioner_names, provisioner_table, seconds_in, whole_at}
-use Rattle.input_validate.specs.Walks.{faults_of, in_list, inside, items_at, known, marked, unless_suits, unread}
-use Rattle.input_validate.specs.Wants.{is_met}
-use Rattle.laws_validate.proofs.Clean.{Cleared, clean, clean-append, clean-faults_of, clean-marked}
+use Rattle.input_validate.specs.declared.findings.expected.Expected.TheVariants as expected
+use Rattle.input_validate.specs.ScriptFindings.{growth_of_provisioner, in_diagnostic, in_outputs, in_provisioner, provisioner_violation, provisioner_names, provisioner_table, seconds_in, whole_at}
+use Rattle.input_validate.specs.Rules.{faults_of, in_list, inside, items_at, rule, violation_findings, unless_suits, ignored}
+use Rattle.input_validate.specs.Expectations.{is_met}
+use Rattle.laws_validate.proofs.Clean.{Cleared, clean, clean-append, clean-faults_of, clean-violation_findings}
 use Rattle.laws_validate.proofs.Clean.{clean-then_unread, clean-unless_suits, clean-where_suits, clean-joined}
 use Rattle.laws_validate.proofs.Diagnostics.{absent_or_diagnostic, clean_diagnostic, two}
 use Rattle.laws_validate.proofs.Alike.{object_alike, Alike}
-use Rattle.laws_validate.proofs.Members.{IsCleanBeside, array_or, count_same, inside_clean, list_clean, non_empty_there, on_failure_there, whole_there}
+use Rattle.laws_validate.proofs.Members.{IsCleanBy, array_or, count_same, inside_clean, list_clean, non_empty_there, on_failure_there, whole_there}
 use Rattle.laws_validate.proofs.Wanted.{needs_object}
 use Rattle.input_validate.proofs.Options.{and_comm, and_false, and_then_is, and_true, bind_some}
 use Rattle.laws_validate.proofs.Outputs.{are_shaped, clean_outputs, come_in_time, is_shaped, outputs_read, shape_alike}
@@ -38,7 +39,7 @@ fits provisioner = not (puts_out_too_much provisioner)
 abbrev pub is_provisioner : Data → Bool
 is_provisioner k = option_map_or fits (provisioner_from k) false
 
--- the same, but for what comes of its failure, and when its outputs come
+-- the same, apart from `on_failure` and the times of its output items
 abbrev members_fit : (name : Option (List ℕ)) (seconds : Option ℕ) (shaped many : Bool) (failed : Option (Option Diag)) → Bool
 members_fit name seconds shaped many failed = (((is_some name && is_some seconds) && shaped) && not many) && is_some failed
 
@@ -47,7 +48,7 @@ fits_first k =
     members_fit (non_empty_text_of (codes "provisioner") k) (seconds_of k) (are_shaped (member_of (codes "output") k))
     (nat_lt max_outputs (length (items_at name.Output k))) (diag_or_none (member_of (codes "failed") k))
 
--- and that
+-- `on_failure` and the output items fit
 abbrev pub fits_growth : Data → Bool
 fits_growth k =
     is_some (may_fail_or_not (member_of (codes "on_failure") k)) && come_in_time (whole_at name.Seconds k) None (items_at name.Output k)
@@ -139,7 +140,7 @@ seconds_are o = and_then_is as_u64 (option_and_then as_number o) ∙ ap (λ n. n
 pub seconds_read : (d : Data) (s : ℕ) → seconds_of d ≡ Some s → seconds_in d ≡ s
 seconds_read d s e = ap (λ (n : Option ℕ). unwrap_or n 0) (seconds_are (member_of (codes "seconds") d) ∙ e)
 
--- its seconds, and what it puts out
+-- the seconds and the output items of a provisioner
 pub provisioner_read : (d : Data) (p : Provisioner) → provisioner_from d ≡ Some p
     → (seconds_of d ≡ Some p.seconds) × ((each_of output_from (member_of (codes "output") d) >>= timed_outputs p.seconds) ≡ Some p.output)
 unfolding provisioner_from
@@ -180,53 +181,53 @@ all_seconds_read o ps e = seconds_of_list (option_map_or (λ value. list_of (ite
 
 -- ---- the provisioner
 
--- what is found in its members
+-- the findings of its members
 module _ (d k : Data) (alike : Alike d k) where
   pub named_clean : clean (faults_of provisioner_table d) ≡ (is_some (non_empty_text_of (codes "provisioner") k) && is_some (seconds_of k))
   named_clean =
-      two (known name.Provisioner want.NonEmptyText) (known name.Seconds want.Seconds) d
-      ∙ ap (λ (b : Bool). b && is_met want.Seconds (member_of (codes "seconds") d)) (non_empty_there (codes "provisioner") refl d k alike)
+      two (rule name.Provisioner expected.NonEmptyText) (rule name.Seconds expected.Seconds) d
+      ∙ ap (λ (b : Bool). b && is_met expected.Seconds (member_of (codes "seconds") d)) (non_empty_there (codes "provisioner") refl d k alike)
       ∙ ap (λ (b : Bool). is_some (non_empty_text_of (codes "provisioner") k) && b) (whole_there (codes "seconds") refl d k alike)
 
-  pub output_clean : clean (in_list (λ number. unless_suits want.Output) (known name.Output want.ArrayOrAbsent) d) ≡ are_shaped (member_of (codes "output") k)
+  pub output_clean : clean (in_list (λ number. unless_suits expected.Output) (rule name.Output expected.ArrayOrAbsent) d) ≡ are_shaped (member_of (codes "output") k)
   output_clean =
-      list_clean (λ number. unless_suits want.Output) is_shaped
-      (λ number x y same. clean-unless_suits want.Output x ∙ shape_alike x y same) (known name.Output want.ArrayOrAbsent) array_or refl d k alike
+      list_clean (λ number. unless_suits expected.Output) is_shaped
+      (λ number x y same. clean-unless_suits expected.Output x ∙ shape_alike x y same) (rule name.Output expected.ArrayOrAbsent) array_or refl d k alike
 
   pub failed_clean : clean (inside in_diagnostic name.Failed d) ≡ is_some (diag_or_none (member_of (codes "failed") k))
   failed_clean =
       inside_clean in_diagnostic (λ e. is_some (diag_from e)) clean_diagnostic name.Failed refl d k alike ∙ absent_or_diagnostic (member_of (codes "failed") k)
 
-pub clean_provisioner : IsCleanBeside in_provisioner fits_first
+pub clean_provisioner : IsCleanBy in_provisioner fits_first
 unfolding in_provisioner fits_first
 clean_provisioner d k alike =
     let many : Bool = nat_lt max_outputs (length (items_at name.Output k)) in
     let name_read : Option (List ℕ) = non_empty_text_of (codes "provisioner") k in
     let failed_read : Option (Option Diag) = diag_or_none (member_of (codes "failed") k) in
     let shaped : Bool = are_shaped (member_of (codes "output") k) in
-    let few : clean (marked (provisioner_mark d ∷ [])) ≡ not many =
-    clean-marked (provisioner_mark d ∷ []) refl ∙ and_true (not (nat_lt max_outputs (length (items_at name.Output d))))
+    let few : clean (violation_findings (provisioner_violation d ∷ [])) ≡ not many =
+    clean-violation_findings (provisioner_violation d ∷ []) refl ∙ and_true (not (nat_lt max_outputs (length (items_at name.Output d))))
     ∙ ap (λ (n : ℕ). not (nat_lt max_outputs n)) (count_same name.Output refl d k alike) in
     let parts : List Cleared =
-    (in_list (λ number. unless_suits want.Output) (known name.Output want.ArrayOrAbsent) d, shaped, output_clean d k alike)
-    ∷ (marked (provisioner_mark d ∷ []), not many, few) ∷ (inside in_diagnostic name.Failed d, is_some failed_read, failed_clean d k alike) ∷ [] in
-    let found : List Finding = joined (faults_of provisioner_table d) (map (λ (part : Cleared). part.0) parts) in
-    clean-where_suits want.Provisioner d (found ++ unread provisioner_names d)
+    (in_list (λ number. unless_suits expected.Output) (rule name.Output expected.ArrayOrAbsent) d, shaped, output_clean d k alike)
+    ∷ (violation_findings (provisioner_violation d ∷ []), not many, few) ∷ (inside in_diagnostic name.Failed d, is_some failed_read, failed_clean d k alike) ∷ [] in
+    let findings : List Finding = joined (faults_of provisioner_table d) (map (λ (part : Cleared). part.0) parts) in
+    clean-where_suits expected.Provisioner d (findings ++ ignored provisioner_names d)
     ∙ ap (λ (x : Bool). is_some (as_object d) && x)
-    (clean-then_unread found provisioner_names d
+    (clean-then_unread findings provisioner_names d
     ∙ clean-joined (faults_of provisioner_table d) (is_some name_read && is_some (seconds_of k)) parts (named_clean d k alike))
     ∙ ap (λ (x : Bool). x && members_fit name_read (seconds_of k) shaped many failed_read) (object_alike d k alike)
     ∙ needs_object (codes "provisioner") k (members_fit name_read (seconds_of k) shaped many failed_read)
     (λ none. ap (λ (o : Option Data). members_fit (o >>= as_str >>= unless_empty) (seconds_of k) shaped many failed_read) none)
 
 -- what comes of its failure, and when its outputs come
-pub clean_growth : IsCleanBeside growth_of_provisioner fits_growth
+pub clean_growth : IsCleanBy growth_of_provisioner fits_growth
 unfolding growth_of_provisioner
 clean_growth d k alike =
-    let growth : List Finding = faults_of (known name.OnFailure want.OnFailure ∷ []) d in
+    let growth : List Finding = faults_of (rule name.OnFailure expected.OnFailure ∷ []) d in
     let a : clean growth ≡ is_some (may_fail_or_not (member_of (codes "on_failure") k)) =
-    clean-faults_of (known name.OnFailure want.OnFailure ∷ []) d
-    ∙ and_true (is_met want.OnFailure (member_of (codes "on_failure") d))
+    clean-faults_of (rule name.OnFailure expected.OnFailure ∷ []) d
+    ∙ and_true (is_met expected.OnFailure (member_of (codes "on_failure") d))
     ∙ on_failure_there (codes "on_failure") refl d k alike in
     clean-append growth (in_outputs d)
     ∙ ap (λ (x : Bool). x && clean (in_outputs d)) a

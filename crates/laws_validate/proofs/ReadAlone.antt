@@ -1,4 +1,4 @@
--- What a run reads of a script is the same without the members that have no known name.
+-- A run reads the same from a script without the members that have unknown names.
 use Rattle.std.proofs.Common.{◌≡◌, ℕ, zero, suc, ◌+◌, List, [], ◌∷◌, length, map, take, Bool, false, is_some, ◌||◌, if◌then◌else◌, Option, Some, None, option_map, Result, Err, refl, sym, ap, ◌∙◌}
 use Rattle.std.specs.Prelude.{codes}
 use Rattle.std.specs.List.{enumerate_from, list_any, sum_by}
@@ -18,7 +18,7 @@ use Rattle.apply_plan.specs.Results as results
 use Rattle.apply_plan.specs.Results.{all_or_first, each_with_earlier, or_refuse, unless_refused}
 use Rattle.apply_plan.specs.Script.Entry.{Entry, EntryStep, Failure, all_some, diag_from, diag_or_none, each_of, ending_of, entry_of, failure_from, failure_or_none, flag_or_false, may_fail_by, may_fail_or_not}
 use Rattle.apply_plan.specs.Script.Entry.{number_or_none, object_or_none, object_text, only_warns_by, only_warns_or_not, output_from, output_of_members, provisioner_from, step_from, wait_from, wait_of_members}
-use Rattle.apply_plan.specs.Script.OutcomeMap.{Said, by_number, change_of_entry, count_in, elements_of, entry_at, is_about, names_change, said_by, script_of_entries, script_of_tree, unless_stuck}
+use Rattle.apply_plan.specs.Script.OutcomeMap.{ResolvedEntry, by_number, change_of_entry, count_in, elements_of, entry_at, is_about, names_change, resolved_by, script_of_entries, script_of_tree, unless_stuck}
 use Rattle.apply_plan.specs.Script.Refusals.{count_of_waits, fault_of_entry}
 use Rattle.laws_validate.specs.Reading as kind
 use Rattle.laws_validate.specs.Reading.{Kind, kind_of_item, kind_of_member, reading, without_unknown}
@@ -55,7 +55,7 @@ number_same k None = refl
 number_same k (Some d) = ap (λ n. option_map Some (n >>= as_u64)) (as_number_trimmed reading k d)
 
 abbrev whole_in : Option Data → Option ℕ
-whole_in found = (found >>= as_number) >>= as_u64
+whole_in findings = (findings >>= as_number) >>= as_u64
 
 whole_same : (k : Kind) (o : Option Data) → whole_in (option_map (trimmed reading k) o) ≡ whole_in o
 whole_same k None = refl
@@ -73,9 +73,9 @@ flag_same : (k : Kind) (o : Option Data) → flag_or_false (option_map (trimmed 
 flag_same k None = refl
 flag_same k (Some d) = as_bool_trimmed reading k d
 
-told_same : (k : Kind) (o : Option Data) → is_some (option_map (trimmed reading k) o) ≡ is_some o
-told_same k None = refl
-told_same k (Some d) = refl
+reported_same : (k : Kind) (o : Option Data) → is_some (option_map (trimmed reading k) o) ≡ is_some o
+reported_same k None = refl
+reported_same k (Some d) = refl
 
 -- ---- diagnostics
 
@@ -166,7 +166,7 @@ step_same d =
       ending_same d,
       at_member kind.Step kind.Provisioners (codes "provisioners") (each_of provisioner_from) d refl (list_same provisioner_from kind.Provisioners provisioner_same),
       at_member kind.Step kind.Waits (codes "after") (each_of wait_from) d refl (list_same wait_from kind.Waits wait_same),
-      at_member kind.Step kind.Other (codes "seconds") (λ o. is_some o) d refl (told_same kind.Other),
+      at_member kind.Step kind.Other (codes "seconds") (λ o. is_some o) d refl (reported_same kind.Other),
       at_member kind.Step kind.Other (codes "seconds") whole_in d refl (whole_same kind.Other),
     ) refl
 
@@ -175,7 +175,7 @@ step_same d =
 abbrev entry_with : List ℕ → List ℕ → List EntryStep → Option Entry
 entry_with address deposed steps = Some (record { address = address; deposed = unless_empty deposed; steps = steps })
 
--- what is made of the steps, behind the other members
+-- what a run reads of the steps, after the other members
 abbrev steps_then : (address deposed : List ℕ) → Data → Option Entry
 steps_then address deposed d = as_array d >>= λ items. all_some (map step_from (list_of items)) >>= entry_with address deposed
 
@@ -221,23 +221,23 @@ length_same : (ds : List Data) → length (map left ds) ≡ length ds
 length_same [] = refl
 length_same (d ∷ ds) = ap suc (length_same ds)
 
--- what an entry says of a change, unless an earlier one says something of it
-abbrev said_unless : List ResourceChange → (number count : ℕ) → Entry → ℕ × ResourceChange → (again : Bool) → Result Said ScriptError
-said_unless changes number count entry found again =
+-- what an entry states about a change, unless an earlier entry is about it
+abbrev read_unless : List ResourceChange → (number count : ℕ) → Entry → ℕ × ResourceChange → (again : Bool) → Result ResolvedEntry ScriptError
+read_unless changes number count entry findings again =
     if again then Err (Duplicate number)
-    else unless_refused (fault_of_entry number changes count found.1 entry.steps) (said_by changes found.0 entry.steps)
+    else unless_refused (fault_of_entry number changes count findings.1 entry.steps) (resolved_by changes findings.0 entry.steps)
 
-abbrev said_at : List ResourceChange → (number count : ℕ) → Option Entry → (before : List Data) → Result Said ScriptError
+abbrev said_at : List ResourceChange → (number count : ℕ) → Option Entry → (before : List Data) → Result ResolvedEntry ScriptError
 said_at changes number count entry before =
     results.◌>>=◌ (or_refuse (BadShape (Some number)) entry) λ x.
-    results.◌>>=◌ (or_refuse (UnknownChange number) (change_of_entry changes x)) λ found.
-    said_unless changes number count x found (list_any (names_change found.1) before)
+    results.◌>>=◌ (or_refuse (UnknownChange number) (change_of_entry changes x)) λ findings.
+    read_unless changes number count x findings (list_any (names_change findings.1) before)
 
 by_change : (changes : List ResourceChange) (number count : ℕ) (entry : Entry) (before : List Data) (o : Option (ℕ × ResourceChange))
-    → (results.◌>>=◌ (or_refuse (UnknownChange number) o) λ found. said_unless changes number count entry found (list_any (names_change found.1) (map left before)))
-    ≡ (results.◌>>=◌ (or_refuse (UnknownChange number) o) λ found. said_unless changes number count entry found (list_any (names_change found.1) before))
+    → (results.◌>>=◌ (or_refuse (UnknownChange number) o) λ findings. read_unless changes number count entry findings (list_any (names_change findings.1) (map left before)))
+    ≡ (results.◌>>=◌ (or_refuse (UnknownChange number) o) λ findings. read_unless changes number count entry findings (list_any (names_change findings.1) before))
 by_change changes number count entry before None = refl
-by_change changes number count entry before (Some found) = ap (said_unless changes number count entry found) (named_same found.1 before)
+by_change changes number count entry before (Some findings) = ap (read_unless changes number count entry findings) (named_same findings.1 before)
 
 by_entry : (changes : List ResourceChange) (number count : ℕ) (o : Option Entry) (before : List Data) → said_at changes number count o (map left before) ≡ said_at changes number count o before
 by_entry changes number count None before = refl

@@ -1,11 +1,11 @@
--- A script that a run takes has nothing for which it would be refused, but where a step could never begin.
+-- A script that a run accepts has no error, except that a step may never start.
 use Rattle.std.proofs.Common.{◌≡◌, ℕ, List, [], length, Bool, true, false, cond, not, ◌&&◌, is_ok, Option, Some, None, Result, Ok, Err, refl, sym, ap, ◌∙◌}
 use Rattle.std.specs.Prelude.{codes, nat_lt}
 use Rattle.std.specs.List.{list_all}
 use Rattle.std.specs.Option.{option_map_or}
 use Rattle.serde_json.specs.Data.{Data, Items}
 use Rattle.serde_json.specs.Find.{as_array}
-use Rattle.apply_json.specs.Keeping.{keeping_tree_of}
+use Rattle.apply_json.specs.Verbatim.{mixed_tree_of}
 use Rattle.apply_json.specs.Tree.{◌>>=◌, list_of, member_of}
 use Rattle.apply_model.specs.Plan.SavedPlan.{SavedPlan}
 use Rattle.apply_model.specs.Script.OutcomeMap.{OutcomeMap}
@@ -14,14 +14,14 @@ use Rattle.apply_plan.specs.declared.script.script_error.ScriptError.{ScriptErro
 use Rattle.apply_plan.specs.declared.script.script_error.ScriptError.TheVariants.{BadShape, NotJson, TooLarge}
 use Rattle.apply_plan.specs.Results as results
 use Rattle.apply_plan.specs.Results.{all_or_first, each_with_earlier, or_refuse}
-use Rattle.apply_plan.specs.Script.Entry.{is_kept}
+use Rattle.apply_plan.specs.Script.Entry.{is_verbatim_name}
 use Rattle.apply_plan.specs.Script.OutcomeMap.{by_number, elements_of, entry_at, script_of, script_of_entries, script_of_tree, unless_stuck}
 use Rattle.laws_validate.specs.Laws.{has_refusal, is_entry}
 use Rattle.input_validate.specs.Whole.{script_findings}
 use Rattle.laws_validate.proofs.Entries.{entries_are}
 use Rattle.input_validate.proofs.Options.{not_not}
 use Rattle.laws_validate.proofs.Plans.{all_ok}
-use Rattle.laws_validate.proofs.Scripts.{are_script_beside, clean_bytes, entries_fit, is_script_beside, listed_in}
+use Rattle.laws_validate.proofs.Scripts.{are_script_for_plan, clean_bytes, entries_fit, is_script_for_plan, listed_in}
 use Rattle.laws_validate.proofs.Wanted.{array_in}
 
 -- ---- the entries
@@ -30,14 +30,14 @@ first_ok : {A B E : Type 0} (r : Result A E) (f : A → Result B E) → is_ok (r
 first_ok (Ok x) f e = refl
 first_ok (Err d) f e = e
 
--- a run takes each entry by itself, exactly where nothing is found in one
-pub each_taken : (plan : SavedPlan) (ds : List Data) → is_ok (all_or_first (each_with_earlier (entry_at plan.changes) ds)) ≡ (list_all is_entry ds && entries_fit (Some plan.changes) [] ds)
-each_taken plan ds = all_ok (each_with_earlier (entry_at plan.changes) ds) ∙ entries_are plan.changes ds [] ds refl refl refl
+-- a run accepts each entry alone if and only if none has an error
+pub each_accepted : (plan : SavedPlan) (ds : List Data) → is_ok (all_or_first (each_with_earlier (entry_at plan.changes) ds)) ≡ (list_all is_entry ds && entries_fit (Some plan.changes) [] ds)
+each_accepted plan ds = all_ok (each_with_earlier (entry_at plan.changes) ds) ∙ entries_are plan.changes ds [] ds refl refl refl
 
 of_entries : (plan : SavedPlan) (ds : List Data) → is_ok (script_of_entries plan ds) ≡ true → (list_all is_entry ds && entries_fit (Some plan.changes) [] ds) ≡ true
 unfolding script_of_entries
 of_entries plan ds e =
-    sym (each_taken plan ds)
+    sym (each_accepted plan ds)
     ∙ first_ok (all_or_first (each_with_earlier (entry_at plan.changes) ds)) (λ entries. unless_stuck entries (by_number (length plan.changes) entries)) e
 
 -- ---- the script
@@ -53,11 +53,11 @@ of_elements plan o None is e = absurd cc
 of_elements plan o (Some es) is e =
     ap (λ (ds : List Data). list_all is_entry (list_of es) && entries_fit (Some plan.changes) [] ds) (elements_in o es is) ∙ of_entries plan (list_of es) e
 
-tree_ok : (plan : SavedPlan) (d : Data) → is_ok (script_of_tree plan d) ≡ true → is_script_beside (Some plan.changes) d ≡ true
+tree_ok : (plan : SavedPlan) (d : Data) → is_ok (script_of_tree plan d) ≡ true → is_script_for_plan (Some plan.changes) d ≡ true
 unfolding script_of_tree
 tree_ok plan d e = of_elements plan (member_of (codes "changes") d) (elements_of d) refl e
 
-of_tree : (plan : SavedPlan) (o : Option Data) → is_ok (results.◌>>=◌ (or_refuse NotJson o) (script_of_tree plan)) ≡ true → option_map_or (is_script_beside (Some plan.changes)) o false ≡ true
+of_tree : (plan : SavedPlan) (o : Option Data) → is_ok (results.◌>>=◌ (or_refuse NotJson o) (script_of_tree plan)) ≡ true → option_map_or (is_script_for_plan (Some plan.changes)) o false ≡ true
 of_tree plan None e = absurd cc
 of_tree plan (Some d) e = tree_ok plan d e
 
@@ -66,13 +66,13 @@ by_size : (large : Bool) (r : Result OutcomeMap ScriptError) (b : Bool) → (is_
 by_size true r b is e = absurd cc
 by_size false r b is e = is e
 
-pub script_ok : (plan : SavedPlan) (bytes : List ℕ) → is_ok (script_of plan bytes) ≡ true → are_script_beside (Some plan.changes) bytes ≡ true
+pub script_ok : (plan : SavedPlan) (bytes : List ℕ) → is_ok (script_of plan bytes) ≡ true → are_script_for_plan (Some plan.changes) bytes ≡ true
 unfolding script_of
 script_ok plan bytes e =
-    by_size (nat_lt max_bytes (length bytes)) (results.◌>>=◌ (or_refuse NotJson (keeping_tree_of is_kept bytes)) (script_of_tree plan))
-    (option_map_or (is_script_beside (Some plan.changes)) (keeping_tree_of is_kept bytes) false) (of_tree plan (keeping_tree_of is_kept bytes)) e
+    by_size (nat_lt max_bytes (length bytes)) (results.◌>>=◌ (or_refuse NotJson (mixed_tree_of is_verbatim_name bytes)) (script_of_tree plan))
+    (option_map_or (is_script_for_plan (Some plan.changes)) (mixed_tree_of is_verbatim_name bytes) false) (of_tree plan (mixed_tree_of is_verbatim_name bytes)) e
 
--- nothing is found in a script that a run takes
-pub taken_script : (plan : SavedPlan) (bytes : List ℕ) → is_ok (script_of plan bytes) ≡ true → has_refusal (script_findings (Some plan.changes) bytes) ≡ false
-taken_script plan bytes e =
+-- a script that a run accepts has no error
+pub accepted_script : (plan : SavedPlan) (bytes : List ℕ) → is_ok (script_of plan bytes) ≡ true → has_refusal (script_findings (Some plan.changes) bytes) ≡ false
+accepted_script plan bytes e =
     sym (not_not (has_refusal (script_findings (Some plan.changes) bytes))) ∙ ap not (clean_bytes (Some plan.changes) bytes ∙ script_ok plan bytes e)

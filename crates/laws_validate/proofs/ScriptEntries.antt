@@ -1,4 +1,4 @@
--- Where a run refuses an entry, what it refuses is found in it.
+-- If a run refuses an entry, the entry has that error.
 use Rattle.std.proofs.Common.{◌≡◌, ℕ, ◌+◌, ◌-◌, ◌≤◌, List, [], ◌∷◌, length, map, slice_get, Bool, true, false, cond, ◌&&◌}
 use Rattle.std.proofs.Common.{is_some, Option, Some, None, unwrap_or, Err, if◌then◌else◌, refl, sym, ap, ◌∙◌, arith}
 use Rattle.std.specs.Prelude.{is_none, nat_le, nat_lt, slice_get}
@@ -23,68 +23,68 @@ use Rattle.apply_plan.specs.Script.Refusals as run
 use Rattle.apply_plan.specs.Script.Refusals.{count_of_waits, fault_of_entry, fault_of_steps, fault_of_waits, is_any_wait, misplaces_provisioners, passes, warns_not_a_read}
 use Rattle.input_validate.specs.declared.findings.finding.Finding.{Finding}
 use Rattle.input_validate.specs.declared.findings.name.Name.TheVariants as name
-use Rattle.input_validate.specs.declared.findings.part.Part.TheVariants.{Member}
-use Rattle.input_validate.specs.declared.findings.want.Want.TheVariants as want
-use Rattle.input_validate.specs.declared.findings.what.What.{What}
-use Rattle.input_validate.specs.declared.findings.what.What.TheVariants as what
-use Rattle.input_validate.specs.Beside.{again_mark, beyond_at, beyond_in, change_at, change_named, named_first, object_named, steps_mark, unknown_marks, waits_beyond, waits_in_all, waits_left}
+use Rattle.input_validate.specs.declared.findings.path.Segment.TheVariants.{Member}
+use Rattle.input_validate.specs.declared.findings.expected.Expected.TheVariants as expected
+use Rattle.input_validate.specs.declared.findings.problem.Problem.{Problem}
+use Rattle.input_validate.specs.declared.findings.problem.Problem.TheVariants as problem
+use Rattle.input_validate.specs.AgainstPlan.{repeat_violation, beyond_at, beyond_in, change_at, change_named, named_first, object_named, step_count_violation, unknown_violations, waits_beyond, waits_in_all, waits_left}
 use Rattle.input_validate.specs.ObjectNames.{Named}
 use Rattle.input_validate.specs.PlanFindings.{first_named, is_named, name_read}
 use Rattle.input_validate.specs.ScriptFindings.{entry_names, entry_table, in_entry, in_step}
-use Rattle.input_validate.specs.Walks.{fault_of, faults_of, in_items, inside, items_at, known, marked, member_at, place_of, unread}
+use Rattle.input_validate.specs.Rules.{fault_of, faults_of, in_items, inside, items_at, rule, violation_findings, member_at, place_of, ignored}
 use Rattle.laws_validate.specs.Laws.{is_entry}
 use Rattle.laws_validate.proofs.Alike.{Alike, object_alike}
-use Rattle.laws_validate.proofs.Besides.{all_waits_same, change_same, is_unknown, less}
+use Rattle.laws_validate.proofs.CleanAgainstPlan.{all_waits_same, change_same, is_unknown, less}
 use Rattle.laws_validate.proofs.Elements.{named}
-use Rattle.laws_validate.proofs.EntriesRead.{IsEntryOf, any_first, counts_before, entry_read, found_passes, name_of_change, named_before}
+use Rattle.laws_validate.proofs.EntriesRead.{IsEntryOf, any_first, counts_before, entry_read, findings_pass, name_of_change, named_before}
 use Rattle.input_validate.proofs.FirstNames.{same_name}
-use Rattle.laws_validate.proofs.Found.{any_part, any_under, below, suited}
+use Rattle.laws_validate.proofs.AnyFinding.{any_part, any_under, below, suited}
 use Rattle.laws_validate.proofs.Joined.{joined}
 use Rattle.laws_validate.proofs.Members.{count_same}
 use Rattle.laws_validate.proofs.Provisioners.{length_of_all}
-use Rattle.laws_validate.proofs.ScriptLimits.{long_told, many_told, much_told}
-use Rattle.laws_validate.proofs.ScriptSteps.{any_outcome, each_step, entry_told, inside_any, pairs_at, step_told, this_mark}
-use Rattle.laws_validate.proofs.ScriptWaits.{beyond_told, each_kind, no_step_told, of_no_change_told, placed_told, unknown_told, warns_told}
-use Rattle.laws_validate.proofs.ShapedEntries.{shape_told}
-use Rattle.laws_validate.proofs.Taken.{found_with, outcomes, waits_read}
+use Rattle.laws_validate.proofs.ScriptLimits.{long_reported, many_reported, much_reported}
+use Rattle.laws_validate.proofs.ScriptSteps.{any_outcome, each_step, entry_reported, inside_any, pairs_at, step_reported, this_violation}
+use Rattle.laws_validate.proofs.ScriptWaits.{beyond_reported, each_kind, no_step_reported, of_no_change_reported, placed_reported, unknown_reported, warns_reported}
+use Rattle.laws_validate.proofs.ShapedEntries.{shape_reported}
+use Rattle.laws_validate.proofs.AcceptedSteps.{findings_with, outcomes, waits_read}
 use Rattle.laws_validate.proofs.Wanted.{object_there}
 use Rattle.laws_validate.proofs.ScriptTests.{OfSteps, OfWaits, by_change, by_entry, refused_with}
 use Rattle.laws_validate.proofs.Warning.{not_text}
 
 -- what a refusal is of is among these
-abbrev Told : List Finding → ScriptError → Type 0
-Told xs refusal = list_any (entry_told refusal) xs ≡ true
+abbrev IsEntryReported : List Finding → ScriptError → Type 0
+IsEntryReported xs refusal = list_any (entry_reported refusal) xs ≡ true
 
--- ---- what is found in an entry
+-- ---- the findings of an entry
 
 module _ (p : Finding → Bool) (changes : List ResourceChange) (first left : Option ℕ) (d : Data) (there : is_some (as_object d) ≡ true) where
   abbrev parts : List (List Finding)
   parts =
-      marked (unknown_marks (Some changes) d) ∷ marked (again_mark (change_at (Some changes) d) first ∷ []) ∷ fault_of d (known name.Steps want.Array)
-      ∷ marked (steps_mark (change_at (Some changes) d) d ∷ []) ∷ inside (in_items (in_step (Some changes) (change_at (Some changes) d))) name.Steps d
-      ∷ beyond_in true left d ∷ unread entry_names d ∷ []
+      violation_findings (unknown_violations (Some changes) d) ∷ violation_findings (repeat_violation (change_at (Some changes) d) first ∷ []) ∷ fault_of d (rule name.Steps expected.Array)
+      ∷ violation_findings (step_count_violation (change_at (Some changes) d) d ∷ []) ∷ inside (in_items (in_step (Some changes) (change_at (Some changes) d))) name.Steps d
+      ∷ beyond_in true left d ∷ ignored entry_names d ∷ []
 
-  part_told : (m : ℕ) (part : List Finding) → slice_get parts m ≡ Some part → list_any p part ≡ true
+  part_reported : (m : ℕ) (part : List Finding) → slice_get parts m ≡ Some part → list_any p part ≡ true
       → list_any p (in_entry (Some changes) first left d) ≡ true
   unfolding in_entry
-  part_told m part at is =
-      suited p want.Entry d (joined (faults_of entry_table d) parts) there (any_part p (faults_of entry_table d) parts m part at is)
+  part_reported m part at is =
+      suited p expected.Entry d (joined (faults_of entry_table d) parts) there (any_part p (faults_of entry_table d) parts m part at is)
 
-  unknown_in : list_any p (marked (unknown_marks (Some changes) d)) ≡ true → list_any p (in_entry (Some changes) first left d) ≡ true
-  unknown_in is = part_told 0 (marked (unknown_marks (Some changes) d)) refl is
+  unknown_in : list_any p (violation_findings (unknown_violations (Some changes) d)) ≡ true → list_any p (in_entry (Some changes) first left d) ≡ true
+  unknown_in is = part_reported 0 (violation_findings (unknown_violations (Some changes) d)) refl is
 
-  again_in : list_any p (marked (again_mark (change_at (Some changes) d) first ∷ [])) ≡ true → list_any p (in_entry (Some changes) first left d) ≡ true
-  again_in is = part_told 1 (marked (again_mark (change_at (Some changes) d) first ∷ [])) refl is
+  again_in : list_any p (violation_findings (repeat_violation (change_at (Some changes) d) first ∷ [])) ≡ true → list_any p (in_entry (Some changes) first left d) ≡ true
+  again_in is = part_reported 1 (violation_findings (repeat_violation (change_at (Some changes) d) first ∷ [])) refl is
 
-  many_in : list_any p (marked (steps_mark (change_at (Some changes) d) d ∷ [])) ≡ true → list_any p (in_entry (Some changes) first left d) ≡ true
-  many_in is = part_told 3 (marked (steps_mark (change_at (Some changes) d) d ∷ [])) refl is
+  many_in : list_any p (violation_findings (step_count_violation (change_at (Some changes) d) d ∷ [])) ≡ true → list_any p (in_entry (Some changes) first left d) ≡ true
+  many_in is = part_reported 3 (violation_findings (step_count_violation (change_at (Some changes) d) d ∷ [])) refl is
 
   steps_in : list_any p (inside (in_items (in_step (Some changes) (change_at (Some changes) d))) name.Steps d) ≡ true
       → list_any p (in_entry (Some changes) first left d) ≡ true
-  steps_in is = part_told 4 (inside (in_items (in_step (Some changes) (change_at (Some changes) d))) name.Steps d) refl is
+  steps_in is = part_reported 4 (inside (in_items (in_step (Some changes) (change_at (Some changes) d))) name.Steps d) refl is
 
   beyond_at_steps : list_any p (beyond_in true left d) ≡ true → list_any p (in_entry (Some changes) first left d) ≡ true
-  beyond_at_steps is = part_told 5 (beyond_in true left d) refl is
+  beyond_at_steps is = part_reported 5 (beyond_in true left d) refl is
 
 -- ---- an entry of no change
 
@@ -93,29 +93,29 @@ unfolding entry_of
 entry_object k entry e =
     object_there (λ it. is_some (entry_of it)) refl (λ b. refl) (λ n. refl) (λ s. refl) (λ ds. refl) k (ap (λ (o : Option Entry). is_some o) e)
 
-abbrev of_object : Bool → What
-of_object there = if there then what.UnknownObject else what.UnknownAddress
+abbrev of_object : Bool → Problem
+of_object there = if there then problem.UnknownObject else problem.UnknownAddress
 
-object_told : (n : ℕ) (text deposed there : Bool) → text ≡ false
-    → entry_told (UnknownChange n) (place_of (if text then None else if there && deposed then Some name.Deposed else Some name.Address)
+object_reported : (n : ℕ) (text deposed there : Bool) → text ≡ false
+    → entry_reported (UnknownChange n) (place_of (if text then None else if there && deposed then Some name.Deposed else Some name.Address)
     (of_object there)) ≡ true
-object_told n true deposed there e = absurd cc
-object_told n false true true e = refl
-object_told n false false true e = refl
-object_told n false deposed false e = refl
+object_reported n true deposed there e = absurd cc
+object_reported n false true true e = refl
+object_reported n false false true e = refl
+object_reported n false deposed false e = refl
 
 no_change : (changes : List ResourceChange) (first left : Option ℕ) (n : ℕ) (d k : Data) (entry : Entry) → Alike d k → entry_of k ≡ Some entry
     → change_of_entry changes entry ≡ None
-    → Told (in_entry (Some changes) first left d) (UnknownChange n)
+    → IsEntryReported (in_entry (Some changes) first left d) (UnknownChange n)
 no_change changes first left n d k entry alike is about =
-    let p : Finding → Bool = entry_told (UnknownChange n) in
+    let p : Finding → Bool = entry_reported (UnknownChange n) in
     let there : is_some (as_object d) ≡ true = object_alike d k alike ∙ entry_object k entry is in
     let none : change_named changes (named entry.address entry.deposed) ≡ None =
-    found_with (λ c. name_one_object c.address c.deposed entry.address entry.deposed) 0 changes ∙ ap (option_map (λ p. p.1)) about in
+    findings_with (λ c. name_one_object c.address c.deposed entry.address entry.deposed) 0 changes ∙ ap (option_map (λ p. p.1)) about in
     let unknown : is_unknown (Some changes) (object_named k) ≡ true =
     ap (λ (o : Option Named). is_unknown (Some changes) o) (entry_read k entry is).object ∙ ap is_none none in
     unknown_in p changes first left d there
-    (unknown_told p changes d k alike (λ it. object_told n (is_some (as_str d)) (is_some (member_at name.Deposed d)) it (not_text d there)) unknown)
+    (unknown_reported p changes d k alike (λ it. object_reported n (is_some (as_str d)) (is_some (member_at name.Deposed d)) it (not_text d there)) unknown)
 
 -- ---- an entry of a change
 
@@ -125,7 +125,7 @@ by_first : (b : Bool) (bound n : ℕ) (o : Option ℕ) → nat_lt n bound ≡ tr
 by_first true bound n o here later e = here
 by_first false bound n o here later e = later e
 
--- the entry about whose change it is stands before it
+-- the earlier entry about the same change stands before
 first_below : (test : Option Named → Bool) (bound n : ℕ) (names : List (Option Named)) → n + length names ≤ bound → is_some (position_from test n names) ≡ true
     → nat_lt (unwrap_or (position_from test n names) 0) bound ≡ true
 first_below test bound n [] few e = absurd cc
@@ -138,10 +138,10 @@ beyond_by : (p : Finding → Bool) (b : Bool) (count : ℕ) (d : Data)
     → ((n most : ℕ) → list_any (below (Member name.Steps) p) (beyond_at n most) ≡ true) → b ≡ true
     → nat_lt (max_waits - count) (waits_in_all d) ≡ true
     → list_any p (beyond_in true (let o : Option ℕ = if b then Some (max_waits - count) else None in o) d) ≡ true
-beyond_by p true count d told few e =
+beyond_by p true count d reported few e =
     any_under p (Member name.Steps) (waits_beyond (max_waits - count) 0 (items_at name.Steps d))
-    (beyond_told (below (Member name.Steps) p) told (max_waits - count) 0 (items_at name.Steps d) e)
-beyond_by p false count d told few e = absurd cc
+    (beyond_reported (below (Member name.Steps) p) reported (max_waits - count) 0 (items_at name.Steps d) e)
+beyond_by p false count d reported few e = absurd cc
 
 at_most : (count : ℕ) → nat_le count max_waits ≡ true → count ≤ max_waits
 at_most count e = grind (arith, nat_tests)
@@ -156,26 +156,26 @@ module _ (changes : List ResourceChange) (before : List Data) (d k : Data) (alik
   read = entry_read k entry is
 
   held_by : change_named changes (named entry.address entry.deposed) ≡ Some it.1
-  held_by = found_with (λ c. name_one_object c.address c.deposed entry.address entry.deposed) 0 changes ∙ ap (option_map (λ p. p.1)) about
+  held_by = findings_with (λ c. name_one_object c.address c.deposed entry.address entry.deposed) 0 changes ∙ ap (option_map (λ p. p.1)) about
 
   about_it : change_at (Some changes) d ≡ Some it.1
   about_it = change_same (Some changes) d k alike ∙ ap (λ (o : Option Named). option_and_then (change_named changes) o) read.object ∙ held_by
 
-  abbrev found : List Finding
-  found = in_entry (Some changes) (named_first before k) (waits_left (sum_by waits_in_all before)) d
+  abbrev findings : List Finding
+  findings = in_entry (Some changes) (named_first before k) (waits_left (sum_by waits_in_all before)) d
 
   first_is_some : is_some (named_first before k) ≡ list_any (names_change it.1) before
   first_is_some =
       let same : name_of_change it.1 ≡ named entry.address entry.deposed =
       same_name (name_of_change it.1) (named entry.address entry.deposed)
-      (found_passes (λ c. name_one_object c.address c.deposed entry.address entry.deposed) changes it.1 held_by) in
+      (findings_pass (λ c. name_one_object c.address c.deposed entry.address entry.deposed) changes it.1 held_by) in
       ap (λ (o : Option Named). is_some (first_named (map name_read before) o)) read.read
       ∙ any_first (is_named (named entry.address entry.deposed)) 0 (map name_read before)
       ∙ ap (λ (x : Named). list_any (is_named x) (map name_read before)) (sym same)
       ∙ named_before it.1 before are
 
-  first_told : is_some (named_first before k) ≡ true → nat_lt (unwrap_or (named_first before k) 0) (length before) ≡ true
-  first_told some =
+  first_reported : is_some (named_first before k) ≡ true → nat_lt (unwrap_or (named_first before k) 0) (length before) ≡ true
+  first_reported some =
       let test : Option Named → Bool = is_named (named entry.address entry.deposed) in
       let as_read : named_first before k ≡ position_from test 0 (map name_read before) =
       ap (λ (o : Option Named). first_named (map name_read before) o) read.read in
@@ -183,14 +183,14 @@ module _ (changes : List ResourceChange) (before : List Data) (d k : Data) (alik
       ap (λ (o : Option ℕ). nat_lt (unwrap_or o 0) (length before)) as_read
       ∙ first_below test (length before) 0 (map name_read before) (omega (arith, long)) (ap (λ (o : Option ℕ). is_some o) (sym as_read) ∙ some)
 
-  again_told : list_any (names_change it.1) before ≡ true → Told found (Duplicate (length before))
-  again_told dup =
-      let p : Finding → Bool = entry_told (Duplicate (length before)) in
+  again_reported : list_any (names_change it.1) before ≡ true → IsEntryReported findings (Duplicate (length before))
+  again_reported dup =
+      let p : Finding → Bool = entry_reported (Duplicate (length before)) in
       let some : is_some (named_first before k) ≡ true = first_is_some ∙ dup in
       let holds : (is_some (change_at (Some changes) d) && is_some (named_first before k)) ≡ true =
       ap (λ (o : Option ResourceChange). is_some o && is_some (named_first before k)) about_it ∙ some in
       again_in p changes (named_first before k) (waits_left (sum_by waits_in_all before)) d there
-      (this_mark p (again_mark (change_at (Some changes) d) (named_first before k)) [] holds (first_told some))
+      (this_violation p (repeat_violation (change_at (Some changes) d) (named_first before k)) [] holds (first_reported some))
 
   steps_read : all_some (map step_from (items_at name.Steps k)) ≡ Some entry.steps
   steps_read = ap (λ (ks : List Data). all_some (map step_from ks)) read.listed ∙ read.steps
@@ -200,64 +200,64 @@ module _ (changes : List ResourceChange) (before : List Data) (d k : Data) (alik
       count_same name.Steps refl d k alike ∙ length_of_all step_from (items_at name.Steps k) entry.steps steps_read
       ∙ sym (length-map entry.steps (λ step. step.outcome))
 
-  -- what is found in the steps of its change
-  in_steps : (refusal : ScriptError) → list_any (entry_told refusal) (inside (in_items (in_step (Some changes) (Some it.1))) name.Steps d) ≡ true
-      → Told found refusal
-  in_steps refusal told =
-      steps_in (entry_told refusal) changes (named_first before k) (waits_left (sum_by waits_in_all before)) d there
-      (ap (λ (o : Option ResourceChange). list_any (entry_told refusal) (inside (in_items (in_step (Some changes) o)) name.Steps d)) about_it ∙ told)
+  -- the findings of the steps of its change
+  in_steps : (refusal : ScriptError) → list_any (entry_reported refusal) (inside (in_items (in_step (Some changes) (Some it.1))) name.Steps d) ≡ true
+      → IsEntryReported findings refusal
+  in_steps refusal reported =
+      steps_in (entry_reported refusal) changes (named_first before k) (waits_left (sum_by waits_in_all before)) d there
+      (ap (λ (o : Option ResourceChange). list_any (entry_reported refusal) (inside (in_items (in_step (Some changes) o)) name.Steps d)) about_it ∙ reported)
 
   by_step : (refusal : ScriptError) (test : EntryStep → Bool)
       → ((n : ℕ) (e l : Data) (step : EntryStep) → Alike e l → step_from l ≡ Some step → test step ≡ true
-      → list_any (step_told refusal n) (in_step (Some changes) (Some it.1) n e) ≡ true)
-      → list_any test entry.steps ≡ true → Told found refusal
-  by_step refusal test told any = in_steps refusal (each_step refusal (Some changes) (Some it.1) test told d k alike entry.steps steps_read any)
+      → list_any (step_reported refusal n) (in_step (Some changes) (Some it.1) n e) ≡ true)
+      → list_any test entry.steps ≡ true → IsEntryReported findings refusal
+  by_step refusal test reported any = in_steps refusal (each_step refusal (Some changes) (Some it.1) test reported d k alike entry.steps steps_read any)
 
   by_kind : (refusal : ScriptError) (test : (ℕ × StepKind) × Option Outcome → Bool)
       → ((n : ℕ) (kind : StepKind) (e l : Data) (step : EntryStep) → Alike e l → step_from l ≡ Some step → slice_get it.1.steps n ≡ Some kind
       → test ((n, kind), step.outcome) ≡ true
-      → list_any (step_told refusal n) (in_step (Some changes) (Some it.1) n e) ≡ true)
-      → list_any test (zip (enumerate_from 0 it.1.steps) (outcomes entry.steps)) ≡ true → Told found refusal
-  by_kind refusal test told any =
+      → list_any (step_reported refusal n) (in_step (Some changes) (Some it.1) n e) ≡ true)
+      → list_any test (zip (enumerate_from 0 it.1.steps) (outcomes entry.steps)) ≡ true → IsEntryReported findings refusal
+  by_kind refusal test reported any =
       in_steps refusal
-      (inside_any (entry_told refusal) (in_step (Some changes) (Some it.1)) name.Steps d
-      (each_kind it.1 test (below (Member name.Steps) (entry_told refusal)) (in_step (Some changes) (Some it.1)) told 0 it.1.steps
+      (inside_any (entry_reported refusal) (in_step (Some changes) (Some it.1)) name.Steps d
+      (each_kind it.1 test (below (Member name.Steps) (entry_reported refusal)) (in_step (Some changes) (Some it.1)) reported 0 it.1.steps
       (items_at name.Steps d) (items_at name.Steps k) refl
       (pairs_at name.Steps refl d k alike) entry.steps steps_read any))
 
-  steps_told : OfSteps (Told found) (length before) (is_some it.1.deposed) it.1.steps entry.steps
-  steps_told =
+  steps_reported : OfSteps (IsEntryReported findings) (length before) (is_some it.1.deposed) it.1.steps entry.steps
+  steps_reported =
       let n : ℕ = length before in
       record {
         many = λ e.
-            let p : Finding → Bool = entry_told (TooManySteps n) in
+            let p : Finding → Bool = entry_reported (TooManySteps n) in
             let holds : option_map_or (λ change. nat_lt (length change.steps) (length (items_at name.Steps d))) (change_at (Some changes) d) false ≡ true =
             ap (λ (o : Option ResourceChange). option_map_or (λ change. nat_lt (length change.steps) (length (items_at name.Steps d))) o false) about_it
             ∙ ap (nat_lt (length it.1.steps)) counted ∙ e in
             many_in p changes (named_first before k) (waits_left (sum_by waits_in_all before)) d there
-            (this_mark p (steps_mark (change_at (Some changes) d) d) [] holds refl);
-        long = λ e. by_step (SecondsRange n) (λ step. passes is_too_long step.outcome) (long_told n (Some changes) (Some it.1))
+            (this_violation p (step_count_violation (change_at (Some changes) d) d) [] holds refl);
+        long = λ e. by_step (SecondsRange n) (λ step. passes is_too_long step.outcome) (long_reported n (Some changes) (Some it.1))
             (sym (any_outcome (passes is_too_long) entry.steps) ∙ e);
         wide = λ e.
-            by_step (TooManyProvisioners n) (λ step. passes has_too_many_provisioners step.outcome) (many_told n (Some changes) (Some it.1))
+            by_step (TooManyProvisioners n) (λ step. passes has_too_many_provisioners step.outcome) (many_reported n (Some changes) (Some it.1))
             (sym (any_outcome (passes has_too_many_provisioners) entry.steps) ∙ e);
         loud = λ e.
-            by_step (TooMuchOutput n) (λ step. passes has_too_much_output step.outcome) (much_told n (Some changes) (Some it.1))
+            by_step (TooMuchOutput n) (λ step. passes has_too_much_output step.outcome) (much_reported n (Some changes) (Some it.1))
             (sym (any_outcome (passes has_too_much_output) entry.steps) ∙ e);
         placed = λ e.
             by_kind (NotACreate n) (misplaces_provisioners (is_some it.1.deposed))
-            (λ i kind e l step same is at wrong. placed_told n (Some changes) it.1 i kind e l step same is at wrong) e;
+            (λ i kind e l step same is at wrong. placed_reported n (Some changes) it.1 i kind e l step same is at wrong) e;
         warns = λ e. by_kind (WarnsNotARead n) warns_not_a_read
-            (λ i kind e l step same is at wrong. warns_told n (Some changes) it.1 i kind e l step same is at wrong) e;
+            (λ i kind e l step same is at wrong. warns_reported n (Some changes) it.1 i kind e l step same is at wrong) e;
       }
 
-  waits_told : OfWaits (Told found) (length before) changes (sum_by count_in before) entry.steps
-  waits_told =
+  waits_findings : OfWaits (IsEntryReported findings) (length before) changes (sum_by count_in before) entry.steps
+  waits_findings =
       let n : ℕ = length before in
       let count : ℕ = sum_by waits_in_all before in
       record {
         many = λ e.
-            let p : Finding → Bool = entry_told (TooManyWaits n) in
+            let p : Finding → Bool = entry_reported (TooManyWaits n) in
             let own : waits_in_all d ≡ count_of_waits entry.steps =
             all_waits_same d k alike ∙ waits_read (items_at name.Steps k) entry.steps steps_read in
             let over : nat_lt (max_waits - count) (waits_in_all d) ≡ true =
@@ -268,25 +268,25 @@ module _ (changes : List ResourceChange) (before : List Data) (d k : Data) (alik
             (beyond_by p (nat_le count max_waits) count d (λ i most. refl) few over);
         unknown = λ e.
             by_step (UnknownWait n) (λ step. list_any (run.is_unknown changes) step.after)
-            (λ i e l step same is any. of_no_change_told n changes (Some it.1) i e l step same is any) e;
+            (λ i e l step same is any. of_no_change_reported n changes (Some it.1) i e l step same is any) e;
         lacking = λ e.
             by_step (NoSuchStep n) (λ step. list_any (run.lacks_step changes) step.after)
-            (λ i e l step same is any. no_step_told n changes (Some it.1) i e l step same is any) e;
+            (λ i e l step same is any. no_step_reported n changes (Some it.1) i e l step same is any) e;
       }
 
   of_change : (refusal : ScriptError) → refused_with (list_any (names_change it.1) before) (length before) changes (sum_by count_in before) entry it
-      ≡ Err refusal → Told found refusal
+      ≡ Err refusal → IsEntryReported findings refusal
   of_change refusal e =
-      by_change (Told found) (list_any (names_change it.1) before) (length before) changes (sum_by count_in before) entry it refusal again_told steps_told waits_told e
+      by_change (IsEntryReported findings) (list_any (names_change it.1) before) (length before) changes (sum_by count_in before) entry it refusal again_reported steps_reported waits_findings e
 
 -- ---- an entry
 
-pub refusal_told : (changes : List ResourceChange) (before : List Data) (d k : Data) (refusal : ScriptError) → Alike d k
+pub refusal_reported : (changes : List ResourceChange) (before : List Data) (d k : Data) (refusal : ScriptError) → Alike d k
     → list_all is_entry before ≡ true → nat_le (sum_by waits_in_all before) max_waits ≡ true
-    → entry_at changes before k ≡ Err refusal → list_any (entry_told refusal)
+    → entry_at changes before k ≡ Err refusal → list_any (entry_reported refusal)
     (in_entry (Some changes) (named_first before k) (waits_left (sum_by waits_in_all before)) d) ≡ true
-refusal_told changes before d k refusal alike are few e =
-    by_entry (Told (in_entry (Some changes) (named_first before k) (waits_left (sum_by waits_in_all before)) d)) changes before k
-    (λ none. shape_told (Some changes) (named_first before k) (waits_left (sum_by waits_in_all before)) d k alike none)
+refusal_reported changes before d k refusal alike are few e =
+    by_entry (IsEntryReported (in_entry (Some changes) (named_first before k) (waits_left (sum_by waits_in_all before)) d)) changes before k
+    (λ none. shape_reported (Some changes) (named_first before k) (waits_left (sum_by waits_in_all before)) d k alike none)
     (λ entry is none. no_change changes (named_first before k) (waits_left (sum_by waits_in_all before)) (length before) d k entry alike is none)
     (λ entry it x is about refused. of_change changes before d k alike entry is it about are few x refused) refusal e

@@ -1,4 +1,5 @@
--- What a run tests of an entry, one after another: it refuses for the first test that holds. What is so of the refusal of each test is so of its own.
+-- The tests of an entry in order: a run refuses for the first test that holds. A statement about
+-- each test's refusal holds for that one.
 use Rattle.std.proofs.Common.{◌≡◌, ℕ, ◌+◌, List, length, map, Bool, true, false, cond, is_some, Option, Some, None, Result, Err, refl, subst, ap}
 use Rattle.std.specs.Prelude.{nat_lt}
 use Rattle.std.specs.List.{list_any, sum_by}
@@ -14,11 +15,11 @@ use Rattle.apply_plan.specs.declared.script.script_error.ScriptError.TheVariants
 use Rattle.apply_plan.specs.Results as results
 use Rattle.apply_plan.specs.Results.{or_refuse, unless_refused}
 use Rattle.apply_plan.specs.Script.Entry.{Entry, EntryStep, entry_of}
-use Rattle.apply_plan.specs.Script.OutcomeMap.{Said, change_of_entry, count_in, entry_at, names_change, said_by}
+use Rattle.apply_plan.specs.Script.OutcomeMap.{ResolvedEntry, change_of_entry, count_in, entry_at, names_change, resolved_by}
 use Rattle.apply_plan.specs.Script.Refusals as run
 use Rattle.apply_plan.specs.Script.Refusals.{count_of_waits, fault_of_entry, fault_of_steps, fault_of_waits, is_any_wait, misplaces_provisioners, passes, warns_not_a_read}
 use Rattle.laws_validate.proofs.Entries.{any_of, misplaced, warned}
-use Rattle.laws_validate.proofs.Taken.{outcomes}
+use Rattle.laws_validate.proofs.AcceptedSteps.{outcomes}
 
 some_is : {A : Type 0} (x y : A) → Some x ≡ Some y → x ≡ y
 some_is x y e = cc
@@ -29,8 +30,8 @@ err_is x y e = cc
 by_fault : (G : ScriptError → Type 0) (refusal : ScriptError) (b : Bool) (x : ScriptError) (o : Option ScriptError) → (b ≡ true → G x)
     → (o ≡ Some refusal → G refusal)
     → cond b (Some x) o ≡ Some refusal → G refusal
-by_fault G refusal true x o told later e = subst G (some_is x refusal e) (told refl)
-by_fault G refusal false x o told later e = later e
+by_fault G refusal true x o reported later e = subst G (some_is x refusal e) (reported refl)
+by_fault G refusal false x o reported later e = later e
 
 no_more : (G : ScriptError → Type 0) (refusal : ScriptError) → None ≡ Some refusal → G refusal
 no_more G refusal e = absurd cc
@@ -47,13 +48,13 @@ by_steps : (G : ScriptError → Type 0) (n : ℕ) (deposed : Bool) (kinds : List
     → OfSteps G n deposed kinds steps
     → fault_of_steps n deposed kinds (outcomes steps) ≡ Some refusal → G refusal
 unfolding fault_of_steps
-by_steps G n deposed kinds steps refusal told e =
-    by_fault G refusal _ (TooManySteps n) _ told.many
-    (by_fault G refusal _ (SecondsRange n) _ told.long
-    (by_fault G refusal _ (TooManyProvisioners n) _ told.wide
-    (by_fault G refusal _ (TooMuchOutput n) _ told.loud
-    (by_fault G refusal _ (NotACreate n) _ told.placed
-    (by_fault G refusal _ (WarnsNotARead n) None told.warns (no_more G refusal)))))) e
+by_steps G n deposed kinds steps refusal reported e =
+    by_fault G refusal _ (TooManySteps n) _ reported.many
+    (by_fault G refusal _ (SecondsRange n) _ reported.long
+    (by_fault G refusal _ (TooManyProvisioners n) _ reported.wide
+    (by_fault G refusal _ (TooMuchOutput n) _ reported.loud
+    (by_fault G refusal _ (NotACreate n) _ reported.placed
+    (by_fault G refusal _ (WarnsNotARead n) None reported.warns (no_more G refusal)))))) e
 
 pub record OfWaits (G : ScriptError → Type 0) (n : ℕ) (changes : List ResourceChange) (earlier : ℕ) (steps : List EntryStep) : Type 0 where
   pub many : nat_lt max_waits (earlier + count_of_waits steps) ≡ true → G (TooManyWaits n)
@@ -64,24 +65,24 @@ by_waits : (G : ScriptError → Type 0) (n : ℕ) (changes : List ResourceChange
     → OfWaits G n changes earlier steps
     → fault_of_waits n changes earlier steps ≡ Some refusal → G refusal
 unfolding fault_of_waits
-by_waits G n changes earlier steps refusal told e =
-    by_fault G refusal _ (TooManyWaits n) _ told.many
-    (by_fault G refusal _ (UnknownWait n) _ told.unknown
-    (by_fault G refusal _ (NoSuchStep n) None told.lacking (no_more G refusal))) e
+by_waits G n changes earlier steps refusal reported e =
+    by_fault G refusal _ (TooManyWaits n) _ reported.many
+    (by_fault G refusal _ (UnknownWait n) _ reported.unknown
+    (by_fault G refusal _ (NoSuchStep n) None reported.lacking (no_more G refusal))) e
 
 by_either : (G : ScriptError → Type 0) (a b : Option ScriptError) (refusal : ScriptError) → (a ≡ Some refusal → G refusal)
     → (b ≡ Some refusal → G refusal) → option_or a b ≡ Some refusal → G refusal
 by_either G None b refusal first second e = second e
 by_either G (Some x) b refusal first second e = first e
 
-by_said : (G : ScriptError → Type 0) (o : Option ScriptError) (said : Said) (refusal : ScriptError) → (o ≡ Some refusal → G refusal)
-    → unless_refused o said ≡ Err refusal → G refusal
-by_said G None said refusal told e = absurd cc
-by_said G (Some x) said refusal told e = told (ap (λ (y : ScriptError). Some y) (err_is x refusal e))
+by_said : (G : ScriptError → Type 0) (o : Option ScriptError) (decoded : ResolvedEntry) (refusal : ScriptError) → (o ≡ Some refusal → G refusal)
+    → unless_refused o decoded ≡ Err refusal → G refusal
+by_said G None decoded refusal reported e = absurd cc
+by_said G (Some x) decoded refusal reported e = reported (ap (λ (y : ScriptError). Some y) (err_is x refusal e))
 
-abbrev pub refused_with : (dup : Bool) (n : ℕ) (changes : List ResourceChange) (earlier : ℕ) (entry : Entry) → ℕ × ResourceChange → Result Said ScriptError
+abbrev pub refused_with : (dup : Bool) (n : ℕ) (changes : List ResourceChange) (earlier : ℕ) (entry : Entry) → ℕ × ResourceChange → Result ResolvedEntry ScriptError
 refused_with dup n changes earlier entry it = cond dup (Err (Duplicate n))
-    (unless_refused (fault_of_entry n changes earlier it.1 entry.steps) (said_by changes it.0 entry.steps))
+    (unless_refused (fault_of_entry n changes earlier it.1 entry.steps) (resolved_by changes it.0 entry.steps))
 
 pub by_change : (G : ScriptError → Type 0) (dup : Bool) (n : ℕ) (changes : List ResourceChange) (earlier : ℕ) (entry : Entry) (it : ℕ × ResourceChange)
     (refusal : ScriptError)
@@ -89,7 +90,7 @@ pub by_change : (G : ScriptError → Type 0) (dup : Bool) (n : ℕ) (changes : L
     → refused_with dup n changes earlier entry it ≡ Err refusal → G refusal
 by_change G true n changes earlier entry it refusal again steps waits e = subst G (err_is (Duplicate n) refusal e) (again refl)
 by_change G false n changes earlier entry it refusal again steps waits e =
-    by_said G (fault_of_entry n changes earlier it.1 entry.steps) (said_by changes it.0 entry.steps) refusal
+    by_said G (fault_of_entry n changes earlier it.1 entry.steps) (resolved_by changes it.0 entry.steps) refusal
     (by_either G (fault_of_steps n (is_some it.1.deposed) it.1.steps (map (λ step. step.outcome) entry.steps))
     (fault_of_waits n changes earlier entry.steps) refusal
     (by_steps G n (is_some it.1.deposed) it.1.steps entry.steps refusal steps) (by_waits G n changes earlier entry.steps refusal waits)) e
@@ -103,12 +104,12 @@ module _ (G : ScriptError → Type 0) (changes : List ResourceChange) (before : 
   module _ (shape : entry_of d ≡ None → G (BadShape (Some (length before))))
       (unknown : (entry : Entry) → entry_of d ≡ Some entry → change_of_entry changes entry ≡ None → G (UnknownChange (length before)))
       (of_change : OfChange) where
-    by_found : (entry : Entry) → entry_of d ≡ Some entry → (o : Option (ℕ × ResourceChange)) → change_of_entry changes entry ≡ o → (refusal : ScriptError)
+    by_planned : (entry : Entry) → entry_of d ≡ Some entry → (o : Option (ℕ × ResourceChange)) → change_of_entry changes entry ≡ o → (refusal : ScriptError)
         → results.◌>>=◌ (or_refuse (UnknownChange (length before)) o)
         (λ it. refused_with (list_any (names_change it.1) before) (length before) changes (sum_by count_in before) entry it) ≡ Err refusal
         → G refusal
-    by_found entry is None about refusal e = subst G (err_is (UnknownChange (length before)) refusal e) (unknown entry is about)
-    by_found entry is (Some it) about refusal e = of_change entry it refusal is about e
+    by_planned entry is None about refusal e = subst G (err_is (UnknownChange (length before)) refusal e) (unknown entry is about)
+    by_planned entry is (Some it) about refusal e = of_change entry it refusal is about e
 
     by_read : (o : Option Entry) → entry_of d ≡ o → (refusal : ScriptError)
         → results.◌>>=◌ (or_refuse (BadShape (Some (length before))) o)
@@ -116,7 +117,7 @@ module _ (G : ScriptError → Type 0) (changes : List ResourceChange) (before : 
         (λ it. refused_with (list_any (names_change it.1) before) (length before) changes (sum_by count_in before) entry it)) ≡ Err refusal
         → G refusal
     by_read None is refusal e = subst G (err_is (BadShape (Some (length before))) refusal e) (shape is)
-    by_read (Some entry) is refusal e = by_found entry is (change_of_entry changes entry) refl refusal e
+    by_read (Some entry) is refusal e = by_planned entry is (change_of_entry changes entry) refl refusal e
 
     pub by_entry : (refusal : ScriptError) → entry_at changes before d ≡ Err refusal → G refusal
     unfolding entry_at

@@ -1,4 +1,4 @@
--- What is found in a script stands in its place, and its warnings are of members that nobody reads.
+-- Findings of a script stand at their places, and its warnings are about members that no run reads.
 use Rattle.std.proofs.Common.{◌≡◌, ℕ, suc, ◌-◌, List, [], ◌∷◌, ◌++◌, length, map, Bool, true, false, not, ◌&&◌, ◌||◌, is_some, slice_get, Option, Some, None, if◌then◌else◌, refl}
 use Rattle.std.specs.Prelude.{codes, nat_le, nat_lt}
 use Rattle.std.specs.List.{AllByRecursion, sum_by}
@@ -6,7 +6,7 @@ use Rattle.std.specs.Option.{option_map_or}
 use Rattle.std.proofs.lemmas.Bool.{and_parts, ltb-true}
 use Rattle.serde_json.specs.Data.{Data}
 use Rattle.serde_json.specs.Find.{as_object, as_str, get}
-use Rattle.apply_json.specs.Seen.{items_in}
+use Rattle.apply_json.specs.ShallowView.{items_in}
 use Rattle.apply_json.specs.Tree.{◌>>=◌, is_word, list_of, non_empty_text_of, text_of, text_or, unless_empty}
 use Rattle.apply_model.specs.declared.plan.step_kind.StepKind.{StepKind}
 use Rattle.apply_model.specs.declared.plan.step_kind.StepKind.TheVariants.{Read}
@@ -17,73 +17,73 @@ use Rattle.apply_plan.specs.Script.Refusals.{takes_provisioners}
 use Rattle.input_validate.specs.declared.findings.finding.Finding.{Finding}
 use Rattle.input_validate.specs.declared.findings.name.Name.{Name}
 use Rattle.input_validate.specs.declared.findings.name.Name.TheVariants as name
-use Rattle.input_validate.specs.declared.findings.part.Part.{Part}
-use Rattle.input_validate.specs.declared.findings.part.Part.TheVariants.{Item, Member}
-use Rattle.input_validate.specs.declared.findings.want.Want.TheVariants as want
-use Rattle.input_validate.specs.declared.findings.what.What.TheVariants as what
-use Rattle.input_validate.specs.Beside.{again_mark, beyond_at, beyond_in, change_at, has_address, is_deposed, kind_marks, kind_of, named_first, object_named, only_warns, step_mark, steps_mark, unknown_mark, unknown_marks, waits_beyond, waits_in, waits_in_all, waits_left}
+use Rattle.input_validate.specs.declared.findings.path.Segment.{Segment}
+use Rattle.input_validate.specs.declared.findings.path.Segment.TheVariants.{Item, Member}
+use Rattle.input_validate.specs.declared.findings.expected.Expected.TheVariants as expected
+use Rattle.input_validate.specs.declared.findings.problem.Problem.TheVariants as problem
+use Rattle.input_validate.specs.AgainstPlan.{repeat_violation, beyond_at, beyond_in, change_at, has_address, is_deposed, kind_violations, kind_of, named_first, object_named, only_warns, missing_step_violation, step_count_violation, unknown_violation, unknown_violations, waits_beyond, waits_in, waits_in_all, waits_left}
 use Rattle.input_validate.specs.Findings.{finding_here, under}
 use Rattle.input_validate.specs.Names.{name_text}
 use Rattle.input_validate.specs.PlanFindings.{name_read}
-use Rattle.input_validate.specs.ScriptFindings.{comes_after, diagnostic_names, diagnostic_table, entry_names, entry_table, failure_names, failure_table, growth_of_provisioner, has_failed, in_diagnostic, in_entry, in_entry_behind, in_failure, in_output, in_outputs, in_provisioner, in_script, in_step, in_wait, is_skipped, output_marks, output_names, output_table, outputs_behind, provisioner_mark, provisioner_names, provisioner_table, script_names, skipped_marks, step_marks, step_names, step_table, wait_names, wait_table, whole_at}
-use Rattle.input_validate.specs.Walks.{fault_of, faults_of, in_items, items_at, items_behind, known, marked, member_at, unless_suits, unread, where_suits}
-use Rattle.laws_validate.specs.Unread.{IsRead, entry, failure, failure_of_provisioner, output, provisioner, step, top, wait, warning}
-use Rattle.laws_validate.proofs.Marks.{HasPlace, holding, holding_some, is_plain, is_there, marks_right, of_marks, over_found, over_most, there, there_items, there_non_empty, there_text, there_whole}
-use Rattle.laws_validate.proofs.Placing.{AreRight, StandFrom, all_under, behind_right, below, both, first_there, item_right, items_right, listed_right, object_right, of_member, of_table, of_unread, optional_right, rest_there, unless_right, where_right, whole_there, within, within_list, within_member}
+use Rattle.input_validate.specs.ScriptFindings.{comes_after, diagnostic_names, diagnostic_table, entry_names, entry_table, failure_names, failure_table, growth_of_provisioner, has_failed, in_diagnostic, in_entry, in_entry_after, in_failure, in_output, in_outputs, in_provisioner, in_script, in_step, in_wait, is_skipped, output_violations, output_names, output_table, outputs_after, provisioner_violation, provisioner_names, provisioner_table, script_names, skipped_violations, step_violations, step_names, step_table, wait_names, wait_table, whole_at}
+use Rattle.input_validate.specs.Rules.{fault_of, faults_of, in_items, items_at, items_after, rule, violation_findings, member_at, unless_suits, ignored, where_suits}
+use Rattle.laws_validate.specs.IgnoredMembers.{IsRead, entry, failure, failure_of_provisioner, output, provisioner, step, top, wait, warning}
+use Rattle.laws_validate.proofs.ViolationPlaces.{HasPlace, holding, holding_some, is_plain, is_there, violations_right, of_violations, over_findings, over_most, there, there_items, there_non_empty, there_text, there_whole}
+use Rattle.laws_validate.proofs.Placing.{AreRight, StandFrom, all_under, after_right, below, both, first_there, item_right, items_right, listed_right, object_right, of_member, of_table, of_unread, optional_right, rest_there, unless_right, where_right, whole_there, within, within_list, within_member}
 
 -- ---- diagnostics
 
-diagnostic_right : (R : List Part → List Name → Type 0) → R [] diagnostic_names → (d : Data) → AreRight R d (in_diagnostic d)
+diagnostic_right : (R : List Segment → List Name → Type 0) → R [] diagnostic_names → (d : Data) → AreRight R d (in_diagnostic d)
 unfolding in_diagnostic
-diagnostic_right R r d = where_right R want.Diagnostic d (λ o. o) (of_table R diagnostic_table d) (of_unread R diagnostic_names d r ∷ [])
+diagnostic_right R r d = where_right R expected.Diagnostic d (λ o. o) (of_table R diagnostic_table d) (of_unread R diagnostic_names d r ∷ [])
 
-failure_right : (R : List Part → List Name → Type 0) → R [] failure_names → (d : Data) → AreRight R d (in_failure d)
+failure_right : (R : List Segment → List Name → Type 0) → R [] failure_names → (d : Data) → AreRight R d (in_failure d)
 unfolding in_failure
-failure_right R r d = where_right R want.Diagnostic d (λ o. o) (of_table R failure_table d) (of_unread R failure_names d r ∷ [])
+failure_right R r d = where_right R expected.Diagnostic d (λ o. o) (of_table R failure_table d) (of_unread R failure_names d r ∷ [])
 
 -- ---- provisioners
 
 -- which members are read of a provisioner, and of what stands in it
-pub record ReadsProvisioner (R : List Part → List Name → Type 0) : Type 0 where
+pub record ReadsProvisioner (R : List Segment → List Name → Type 0) : Type 0 where
   pub itself : R [] provisioner_names
   pub failed : R (Member name.Failed ∷ []) diagnostic_names
   pub output : (n : ℕ) → R (Member name.Output ∷ Item n ∷ []) output_names
 
-output_places : (seconds before : Option ℕ) (d : Data) → AllByRecursion (HasPlace d) (output_marks seconds before d)
+output_places : (seconds before : Option ℕ) (d : Data) → AllByRecursion (HasPlace d) (output_violations seconds before d)
 output_places seconds before d = (
-  (refl, λ h. there_whole name.After d (over_found seconds (whole_at name.After d) h)),
+  (refl, λ h. there_whole name.After d (over_findings seconds (whole_at name.After d) h)),
   ((refl, λ h. there_whole name.After d (over_most (whole_at name.After d) before h)), tt),
 )
 
-output_right : (R : List Part → List Name → Type 0) → R [] output_names → (seconds before : Option ℕ) (d : Data) → AreRight R d (in_output seconds before d)
+output_right : (R : List Segment → List Name → Type 0) → R [] output_names → (seconds before : Option ℕ) (d : Data) → AreRight R d (in_output seconds before d)
 unfolding in_output
 output_right R r seconds before d =
-    object_right R d (of_table R output_table d) (of_marks R d (output_marks seconds before d) (output_places seconds before d) ∷ of_unread R output_names d r ∷ [])
+    object_right R d (of_table R output_table d) (of_violations R d (output_violations seconds before d) (output_places seconds before d) ∷ of_unread R output_names d r ∷ [])
 
-outputs_by : (R : List Part → List Name → Type 0) → ((n : ℕ) → R (Item n ∷ []) output_names) → (d : Data) (seconds before : Option ℕ) (n : ℕ) (ds : List Data)
-    → StandFrom n (list_of (items_in d)) ds → AreRight R d (outputs_behind seconds before n ds)
+outputs_by : (R : List Segment → List Name → Type 0) → ((n : ℕ) → R (Item n ∷ []) output_names) → (d : Data) (seconds before : Option ℕ) (n : ℕ) (ds : List Data)
+    → StandFrom n (list_of (items_in d)) ds → AreRight R d (outputs_after seconds before n ds)
 outputs_by R r d seconds before n [] stand = tt
 outputs_by R r d seconds before n (e ∷ ds) stand =
-    both R d (map (under (Item n)) (in_output seconds before e)) (outputs_behind seconds (comes_after seconds e) (suc n) ds)
+    both R d (map (under (Item n)) (in_output seconds before e)) (outputs_after seconds (comes_after seconds e) (suc n) ds)
     (all_under R (Item n) d e (first_there n (list_of (items_in d)) e ds stand) (in_output seconds before e) (output_right (below (Item n) R) (r n) seconds before e))
     (outputs_by R r d seconds (comes_after seconds e) (suc n) ds (rest_there n (list_of (items_in d)) e ds stand))
 
-provisioner_right : (R : List Part → List Name → Type 0) → ReadsProvisioner R → (d : Data) → AreRight R d (in_provisioner d)
+provisioner_right : (R : List Segment → List Name → Type 0) → ReadsProvisioner R → (d : Data) → AreRight R d (in_provisioner d)
 unfolding in_provisioner
 provisioner_right R r d =
-    where_right R want.Provisioner d (λ o. o) (of_table R provisioner_table d)
-    (within_list R (λ number. unless_suits want.Output) (known name.Output want.ArrayOrAbsent) d (λ n e. unless_right (below (Item n) (below (Member name.Output) R)) want.Output e)
-    ∷ of_marks R d (provisioner_mark d ∷ []) ((refl, there_items name.Output d max_outputs), tt)
+    where_right R expected.Provisioner d (λ o. o) (of_table R provisioner_table d)
+    (within_list R (λ number. unless_suits expected.Output) (rule name.Output expected.ArrayOrAbsent) d (λ n e. unless_right (below (Item n) (below (Member name.Output) R)) expected.Output e)
+    ∷ of_violations R d (provisioner_violation d ∷ []) ((refl, there_items name.Output d max_outputs), tt)
     ∷ within_member R in_diagnostic name.Failed d (diagnostic_right (below (Member name.Failed) R) r.failed)
     ∷ of_unread R provisioner_names d r.itself
     ∷ [])
 
-growth_right : (R : List Part → List Name → Type 0) → ReadsProvisioner R → (d : Data) → AreRight R d (growth_of_provisioner d)
+growth_right : (R : List Segment → List Name → Type 0) → ReadsProvisioner R → (d : Data) → AreRight R d (growth_of_provisioner d)
 unfolding growth_of_provisioner
 growth_right R r d =
-    both R d (faults_of (known name.OnFailure want.OnFailure ∷ []) d) (in_outputs d)
-    (both R d (fault_of d (known name.OnFailure want.OnFailure)) [] (optional_right R (known name.OnFailure want.OnFailure) d refl) tt)
-    (listed_right R name.Output d (outputs_behind (whole_at name.Seconds d) None 0) refl
+    both R d (faults_of (rule name.OnFailure expected.OnFailure ∷ []) d) (in_outputs d)
+    (both R d (fault_of d (rule name.OnFailure expected.OnFailure)) [] (optional_right R (rule name.OnFailure expected.OnFailure) d refl) tt)
+    (listed_right R name.Output d (outputs_after (whole_at name.Seconds d) None 0) refl
     (λ list. outputs_by (below (Member name.Output) R) r.output list (whole_at name.Seconds d) None 0 (list_of (items_in list)) (whole_there (list_of (items_in list)))))
 
 -- ---- what names no object
@@ -92,7 +92,7 @@ first_some : {A B : Type 0} (o : Option A) (f : A → Option B) (y : B) → (o >
 first_some None f y e = absurd cc
 first_some (Some x) f y e = refl
 
-plain_unknown : (b : Bool) → is_plain (if b then what.UnknownObject else what.UnknownAddress) ≡ true
+plain_unknown : (b : Bool) → is_plain (if b then problem.UnknownObject else problem.UnknownAddress) ≡ true
 plain_unknown true = refl
 plain_unknown false = refl
 
@@ -110,7 +110,7 @@ named_by_address d None named none e =
     (λ address. text_or [] (member_at name.Deposed d) >>= λ deposed. let o : Option (List ℕ × Option (List ℕ)) = Some (address, unless_empty deposed) in o) named e)
 
 unknown_by : (all : List ResourceChange) (d : Data) (o : Option (List ℕ × Option (List ℕ))) → object_named d ≡ o
-    → AllByRecursion (HasPlace d) (option_map_or (λ named. unknown_mark all d named ∷ []) o [])
+    → AllByRecursion (HasPlace d) (option_map_or (λ named. unknown_violation all d named ∷ []) o [])
 unknown_by all d None is = tt
 unknown_by all d (Some named) is = (
   (
@@ -122,47 +122,47 @@ unknown_by all d (Some named) is = (
   tt,
 )
 
-unknown_places : (changes : Option (List ResourceChange)) (d : Data) → AllByRecursion (HasPlace d) (unknown_marks changes d)
+unknown_places : (changes : Option (List ResourceChange)) (d : Data) → AllByRecursion (HasPlace d) (unknown_violations changes d)
 unknown_places None d = tt
 unknown_places (Some all) d = unknown_by all d (object_named d) refl
 
 -- ---- waits
 
-named_step : (change : Option ResourceChange) (named : Option ℕ) → (step_mark change named).holds ≡ true → is_some named ≡ true
+named_step : (change : Option ResourceChange) (named : Option ℕ) → (missing_step_violation change named).holds ≡ true → is_some named ≡ true
 named_step None named e = absurd cc
-named_step (Some found) named e = holding_some (nat_le (length found.steps)) named e
+named_step (Some findings) named e = holding_some (nat_le (length findings.steps)) named e
 
 other : (a b : Bool) → a ≡ false → (a || b) ≡ true → b ≡ true
 other true b none e = absurd cc
 other false b none e = e
 
-wait_by : (R : List Part → List Name → Type 0) → R [] wait_names → (changes : Option (List ResourceChange)) (d : Data) (b : Bool) → is_some (as_str d) ≡ b
-    → AreRight R d (if b then marked (unknown_marks changes d)
-    else where_suits want.Wait d
-    (faults_of wait_table d ++ marked (unknown_marks changes d) ++ marked (step_mark (change_at changes d) (whole_at name.Step d) ∷ []) ++ unread wait_names d))
-wait_by R r changes d true is = marks_right R d (unknown_marks changes d) (unknown_places changes d)
+wait_by : (R : List Segment → List Name → Type 0) → R [] wait_names → (changes : Option (List ResourceChange)) (d : Data) (b : Bool) → is_some (as_str d) ≡ b
+    → AreRight R d (if b then violation_findings (unknown_violations changes d)
+    else where_suits expected.Wait d
+    (faults_of wait_table d ++ violation_findings (unknown_violations changes d) ++ violation_findings (missing_step_violation (change_at changes d) (whole_at name.Step d) ∷ []) ++ ignored wait_names d))
+wait_by R r changes d true is = violations_right R d (unknown_violations changes d) (unknown_places changes d)
 wait_by R r changes d false is =
-    where_right R want.Wait d (other (is_some (as_str d)) (is_some (as_object d)) is) (of_table R wait_table d)
-    (of_marks R d (unknown_marks changes d) (unknown_places changes d)
-    ∷ of_marks R d (step_mark (change_at changes d) (whole_at name.Step d) ∷ []) ((refl, λ h. there_whole name.Step d (named_step (change_at changes d) (whole_at name.Step d) h)), tt)
+    where_right R expected.Wait d (other (is_some (as_str d)) (is_some (as_object d)) is) (of_table R wait_table d)
+    (of_violations R d (unknown_violations changes d) (unknown_places changes d)
+    ∷ of_violations R d (missing_step_violation (change_at changes d) (whole_at name.Step d) ∷ []) ((refl, λ h. there_whole name.Step d (named_step (change_at changes d) (whole_at name.Step d) h)), tt)
     ∷ of_unread R wait_names d r
     ∷ [])
 
-wait_right : (R : List Part → List Name → Type 0) → R [] wait_names → (changes : Option (List ResourceChange)) (d : Data) → AreRight R d (in_wait changes d)
+wait_right : (R : List Segment → List Name → Type 0) → R [] wait_names → (changes : Option (List ResourceChange)) (d : Data) → AreRight R d (in_wait changes d)
 unfolding in_wait
 wait_right R r changes d = wait_by R r changes d (is_some (as_str d)) refl
 
 -- ---- steps
 
 -- which members are read of a step, and of what stands in it
-pub record ReadsStep (R : List Part → List Name → Type 0) : Type 0 where
+pub record ReadsStep (R : List Segment → List Name → Type 0) : Type 0 where
   pub itself : R [] step_names
   pub warning : R (Member name.Warning ∷ []) diagnostic_names
   pub failed : R (Member name.Failed ∷ []) failure_names
   pub provisioner : (n : ℕ) → ReadsProvisioner (below (Item n) (below (Member name.Provisioners) R))
   pub wait : (n : ℕ) → R (Member name.After ∷ Item n ∷ []) wait_names
 
-test_places : (d : Data) → AllByRecursion (HasPlace d) (step_marks d)
+test_places : (d : Data) → AllByRecursion (HasPlace d) (step_violations d)
 test_places d = (
   (refl, λ h. there_non_empty name.Id d (and_parts (has_failed d) (is_some (non_empty_text_of (name_text name.Id) d)) h).1),
   (
@@ -177,7 +177,7 @@ test_places d = (
   ),
 )
 
-skipped_places : (d : Data) → AllByRecursion (HasPlace d) (skipped_marks d)
+skipped_places : (d : Data) → AllByRecursion (HasPlace d) (skipped_violations d)
 skipped_places d = (
   (refl, λ h. there name.Seconds d (and_parts (is_skipped d) (is_some (member_at name.Seconds d)) h).1),
   (
@@ -206,49 +206,49 @@ warns_there d kind h =
     (holding_some (λ failed. option_map_or (is_word (codes "warning")) (member_at name.Severity failed) false) (member_at name.Failed d)
     (and_parts (only_warns d) (not (is_kind Read held.0)) held.2).0)
 
-kind_places : (change : Option ResourceChange) (number : ℕ) (d : Data) → AllByRecursion (HasPlace d) (kind_marks change number d)
+kind_places : (change : Option ResourceChange) (number : ℕ) (d : Data) → AllByRecursion (HasPlace d) (kind_violations change number d)
 kind_places change number d = (
   (refl, takes_none d (λ kind. takes_provisioners (is_deposed change) (number, kind)) (kind_of change number)),
   ((refl, warns_there d (kind_of change number)), tt),
 )
 
-step_right : (R : List Part → List Name → Type 0) → ReadsStep R → (changes : Option (List ResourceChange)) (change : Option ResourceChange) (number : ℕ) (d : Data)
+step_right : (R : List Segment → List Name → Type 0) → ReadsStep R → (changes : Option (List ResourceChange)) (change : Option ResourceChange) (number : ℕ) (d : Data)
     → AreRight R d (in_step changes change number d)
 unfolding in_step
 step_right R r changes change number d =
-    where_right R want.Step d (λ o. o) (of_table R (step_table (is_skipped d)) d)
+    where_right R expected.Step d (λ o. o) (of_table R (step_table (is_skipped d)) d)
     (within_member R in_diagnostic name.Warning d (diagnostic_right (below (Member name.Warning) R) r.warning)
     ∷ within_member R in_failure name.Failed d (failure_right (below (Member name.Failed) R) r.failed)
-    ∷ within_list R (λ number. in_provisioner) (known name.Provisioners want.ArrayOrAbsent) d (λ n e. provisioner_right (below (Item n) (below (Member name.Provisioners) R)) (r.provisioner n) e)
-    ∷ of_marks R d (step_marks d) (test_places d)
-    ∷ of_marks R d (kind_marks change number d) (kind_places change number d)
-    ∷ of_table R (known name.Skipped want.FlagOrAbsent ∷ []) d
-    ∷ of_marks R d (skipped_marks d) (skipped_places d)
+    ∷ within_list R (λ number. in_provisioner) (rule name.Provisioners expected.ArrayOrAbsent) d (λ n e. provisioner_right (below (Item n) (below (Member name.Provisioners) R)) (r.provisioner n) e)
+    ∷ of_violations R d (step_violations d) (test_places d)
+    ∷ of_violations R d (kind_violations change number d) (kind_places change number d)
+    ∷ of_table R (rule name.Skipped expected.FlagOrAbsent ∷ []) d
+    ∷ of_violations R d (skipped_violations d) (skipped_places d)
     ∷ within_member R (in_items (λ number. growth_of_provisioner)) name.Provisioners d (λ list.
     items_right (below (Member name.Provisioners) R) (λ number. growth_of_provisioner) list (λ n e. growth_right (below (Item n) (below (Member name.Provisioners) R)) (r.provisioner n) e))
-    ∷ within_list R (λ item. in_wait changes) (known name.After want.ArrayOrAbsent) d (λ n e. wait_right (below (Item n) (below (Member name.After) R)) (r.wait n) changes e)
+    ∷ within_list R (λ item. in_wait changes) (rule name.After expected.ArrayOrAbsent) d (λ n e. wait_right (below (Item n) (below (Member name.After) R)) (r.wait n) changes e)
     ∷ of_unread R step_names d r.itself
     ∷ [])
 
 -- ---- items of `after` beyond those that a script may have
 
-beyond_one : (R : List Part → List Name → Type 0) (d : Data) (most n : ℕ) (e : Data) (ds : List Data) (b : Bool) → nat_lt most (waits_in e) ≡ b
+beyond_one : (R : List Segment → List Name → Type 0) (d : Data) (most n : ℕ) (e : Data) (ds : List Data) (b : Bool) → nat_lt most (waits_in e) ≡ b
     → slice_get (list_of (items_in d)) n ≡ Some e → AreRight R d (waits_beyond (most - waits_in e) (suc n) ds)
     → AreRight R d (if b then beyond_at n most else waits_beyond (most - waits_in e) (suc n) ds)
 beyond_one R d most n e ds false is at rest = rest
 beyond_one R d most n e ds true is at rest =
     let over = within (items_at name.After e) most (ltb-true most (waits_in e) is) in
-    let told : List Finding = finding_here what.TooManyWaits ∷ [] in
-    all_under R (Item n) d e at (map (under (Member name.After)) (map (under (Item most)) told))
-    (item_right (below (Item n) R) name.After e most over.0 told over.1 (refl, tt))
+    let reported : List Finding = finding_here problem.TooManyWaits ∷ [] in
+    all_under R (Item n) d e at (map (under (Member name.After)) (map (under (Item most)) reported))
+    (item_right (below (Item n) R) name.After e most over.0 reported over.1 (refl, tt))
 
-beyond_by : (R : List Part → List Name → Type 0) (d : Data) (most n : ℕ) (ds : List Data) → StandFrom n (list_of (items_in d)) ds → AreRight R d (waits_beyond most n ds)
+beyond_by : (R : List Segment → List Name → Type 0) (d : Data) (most n : ℕ) (ds : List Data) → StandFrom n (list_of (items_in d)) ds → AreRight R d (waits_beyond most n ds)
 beyond_by R d most n [] stand = tt
 beyond_by R d most n (e ∷ ds) stand =
     beyond_one R d most n e ds (nat_lt most (waits_in e)) refl (first_there n (list_of (items_in d)) e ds stand)
     (beyond_by R d (most - waits_in e) (suc n) ds (rest_there n (list_of (items_in d)) e ds stand))
 
-beyond_right : (R : List Part → List Name → Type 0) (d : Data) (has_plan : Bool) (left : Option ℕ) → AreRight R d (beyond_in has_plan left d)
+beyond_right : (R : List Segment → List Name → Type 0) (d : Data) (has_plan : Bool) (left : Option ℕ) → AreRight R d (beyond_in has_plan left d)
 beyond_right R d has_plan None = tt
 beyond_right R d false (Some most) = tt
 beyond_right R d true (Some most) =
@@ -256,47 +256,47 @@ beyond_right R d true (Some most) =
 
 -- ---- entries, and the whole
 
-pub record ReadsEntry (R : List Part → List Name → Type 0) : Type 0 where
+pub record ReadsEntry (R : List Segment → List Name → Type 0) : Type 0 where
   pub itself : R [] entry_names
   pub step : (n : ℕ) → ReadsStep (below (Item n) (below (Member name.Steps) R))
 
-many_steps : (change : Option ResourceChange) (d : Data) → (steps_mark change d).holds ≡ true → is_some (get (name_text name.Steps) d) ≡ true
+many_steps : (change : Option ResourceChange) (d : Data) → (step_count_violation change d).holds ≡ true → is_some (get (name_text name.Steps) d) ≡ true
 many_steps change d h =
-    let held = holding (λ found. nat_lt (length found.steps) (length (items_at name.Steps d))) change h in
+    let held = holding (λ findings. nat_lt (length findings.steps) (length (items_at name.Steps d))) change h in
     there_items name.Steps d (length held.0.steps) held.2
 
-entry_right : (R : List Part → List Name → Type 0) → ReadsEntry R → (changes : Option (List ResourceChange)) (first left : Option ℕ) (d : Data) → AreRight R d (in_entry changes first left d)
+entry_right : (R : List Segment → List Name → Type 0) → ReadsEntry R → (changes : Option (List ResourceChange)) (first left : Option ℕ) (d : Data) → AreRight R d (in_entry changes first left d)
 unfolding in_entry
 entry_right R r changes first left d =
     let change : Option ResourceChange = change_at changes d in
-    where_right R want.Entry d (λ o. o) (of_table R entry_table d)
-    (of_marks R d (unknown_marks changes d) (unknown_places changes d)
-    ∷ of_marks R d (again_mark change first ∷ []) ((refl, λ h. refl), tt)
-    ∷ of_member R (known name.Steps want.Array) d
-    ∷ of_marks R d (steps_mark change d ∷ []) ((refl, many_steps change d), tt)
+    where_right R expected.Entry d (λ o. o) (of_table R entry_table d)
+    (of_violations R d (unknown_violations changes d) (unknown_places changes d)
+    ∷ of_violations R d (repeat_violation change first ∷ []) ((refl, λ h. refl), tt)
+    ∷ of_member R (rule name.Steps expected.Array) d
+    ∷ of_violations R d (step_count_violation change d ∷ []) ((refl, many_steps change d), tt)
     ∷ within_member R (in_items (in_step changes change)) name.Steps d (λ list.
     items_right (below (Member name.Steps) R) (in_step changes change) list (λ n e. step_right (below (Item n) (below (Member name.Steps) R)) (r.step n) changes change n e))
     ∷ (beyond_in (is_some changes) left d, λ o. beyond_right R d (is_some changes) left)
     ∷ of_unread R entry_names d r.itself
     ∷ [])
 
-pub record ReadsScript (R : List Part → List Name → Type 0) : Type 0 where
+pub record ReadsScript (R : List Segment → List Name → Type 0) : Type 0 where
   pub itself : R [] script_names
   pub entry : (n : ℕ) → ReadsEntry (below (Item n) (below (Member name.Changes) R))
 
-entries_right : (R : List Part → List Name → Type 0) → ((n : ℕ) → ReadsEntry (below (Item n) (below (Member name.Changes) R))) → (changes : Option (List ResourceChange)) (d : Data)
-    → AreRight R d (map (under (Member name.Changes)) (items_behind (in_entry_behind changes) [] (items_at name.Changes d)))
+entries_right : (R : List Segment → List Name → Type 0) → ((n : ℕ) → ReadsEntry (below (Item n) (below (Member name.Changes) R))) → (changes : Option (List ResourceChange)) (d : Data)
+    → AreRight R d (map (under (Member name.Changes)) (items_after (in_entry_after changes) [] (items_at name.Changes d)))
 entries_right R r changes d =
-    listed_right R name.Changes d (items_behind (in_entry_behind changes) []) refl (λ list.
-    behind_right (below (Member name.Changes) R) (in_entry_behind changes) list (λ before n e.
+    listed_right R name.Changes d (items_after (in_entry_after changes) []) refl (λ list.
+    after_right (below (Member name.Changes) R) (in_entry_after changes) list (λ before n e.
     entry_right (below (Item n) (below (Member name.Changes) R)) (r n) changes (named_first before e) (waits_left (sum_by waits_in_all before)) e)
     [] (list_of (items_in list)) (whole_there (list_of (items_in list))))
 
-script_by : (R : List Part → List Name → Type 0) → ReadsScript R → (changes : Option (List ResourceChange)) (d : Data) → AreRight R d (in_script changes d)
+script_by : (R : List Segment → List Name → Type 0) → ReadsScript R → (changes : Option (List ResourceChange)) (d : Data) → AreRight R d (in_script changes d)
 unfolding in_script
 script_by R r changes d =
-    where_right R want.Object d (λ o. o) (of_member R (known name.Changes want.Array) d)
-    ((map (under (Member name.Changes)) (items_behind (in_entry_behind changes) [] (items_at name.Changes d)), λ o. entries_right R r.entry changes d)
+    where_right R expected.Object d (λ o. o) (of_member R (rule name.Changes expected.Array) d)
+    ((map (under (Member name.Changes)) (items_after (in_entry_after changes) [] (items_at name.Changes d)), λ o. entries_right R r.entry changes d)
     ∷ of_unread R script_names d r.itself
     ∷ [])
 

@@ -1,4 +1,4 @@
--- Where a run reads no entry, something is told that breaks its rule.
+-- If a run does not read an entry, a finding reports a broken rule.
 use Rattle.std.proofs.Common.{◌≡◌, ℕ, suc, ◌-◌, List, [], ◌∷◌, ◌++◌, map, Bool, true, false, not, ◌&&◌, is_some, Option, Some, None, if◌then◌else◌, refl, sym, ap, ◌∙◌}
 use Rattle.std.specs.Prelude.{codes, nat_lt}
 use Rattle.std.specs.List.{list_any}
@@ -9,28 +9,28 @@ use Rattle.apply_model.specs.Plan.ResourceChange.{ResourceChange}
 use Rattle.apply_plan.specs.Script.Entry.{Entry, EntryStep, all_some, entry_of, step_from}
 use Rattle.input_validate.specs.declared.findings.finding.Finding.{Finding}
 use Rattle.input_validate.specs.declared.findings.name.Name.TheVariants as name
-use Rattle.input_validate.specs.declared.findings.part.Part.TheVariants.{Member}
-use Rattle.input_validate.specs.declared.findings.want.Want.TheVariants as want
-use Rattle.input_validate.specs.Beside.{again_mark, beyond_at, beyond_in, change_at, steps_mark, unknown_marks, waits_beyond, waits_in}
+use Rattle.input_validate.specs.declared.findings.path.Segment.TheVariants.{Member}
+use Rattle.input_validate.specs.declared.findings.expected.Expected.TheVariants as expected
+use Rattle.input_validate.specs.AgainstPlan.{repeat_violation, beyond_at, beyond_in, change_at, step_count_violation, unknown_violations, waits_beyond, waits_in}
 use Rattle.input_validate.specs.Findings.{is_refusal, under}
 use Rattle.input_validate.specs.ScriptFindings.{entry_names, entry_table, in_entry, in_step}
-use Rattle.input_validate.specs.Walks.{fault_of, faults_of, in_items, inside, items_at, known, marked, unread, where_suits}
-use Rattle.input_validate.specs.Wants.{is_met}
+use Rattle.input_validate.specs.Rules.{fault_of, faults_of, in_items, inside, items_at, rule, violation_findings, ignored, where_suits}
+use Rattle.input_validate.specs.Expectations.{is_met}
 use Rattle.laws_validate.proofs.Alike.{Alike, member_alike, object_alike}
 use Rattle.laws_validate.proofs.Clean.{all_items, appended, clean, clean-fault_of, clean-then_unread, clean-where_suits, is_absent_or}
 use Rattle.laws_validate.proofs.Diagnostics.{two}
-use Rattle.laws_validate.proofs.Members.{IsCleanBeside, array_there, items_inside, text_or_there, text_there}
+use Rattle.laws_validate.proofs.Members.{IsCleanBy, array_there, items_inside, text_or_there, text_there}
 use Rattle.input_validate.proofs.Options.{and_assoc, not_not}
 use Rattle.laws_validate.proofs.Shapes.{IsSame, both_same, is_shape, no_unknown, same_fault, same_faults, same_items, same_picked, same_unread, same_where, shape_under, without, Same}
 use Rattle.laws_validate.proofs.Wanted.{each_is, needs_object}
 use Rattle.laws_validate.proofs.ShapedSteps.{clean_shaped_step, same_step, shaped_step}
 
 abbrev shaped_entry : Data → List Finding
-shaped_entry d = where_suits want.Entry d
+shaped_entry d = where_suits expected.Entry d
     (faults_of entry_table d
-    ++ fault_of d (known name.Steps want.Array)
+    ++ fault_of d (rule name.Steps expected.Array)
     ++ inside (in_items (λ number. shaped_step)) name.Steps d
-    ++ unread entry_names d)
+    ++ ignored entry_names d)
 
 by_room : (b : Bool) (n most : ℕ) (xs : List Finding) → list_any is_shape xs ≡ false → list_any is_shape (if b then beyond_at n most else xs) ≡ false
 by_room true n most xs e = refl
@@ -50,7 +50,7 @@ no_beyond : (has_plan : Bool) (left : Option ℕ) (d : Data) → list_any is_sha
 no_beyond has_plan None d = refl
 no_beyond has_plan (Some most) d = by_plan has_plan (waits_beyond most 0 (items_at name.Steps d)) (none_beyond most 0 (items_at name.Steps d))
 
--- those parts alone say that a rule is broken
+-- only these parts report a broken rule
 same_parts : (wrong unknown again list many steps shaped beyond rest : List Finding) → Same wrong wrong → list_any is_shape unknown ≡ false
     → list_any is_shape again ≡ false → Same list list → list_any is_shape many ≡ false → Same steps shaped → list_any is_shape beyond ≡ false
     → Same rest rest → Same (wrong ++ unknown ++ again ++ list ++ many ++ steps ++ beyond ++ rest) (wrong ++ list ++ shaped ++ rest)
@@ -67,11 +67,11 @@ same_entry : (changes : Option (List ResourceChange)) (first left : Option ℕ) 
 unfolding in_entry
 same_entry changes first left d =
     let change : Option ResourceChange = change_at changes d in
-    same_where want.Entry d _ _
-    (same_parts (faults_of entry_table d) (marked (unknown_marks changes d)) (marked (again_mark change first ∷ [])) (fault_of d (known name.Steps want.Array))
-    (marked (steps_mark change d ∷ [])) (inside (in_items (in_step changes change)) name.Steps d) (inside (in_items (λ number. shaped_step)) name.Steps d)
-    (beyond_in (is_some changes) left d) (unread entry_names d) (same_faults entry_table d) (no_unknown changes d) (same_picked (again_mark change first ∷ []))
-    (same_fault d (known name.Steps want.Array)) (same_picked (steps_mark change d ∷ []))
+    same_where expected.Entry d _ _
+    (same_parts (faults_of entry_table d) (violation_findings (unknown_violations changes d)) (violation_findings (repeat_violation change first ∷ [])) (fault_of d (rule name.Steps expected.Array))
+    (violation_findings (step_count_violation change d ∷ [])) (inside (in_items (in_step changes change)) name.Steps d) (inside (in_items (λ number. shaped_step)) name.Steps d)
+    (beyond_in (is_some changes) left d) (ignored entry_names d) (same_faults entry_table d) (no_unknown changes d) (same_picked (repeat_violation change first ∷ []))
+    (same_fault d (rule name.Steps expected.Array)) (same_picked (step_count_violation change d ∷ []))
     (same_items (in_step changes change) (λ number. shaped_step) (same_step changes change) name.Steps d) (no_beyond (is_some changes) left d)
     (same_unread entry_names d))
 
@@ -97,30 +97,30 @@ entry_reads (Some x) (Some y) None = refl
 entry_reads (Some x) (Some y) (Some l) = of_items x y (as_array l)
 
 each_there : {A : Type 0} (part : Data → Option A) (o : Option Data)
-    → (is_met want.Array o && is_absent_or (all_items (λ e. is_some (part e))) o) ≡ is_some (o >>= as_array >>= λ items. all_some (map part (list_of items)))
+    → (is_met expected.Array o && is_absent_or (all_items (λ e. is_some (part e))) o) ≡ is_some (o >>= as_array >>= λ items. all_some (map part (list_of items)))
 each_there part None = refl
 each_there part (Some d) = each_is part (Some d)
 
-clean_shaped_entry : IsCleanBeside shaped_entry (λ k. is_some (entry_of k))
+clean_shaped_entry : IsCleanBy shaped_entry (λ k. is_some (entry_of k))
 unfolding entry_of
 clean_shaped_entry d k alike =
     let wrong : List Finding = faults_of entry_table d in
-    let list : List Finding = fault_of d (known name.Steps want.Array) in
+    let list : List Finding = fault_of d (rule name.Steps expected.Array) in
     let steps : List Finding = inside (in_items (λ number. shaped_step)) name.Steps d in
     let a : Option (List ℕ) = text_of (codes "address") k in
     let t : Option (List ℕ) = text_or [] (member_of (codes "deposed") k) in
     let o : Option Data = member_of (codes "steps") k in
-    let there : Bool = is_met want.Array o in
+    let there : Bool = is_met expected.Array o in
     let own : Bool = is_absent_or (all_items (λ e. is_some (step_from e))) o in
     let fit : Bool = is_some (o >>= as_array >>= λ ds. all_some (map step_from (list_of ds))) in
     let e1 : clean wrong ≡ (is_some a && is_some t) =
-    two (known name.Address want.Text) (known name.Deposed want.TextOrAbsent) d
-    ∙ ap (λ (b : Bool). b && is_met want.TextOrAbsent (member_of (codes "deposed") d)) (text_there (codes "address") refl d k alike)
+    two (rule name.Address expected.Text) (rule name.Deposed expected.TextOrAbsent) d
+    ∙ ap (λ (b : Bool). b && is_met expected.TextOrAbsent (member_of (codes "deposed") d)) (text_there (codes "address") refl d k alike)
     ∙ ap (λ (b : Bool). is_some a && b) (text_or_there (codes "deposed") refl d k alike) in
     let e2 : clean list ≡ there =
-    clean-fault_of d (known name.Steps want.Array) ∙ array_there (member_of (codes "steps") d) o (member_alike (codes "steps") refl d k alike) in
+    clean-fault_of d (rule name.Steps expected.Array) ∙ array_there (member_of (codes "steps") d) o (member_alike (codes "steps") refl d k alike) in
     let e3 : clean steps ≡ own = items_inside (λ number. shaped_step) (λ e. is_some (step_from e)) (λ number. clean_shaped_step) name.Steps refl d k alike in
-    clean-where_suits want.Entry d (wrong ++ list ++ steps ++ unread entry_names d)
+    clean-where_suits expected.Entry d (wrong ++ list ++ steps ++ ignored entry_names d)
     ∙ ap (λ (x : Bool). is_some (as_object d) && x)
     (clean-then_unread (wrong ++ list ++ steps) entry_names d
     ∙ appended (wrong ++ list) steps _ _ (appended wrong list _ _ e1 e2) e3
@@ -130,10 +130,10 @@ clean_shaped_entry d k alike =
     ∙ needs_object (codes "address") k ((is_some a && is_some t) && fit) (λ none. ap (λ (x : Option Data). (is_some (x >>= as_str) && is_some t) && fit) none)
     ∙ entry_reads a t o
 
--- where a run reads no entry, something in it is told that breaks its rule
-pub shape_told : (changes : Option (List ResourceChange)) (first left : Option ℕ) (d k : Data) → Alike d k → entry_of k ≡ None
+-- if a run does not read an entry, a broken rule is reported in it
+pub shape_reported : (changes : Option (List ResourceChange)) (first left : Option ℕ) (d k : Data) → Alike d k → entry_of k ≡ None
     → list_any is_shape (in_entry changes first left d) ≡ true
-shape_told changes first left d k alike none =
+shape_reported changes first left d k alike none =
     same_entry changes first left d
     ∙ sym (not_not (list_any is_refusal (shaped_entry d)))
     ∙ ap not (clean_shaped_entry d k alike ∙ ap (λ (o : Option Entry). is_some o) none)

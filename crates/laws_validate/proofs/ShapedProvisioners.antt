@@ -1,4 +1,5 @@
--- Provisioners, but for how much they put out: nothing is found that breaks a rule, exactly where one is read.
+-- Provisioners, apart from how many output items they have: no rule is broken if and only if a run
+-- reads one.
 use Rattle.std.proofs.Common.{◌≡◌, ℕ, List, [], ◌∷◌, ◌++◌, Bool, true, false, ◌&&◌, is_some, Option, Some, None, refl, sym, ap, ◌∙◌}
 use Rattle.std.specs.Prelude.{codes}
 use Rattle.serde_json.specs.Data.{Data}
@@ -10,12 +11,12 @@ use Rattle.apply_model.specs.declared.script.timed_text.TimedText.{TimedText}
 use Rattle.apply_plan.specs.Script.Entry.{OutputItem, diag_or_none, each_of, may_fail_or_not, output_from, provisioner_from, seconds_of, timed_outputs}
 use Rattle.input_validate.specs.declared.findings.finding.Finding.{Finding}
 use Rattle.input_validate.specs.declared.findings.name.Name.TheVariants as name
-use Rattle.input_validate.specs.declared.findings.want.Want.TheVariants as want
-use Rattle.input_validate.specs.ScriptFindings.{in_diagnostic, in_provisioner, provisioner_mark, provisioner_names, provisioner_table, whole_at}
-use Rattle.input_validate.specs.Walks.{faults_of, in_list, inside, items_at, known, marked, unless_suits, unread, where_suits}
+use Rattle.input_validate.specs.declared.findings.expected.Expected.TheVariants as expected
+use Rattle.input_validate.specs.ScriptFindings.{in_diagnostic, in_provisioner, provisioner_violation, provisioner_names, provisioner_table, whole_at}
+use Rattle.input_validate.specs.Rules.{faults_of, in_list, inside, items_at, rule, violation_findings, unless_suits, ignored, where_suits}
 use Rattle.laws_validate.proofs.Alike.{object_alike}
 use Rattle.laws_validate.proofs.Clean.{appended, clean-then_unread, clean-where_suits}
-use Rattle.laws_validate.proofs.Members.{IsCleanBeside}
+use Rattle.laws_validate.proofs.Members.{IsCleanBy}
 use Rattle.input_validate.proofs.Options.{and_comm, and_false}
 use Rattle.laws_validate.proofs.Outputs.{are_shaped, come_in_time}
 use Rattle.laws_validate.proofs.Provisioners.{outputs_come, fits_growth, named_clean, output_clean, failed_clean}
@@ -25,28 +26,28 @@ use Rattle.laws_validate.proofs.Wanted.{needs_object}
 -- ---- provisioners, but for how much they put out
 
 abbrev pub shaped_provisioner : Data → List Finding
-shaped_provisioner d = where_suits want.Provisioner d
+shaped_provisioner d = where_suits expected.Provisioner d
     (faults_of provisioner_table d
-    ++ in_list (λ number. unless_suits want.Output) (known name.Output want.ArrayOrAbsent) d
+    ++ in_list (λ number. unless_suits expected.Output) (rule name.Output expected.ArrayOrAbsent) d
     ++ inside in_diagnostic name.Failed d
-    ++ unread provisioner_names d)
+    ++ ignored provisioner_names d)
 
 pub same_provisioner : IsSame in_provisioner shaped_provisioner
 unfolding in_provisioner
 same_provisioner d =
     let wrong : List Finding = faults_of provisioner_table d in
-    let output : List Finding = in_list (λ number. unless_suits want.Output) (known name.Output want.ArrayOrAbsent) d in
-    let marks : List Finding = marked (provisioner_mark d ∷ []) in
+    let output : List Finding = in_list (λ number. unless_suits expected.Output) (rule name.Output expected.ArrayOrAbsent) d in
+    let violations : List Finding = violation_findings (provisioner_violation d ∷ []) in
     let failed : List Finding = inside in_diagnostic name.Failed d in
-    let rest : List Finding = unread provisioner_names d in
-    same_where want.Provisioner d (wrong ++ output ++ marks ++ failed ++ rest) (wrong ++ output ++ failed ++ rest)
-    (both_same (wrong ++ output ++ marks ++ failed) rest (wrong ++ output ++ failed) rest
-    (both_same (wrong ++ output ++ marks) failed (wrong ++ output) failed
-    (without (wrong ++ output) marks (wrong ++ output)
+    let rest : List Finding = ignored provisioner_names d in
+    same_where expected.Provisioner d (wrong ++ output ++ violations ++ failed ++ rest) (wrong ++ output ++ failed ++ rest)
+    (both_same (wrong ++ output ++ violations ++ failed) rest (wrong ++ output ++ failed) rest
+    (both_same (wrong ++ output ++ violations) failed (wrong ++ output) failed
+    (without (wrong ++ output) violations (wrong ++ output)
     (both_same wrong output wrong output (same_faults provisioner_table d)
-    (same_list (λ number. unless_suits want.Output) (λ number. unless_suits want.Output) (λ number. same_unless want.Output)
-    (known name.Output want.ArrayOrAbsent) d))
-    (same_picked (provisioner_mark d ∷ [])))
+    (same_list (λ number. unless_suits expected.Output) (λ number. unless_suits expected.Output) (λ number. same_unless expected.Output)
+    (rule name.Output expected.ArrayOrAbsent) d))
+    (same_picked (provisioner_violation d ∷ [])))
     (same_inside in_diagnostic in_diagnostic same_diagnostic name.Failed d))
     (same_unread provisioner_names d))
 
@@ -61,16 +62,16 @@ first_shaped k =
     members_shaped (non_empty_text_of (codes "provisioner") k) (seconds_of k) (are_shaped (member_of (codes "output") k))
     (diag_or_none (member_of (codes "failed") k))
 
-pub clean_shaped : IsCleanBeside shaped_provisioner first_shaped
+pub clean_shaped : IsCleanBy shaped_provisioner first_shaped
 unfolding first_shaped
 clean_shaped d k alike =
     let wrong : List Finding = faults_of provisioner_table d in
-    let output : List Finding = in_list (λ number. unless_suits want.Output) (known name.Output want.ArrayOrAbsent) d in
+    let output : List Finding = in_list (λ number. unless_suits expected.Output) (rule name.Output expected.ArrayOrAbsent) d in
     let failed : List Finding = inside in_diagnostic name.Failed d in
     let shaped : Bool = are_shaped (member_of (codes "output") k) in
     let failed_read : Option (Option Diag) = diag_or_none (member_of (codes "failed") k) in
     let fits : Bool = members_shaped (non_empty_text_of (codes "provisioner") k) (seconds_of k) shaped failed_read in
-    clean-where_suits want.Provisioner d (wrong ++ output ++ failed ++ unread provisioner_names d)
+    clean-where_suits expected.Provisioner d (wrong ++ output ++ failed ++ ignored provisioner_names d)
     ∙ ap (λ (x : Bool). is_some (as_object d) && x)
     (clean-then_unread (wrong ++ output ++ failed) provisioner_names d
     ∙ appended (wrong ++ output) failed _ _ (appended wrong output _ _ (named_clean d k alike) (output_clean d k alike)) (failed_clean d k alike))

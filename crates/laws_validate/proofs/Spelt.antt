@@ -1,4 +1,4 @@
--- Values of a tree, and their own texts: what a run reads of the texts.
+-- Values of a tree, their own texts, and what a run reads of the texts.
 use Rattle.std.proofs.Common.{◌≡◌, ◌≤◌, ◌==◌, ℕ, List, [], ◌∷◌, ◌++◌, drop, Bool, true, false, not, ◌&&◌, ◌||◌, is_some, Option, Some, None, option_map, option_and_then, refl, sym, ap, ◌∙◌, if◌then◌else◌, ⊎_elim, append-nil}
 use Rattle.std.specs.Prelude.{codes}
 use Rattle.std.specs.Str.{bytes_eq}
@@ -17,13 +17,13 @@ use Rattle.serde_json.specs.Data.{Data, null, boolean, number, string, array, ob
 use Rattle.serde_json.specs.Find.{as_object, as_str}
 use Rattle.serde_json.specs.Read.{max_depth, number_of, of_items, of_json, of_members}
 use Rattle.apply_json.specs.Tree.{◌>>=◌, unless_null}
-use Rattle.apply_model.specs.declared.details.severity.Severity.{Severity}
-use Rattle.apply_model.specs.declared.details.severity.Severity.TheVariants.{Error, Warning}
-use Rattle.apply_plan_terraform.specs.Notes.{is_object, object_or_none, said, said_or_empty, severity_named}
+use Rattle.apply_model.specs.declared.details.note.Severity.{Severity}
+use Rattle.apply_model.specs.declared.details.note.Severity.TheVariants.{Error, Warning}
+use Rattle.apply_plan_terraform.specs.Notes.{is_object, object_or_none, decoded, decoded_or_empty, severity_named}
 use Rattle.apply_plan_terraform.specs.Outputs.{is_flag_or_absent, is_null}
 use Rattle.apply_plan_terraform.specs.Texts.{json_of_text, text_of}
-use Rattle.input_validate.specs.declared.findings.want.Want.TheVariants as want
-use Rattle.input_validate.specs.Wants.{is_met, is_severity}
+use Rattle.input_validate.specs.declared.findings.expected.Expected.TheVariants as expected
+use Rattle.input_validate.specs.Expectations.{is_met, is_severity}
 use Rattle.input_validate.proofs.Options.{not_not}
 
 -- the value of a tree is that of JSON, which nests no deeper than it may
@@ -124,11 +124,11 @@ null_by (json.string s) d has is = rw (sym (some_is (string s) d is)) refl
 null_by (json.array js) d has is = let it = mapped array (of_items js) d is in rw it.2 refl
 null_by (json.object ms) d has is = let it = mapped object (of_members ms no_members) d is in rw it.2 refl
 
--- it is `null` where the value is
+-- the text is `null` if the value is `null`
 pub null_text : (j : Json) (d : Data) → IsOf j d → is_null (Some (text_of j)) ≡ not (is_some (unless_null d))
 null_text j d of = null_by j d of.numbers of.is
 
-flag_by : (j : Json) (d : Data) → HasNumbers j → of_json j ≡ Some d → is_flag_or_absent (Some (text_of j)) ≡ is_met want.FlagOrAbsent (unless_null d)
+flag_by : (j : Json) (d : Data) → HasNumbers j → of_json j ≡ Some d → is_flag_or_absent (Some (text_of j)) ≡ is_met expected.FlagOrAbsent (unless_null d)
 unfolding print_from
 flag_by json.null d has is = rw (sym (some_is null d is)) refl
 flag_by (json.boolean true) d has is = rw (sym (some_is (boolean true) d is)) refl
@@ -142,8 +142,8 @@ flag_by (json.string s) d has is = rw (sym (some_is (string s) d is)) refl
 flag_by (json.array js) d has is = let it = mapped array (of_items js) d is in rw it.2 refl
 flag_by (json.object ms) d has is = let it = mapped object (of_members ms no_members) d is in rw it.2 refl
 
--- it is `true`, `false` or `null` where the value is
-pub flag_text : (j : Json) (d : Data) → IsOf j d → is_flag_or_absent (Some (text_of j)) ≡ is_met want.FlagOrAbsent (unless_null d)
+-- the text is `true`, `false` or `null` if the value is
+pub flag_text : (j : Json) (d : Data) → IsOf j d → is_flag_or_absent (Some (text_of j)) ≡ is_met expected.FlagOrAbsent (unless_null d)
 flag_text j d of = flag_by j d of.numbers of.is
 
 two_words : (b c : Bool) → is_some (let o : Option Severity = if b then Some Error else if c then Some Warning else None in o) ≡ (c || b)
@@ -184,8 +184,8 @@ object_by (json.string s) d has is = rw (sym (some_is (string s) d is)) refl
 object_by (json.array js) d has is = let it = mapped array (of_items js) d is in rw it.2 refl
 object_by (json.object ms) d has is = let it = mapped object (of_members ms no_members) d is in rw it.2 refl
 
-said_text : (j : Json) (d : Data) → IsOf j d → said (text_of j) ≡ as_str d
-said_text j d of =
+decoded_text : (j : Json) (d : Data) → IsOf j d → decoded (text_of j) ≡ as_str d
+decoded_text j d of =
     ap (λ (o : Option Json). option_and_then of_json o >>= as_str) (read_back j of.numbers of.shallow) ∙ ap (λ (o : Option Data). o >>= as_str) of.is
 
 -- ---- values that may be missing
@@ -196,10 +196,10 @@ AreSpelt None p = p ≡ None
 AreSpelt (Some d) p = (j : Json) × IsOf j d × (p ≡ Some (text_of j))
 
 -- a text, where it is not `null`
-abbrev pub kept : Option (List ℕ) → Option (List ℕ)
-kept p = p >>= λ text. if is_null (Some text) then None else Some text
+abbrev pub raw_tree : Option (List ℕ) → Option (List ℕ)
+raw_tree p = p >>= λ text. if is_null (Some text) then None else Some text
 
-not_null : (j : Json) (d : Data) → IsOf j d → AreSpelt (unless_null d) (kept (Some (text_of j)))
+not_null : (j : Json) (d : Data) → IsOf j d → AreSpelt (unless_null d) (raw_tree (Some (text_of j)))
 not_null j null of = rw (null_text j null of) refl
 not_null j (boolean b) of = (j, of, rw (null_text j (boolean b) of) refl)
 not_null j (number n) of = (j, of, rw (null_text j (number n) of) refl)
@@ -207,40 +207,40 @@ not_null j (string s) of = (j, of, rw (null_text j (string s) of) refl)
 not_null j (array ds) of = (j, of, rw (null_text j (array ds) of) refl)
 not_null j (object ms) of = (j, of, rw (null_text j (object ms) of) refl)
 
-pub kept_spelt : (o : Option Data) (p : Option (List ℕ)) → AreSpelt o p → AreSpelt (o >>= unless_null) (kept p)
-kept_spelt None p a = rw a refl
-kept_spelt (Some d) p a = rw (a.2) (not_null a.0 d a.1)
+pub verbatim_spelt : (o : Option Data) (p : Option (List ℕ)) → AreSpelt o p → AreSpelt (o >>= unless_null) (raw_tree p)
+verbatim_spelt None p a = rw a refl
+verbatim_spelt (Some d) p a = rw (a.2) (not_null a.0 d a.1)
 
-there : (o : Option Data) → is_some o ≡ is_met want.NotNull o
+there : (o : Option Data) → is_some o ≡ is_met expected.NotNull o
 there None = refl
 there (Some d) = refl
 
-pub typed_met : (o : Option Data) (p : Option (List ℕ)) → AreSpelt o p → is_met want.NotNull (o >>= unless_null) ≡ (is_some p && not (is_null p))
+pub typed_met : (o : Option Data) (p : Option (List ℕ)) → AreSpelt o p → is_met expected.NotNull (o >>= unless_null) ≡ (is_some p && not (is_null p))
 typed_met None p a = rw a refl
 typed_met (Some d) p a =
     rw (a.2) (sym (there (unless_null d)) ∙ sym (ap not (null_text a.0 d a.1) ∙ not_not (is_some (unless_null d))))
 
-pub flag_met : (o : Option Data) (p : Option (List ℕ)) → AreSpelt o p → is_met want.FlagOrAbsent (o >>= unless_null) ≡ is_flag_or_absent p
+pub flag_met : (o : Option Data) (p : Option (List ℕ)) → AreSpelt o p → is_met expected.FlagOrAbsent (o >>= unless_null) ≡ is_flag_or_absent p
 flag_met None p a = rw a refl
 flag_met (Some d) p a = rw (a.2) (sym (flag_text a.0 d a.1))
 
-pub severity_met : (o : Option Data) (p : Option (List ℕ)) → AreSpelt o p → is_met want.NoteSeverity o ≡ is_some (p >>= severity_named)
+pub severity_met : (o : Option Data) (p : Option (List ℕ)) → AreSpelt o p → is_met expected.NoteSeverity o ≡ is_some (p >>= severity_named)
 severity_met None p a = rw a refl
 severity_met (Some d) p a = rw (a.2) (sym (severity_by a.0 d a.1.numbers a.1.is))
 
-pub text_met : (o : Option Data) (p : Option (List ℕ)) → AreSpelt o p → is_met want.Text o ≡ is_some (p >>= said)
+pub text_met : (o : Option Data) (p : Option (List ℕ)) → AreSpelt o p → is_met expected.Text o ≡ is_some (p >>= decoded)
 text_met None p a = rw a refl
-text_met (Some d) p a = rw (a.2) (ap (λ (t : Option (List ℕ)). is_some t) (sym (said_text a.0 d a.1)))
+text_met (Some d) p a = rw (a.2) (ap (λ (t : Option (List ℕ)). is_some t) (sym (decoded_text a.0 d a.1)))
 
-pub text_or_met : (o : Option Data) (p : Option (List ℕ)) → AreSpelt o p → is_met want.TextOrAbsent o ≡ is_some (said_or_empty p)
+pub text_or_met : (o : Option Data) (p : Option (List ℕ)) → AreSpelt o p → is_met expected.TextOrAbsent o ≡ is_some (decoded_or_empty p)
 text_or_met None p a = rw a refl
-text_or_met (Some d) p a = rw (a.2) (ap (λ (t : Option (List ℕ)). is_some t) (sym (said_text a.0 d a.1)))
+text_or_met (Some d) p a = rw (a.2) (ap (λ (t : Option (List ℕ)). is_some t) (sym (decoded_text a.0 d a.1)))
 
 by_object : (b : Bool) (text : List ℕ) → is_some (let o : Option (Option (List ℕ)) = if b then Some (Some text) else None in o) ≡ b
 by_object true text = refl
 by_object false text = refl
 
-pub object_met : (o : Option Data) (p : Option (List ℕ)) → AreSpelt o p → is_met want.ObjectOrAbsent o ≡ is_some (object_or_none p)
+pub object_met : (o : Option Data) (p : Option (List ℕ)) → AreSpelt o p → is_met expected.ObjectOrAbsent o ≡ is_some (object_or_none p)
 object_met None p a = rw a refl
 object_met (Some d) p a =
     rw (a.2) (sym (object_by a.0 d a.1.numbers a.1.is) ∙ sym (by_object (is_object (text_of a.0)) (text_of a.0)))

@@ -1,4 +1,4 @@
--- What values have to be, by what the readers read of them.
+-- What values have to be, compared with what readers accept.
 use Rattle.std.proofs.Common.{◌≡◌, ℕ, List, [], ◌∷◌, map, Bool, true, false, not, ◌&&◌, ◌||◌, if◌then◌else◌, is_some, Option, Some, None, refl, sym, ap, ◌∙◌}
 use Rattle.std.specs.Prelude.{codes}
 use Rattle.std.specs.List.{list_all}
@@ -8,38 +8,38 @@ use Rattle.serde_json.specs.Data.{Data, Items, Num, null, boolean, number, strin
 use Rattle.serde_json.specs.Find.{as_array, as_number, as_object, as_str, as_u64}
 use Rattle.apply_json.specs.Tree.{◌>>=◌, is_empty, items_or_empty, list_of, member_of, text_or, unless_empty}
 use Rattle.apply_plan.specs.Script.Entry.{all_some, each_of, flag_or_false, may_fail_by, may_fail_or_not, number_or_none, only_warns_by, only_warns_or_not}
-use Rattle.input_validate.specs.declared.findings.want.Want.TheVariants as want
-use Rattle.input_validate.specs.Wants.{is_met}
+use Rattle.input_validate.specs.declared.findings.expected.Expected.TheVariants as expected
+use Rattle.input_validate.specs.Expectations.{is_met}
 use Rattle.laws_validate.proofs.Clean.{all_items, is_absent_or}
 use Rattle.input_validate.proofs.Options.{all_fit, all_some_is, and_left, and_then_is, some_map}
-use Rattle.apply_json.specs.Seen.{items_in}
+use Rattle.apply_json.specs.ShallowView.{items_in}
 
-pub met_text : (o : Option Data) → is_met want.Text o ≡ is_some (o >>= as_str)
+pub met_text : (o : Option Data) → is_met expected.Text o ≡ is_some (o >>= as_str)
 met_text None = refl
 met_text (Some d) = refl
 
-pub met_text_or : (o : Option Data) → is_met want.TextOrAbsent o ≡ is_some (text_or [] o)
+pub met_text_or : (o : Option Data) → is_met expected.TextOrAbsent o ≡ is_some (text_or [] o)
 met_text_or None = refl
 met_text_or (Some d) = refl
 
-pub met_array : (o : Option Data) → is_met want.Array o ≡ is_some (o >>= as_array)
+pub met_array : (o : Option Data) → is_met expected.Array o ≡ is_some (o >>= as_array)
 met_array None = refl
 met_array (Some d) = refl
 
-pub met_array_or : (o : Option Data) → is_met want.ArrayOrAbsent o ≡ is_some (items_or_empty o)
+pub met_array_or : (o : Option Data) → is_met expected.ArrayOrAbsent o ≡ is_some (items_or_empty o)
 met_array_or None = refl
 met_array_or (Some d) = refl
 
-pub met_seconds : (o : Option Data) → is_met want.Seconds o ≡ is_some (o >>= as_number >>= as_u64)
+pub met_seconds : (o : Option Data) → is_met expected.Seconds o ≡ is_some (o >>= as_number >>= as_u64)
 met_seconds None = refl
 met_seconds (Some d) = ap (λ (n : Option ℕ). is_some n) (and_then_is as_u64 (as_number d))
 
-pub met_whole_or : (o : Option Data) → is_met want.WholeOrAbsent o ≡ is_some (number_or_none o)
+pub met_whole_or : (o : Option Data) → is_met expected.WholeOrAbsent o ≡ is_some (number_or_none o)
 met_whole_or None = refl
 met_whole_or (Some d) =
     ap (λ (n : Option ℕ). is_some n) (and_then_is as_u64 (as_number d)) ∙ sym (some_map (λ (n : ℕ). Some n) (as_number d >>= as_u64))
 
-pub met_flag : (o : Option Data) → is_met want.FlagOrAbsent o ≡ is_some (flag_or_false o)
+pub met_flag : (o : Option Data) → is_met expected.FlagOrAbsent o ≡ is_some (flag_or_false o)
 met_flag None = refl
 met_flag (Some d) = refl
 
@@ -52,7 +52,7 @@ word_text : (text : Option (List ℕ)) → (option_map_or (λ t. bytes_eq t (cod
 word_text None = refl
 word_text (Some t) = two_words (bytes_eq t (codes "continue")) (bytes_eq t (codes "fail"))
 
-pub met_on_failure : (o : Option Data) → is_met want.OnFailure o ≡ is_some (may_fail_or_not o)
+pub met_on_failure : (o : Option Data) → is_met expected.OnFailure o ≡ is_some (may_fail_or_not o)
 met_on_failure None = refl
 met_on_failure (Some d) = word_text (as_str d)
 
@@ -61,7 +61,7 @@ severity_text : (text : Option (List ℕ))
 severity_text None = refl
 severity_text (Some t) = two_words (bytes_eq t (codes "warning")) (bytes_eq t (codes "error"))
 
-pub met_severity : (o : Option Data) → is_met want.Severity o ≡ is_some (only_warns_or_not o)
+pub met_severity : (o : Option Data) → is_met expected.Severity o ≡ is_some (only_warns_or_not o)
 met_severity None = refl
 met_severity (Some d) = severity_text (as_str d)
 
@@ -70,7 +70,7 @@ some_byte None = refl
 some_byte (Some []) = refl
 some_byte (Some (byte ∷ bytes)) = refl
 
-pub met_non_empty : (o : Option Data) → is_met want.NonEmptyText o ≡ is_some (o >>= as_str >>= unless_empty)
+pub met_non_empty : (o : Option Data) → is_met expected.NonEmptyText o ≡ is_some (o >>= as_str >>= unless_empty)
 met_non_empty None = refl
 met_non_empty (Some d) = some_byte (as_str d)
 
@@ -83,7 +83,7 @@ needs_object n (string s) b none = sym (none refl)
 needs_object n (array ds) b none = sym (none refl)
 needs_object n (object ms) b none = refl
 
--- the same, where something is read of the member
+-- the same, if the member is read
 pub is_object : {A : Type 0} (n : List ℕ) (f : Data → Option A) (d : Data) (x : A) → (member_of n d >>= f) ≡ Some x → is_some (as_object d) ≡ true
 is_object {A} n f d x e =
     let there : Bool = is_some (member_of n d >>= f) in
@@ -126,7 +126,7 @@ in_array part fits (object ms) = refl
 
 -- each item is something that fits
 pub each_fits : {A : Type 0} (part : Data → Option A) (fits : A → Bool) (o : Option Data)
-    → (is_met want.ArrayOrAbsent o && is_absent_or (all_items (λ e. option_map_or fits (part e) false)) o)
+    → (is_met expected.ArrayOrAbsent o && is_absent_or (all_items (λ e. option_map_or fits (part e) false)) o)
     ≡ option_map_or (list_all fits) (each_of part o) false
 each_fits part fits None = refl
 each_fits part fits (Some d) = in_array part fits d
@@ -142,13 +142,13 @@ in_array_some part (object ms) = refl
 
 -- each item is something
 pub each_is : {A : Type 0} (part : Data → Option A) (o : Option Data)
-    → (is_met want.ArrayOrAbsent o && is_absent_or (all_items (λ e. is_some (part e))) o) ≡ is_some (each_of part o)
+    → (is_met expected.ArrayOrAbsent o && is_absent_or (all_items (λ e. is_some (part e))) o) ≡ is_some (each_of part o)
 each_is part None = refl
 each_is part (Some d) = in_array_some part d
 
--- the same of an array that has to be there
+-- the same for an array that has to be there
 pub each_fits_there : {A : Type 0} (part : Data → Option A) (fits : A → Bool) (o : Option Data)
-    → (is_met want.Array o && is_absent_or (all_items (λ e. option_map_or fits (part e) false)) o)
+    → (is_met expected.Array o && is_absent_or (all_items (λ e. option_map_or fits (part e) false)) o)
     ≡ option_map_or (list_all fits) (o >>= as_array >>= λ items. all_some (map part (list_of items))) false
 each_fits_there part fits None = refl
 each_fits_there part fits (Some d) = in_array part fits d

@@ -1,5 +1,5 @@
 pub mod Laws
 pub mod Paths
 pub mod Reading
-pub mod Unread
-pub mod UnreadInForm
+pub mod IgnoredMembers
+pub mod IgnoredInForm

@@ -1,4 +1,4 @@
--- What is left of a script without the members of which `validate` warns, and which members count.
+-- A script without the members that `validate` warns of, and which members count.
 use Rattle.std.specs.Prelude.{◌≢◌, ℕ, List, codes, if◌then◌else◌, Option, Some, None}
 use Rattle.std.specs.Str.{bytes_eq}
 use Rattle.serde_json.specs.Data.{Data, object, Members, put}
@@ -6,9 +6,10 @@ use Rattle.apply_json_tree.specs.Trimmed.{Selection, trimmed}
 use Rattle.input_validate.specs.declared.findings.name.Name.{Name}
 use Rattle.input_validate.specs.Names.{name_text}
 use Rattle.input_validate.specs.ScriptFindings.{diagnostic_names, entry_names, failure_names, output_names, provisioner_names, script_names, step_names, wait_names}
-use Rattle.input_validate.specs.Walks.{is_known}
+use Rattle.input_validate.specs.Rules.{is_known}
 
--- what a value of a script is by where it stands: an object of which some members are read, an array of such ones, or anything else
+-- the kind of a value of a script, by its place: an object with known members, an array of such
+-- objects, or anything else
 pub data Kind : Type 0 where
   Script : Kind
   Entries : Kind
@@ -25,7 +26,7 @@ pub data Kind : Type 0 where
   Wait : Kind
   Other : Kind
 
--- a member, where its name is one of these
+-- the kind of a member, if its name is one of these
 abbrev pub among : List Name → (List ℕ → Kind) → List ℕ → Option Kind
 among names inside text = if is_known names text then Some (inside text) else None
 
@@ -74,10 +75,10 @@ kind_of_item _ = Other
 abbrev pub reading : Selection Kind
 reading = record { member_shape = kind_of_member; item_shape = kind_of_item; item_limit = λ kind. None }
 
--- a script without the members that have no known name
+-- a script without the members that have unknown names
 abbrev pub without_unknown : Data → Data
 without_unknown script = trimmed reading Script script
 
--- what is read of some object is another thing with a member of that name
+-- there are an object and a value of this member, with which another thing is read than without
 abbrev pub Counts : {A : Type 0} → (Data → Option A) → Name → Type 0
 Counts read name = (others : Members) × (value : Data) × (read (object (put (name_text name) value others)) ≢ read (object others))

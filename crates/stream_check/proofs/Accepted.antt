@@ -7,8 +7,8 @@ use Rattle.stream_check.specs.declared.rules.fault.Fault.TheVariants.{NoApply, N
 use Rattle.stream_check.specs.declared.rules.mode.Mode.{Mode}
 use Rattle.stream_check.specs.declared.verdict.finding.Finding.{Finding}
 use Rattle.stream_check.specs.declared.verdict.whole.Whole.{Whole}
-use Rattle.stream_check.specs.Laws.{IsWhole, Say}
-use Rattle.stream_check.specs.Lines.{at_line, end_of, is_plan_stream, line_message, next, read_line, verdict_behind, verdict_of, whole_of, whole_plan_of}
+use Rattle.stream_check.specs.Laws.{IsWhole, StateMessages}
+use Rattle.stream_check.specs.Lines.{at_line, end_of, is_plan_stream, line_message, next, read_line, verdict_after, verdict_of, whole_of, whole_plan_of}
 use Rattle.stream_check.specs.Message.{Message}
 use Rattle.stream_check.specs.Open.{any_open}
 use Rattle.stream_check.specs.Tally.{completed_totals, is_error, is_summary, planned_totals}
@@ -25,16 +25,16 @@ found_ok : {A B : Type 0} (r : Result A Finding) (f : A → Result B Finding) (y
 found_ok (Ok x) f y e = (x, refl, e)
 found_ok (Err d) f y e = absurd cc
 
--- what stands behind an accepted stream
-accepted : (mode : Mode) (texts : List (List ℕ)) (earlier : List Message) (t : Whole) → Fit earlier → verdict_behind mode earlier texts ≡ Ok t → (messages : List Message) × Say mode.find earlier messages texts × Fit messages × (end_of mode messages ≡ Ok t)
-unfolding verdict_behind read_line
+-- what an accepted stream consists of
+accepted : (mode : Mode) (texts : List (List ℕ)) (earlier : List Message) (t : Whole) → Fit earlier → verdict_after mode earlier texts ≡ Ok t → (messages : List Message) × StateMessages mode.find earlier messages texts × Fit messages × (end_of mode messages ≡ Ok t)
+unfolding verdict_after read_line
 accepted mode [] earlier t fit e = (earlier, refl, fit, at_line_ok mode earlier (length earlier) (end_of mode earlier) t e)
 accepted mode (text ∷ texts) earlier t fit e =
-    let line = found_ok (at_line mode earlier (length earlier + 1) (read_line mode.find earlier text)) (λ messages. verdict_behind mode messages texts) t e in
+    let line = found_ok (at_line mode earlier (length earlier + 1) (read_line mode.find earlier text)) (λ messages. verdict_after mode messages texts) t e in
     let read = at_line_ok mode earlier (length earlier + 1) (read_line mode.find earlier text) line.0 line.1 in
     let one = bind_ok (line_message mode.find text) (next earlier) line.0 read in
     let same = one_next earlier one.0 line.0 one.2 in
-    let rest : verdict_behind mode (one.0 ∷ earlier) texts ≡ Ok t = ap (λ (ms : List Message). verdict_behind mode ms texts) same ∙ line.2 in
+    let rest : verdict_after mode (one.0 ∷ earlier) texts ≡ Ok t = ap (λ (ms : List Message). verdict_after mode ms texts) same ∙ line.2 in
     let others = accepted mode texts (one.0 ∷ earlier) t (fit, (line.0, one.2)) rest in
     (others.0, (one.0, one.1, others.1), others.2, others.3)
 
@@ -46,7 +46,7 @@ record Ends (mode : Mode) (ms : List Message) (t : Whole) : Type 0 where
   pub closed : any_open ms ≡ false
   pub plan : t.is_plan ≡ true → (t.totals ≡ planned_totals ms) × (mode.plan ≡ true)
   pub apply : t.is_plan ≡ false → (t.totals ≡ completed_totals ms) × ((list_any is_summary ms || list_any is_error ms) ≡ true)
-  pub told : t.has_errors ≡ list_any is_error ms
+  pub errors : t.has_errors ≡ list_any is_error ms
 
 and_left : (a b : Bool) → (a && b) ≡ true → a ≡ true
 and_left true b e = refl
@@ -57,7 +57,7 @@ as_plan mode ms t closed asked is = subst (Ends mode ms) is (record {
   closed = closed;
   plan = λ yes. (refl, asked);
   apply = λ no. absurd cc;
-  told = refl;
+  errors = refl;
 })
 
 as_apply : (mode : Mode) (ms : List Message) (t : Whole) → any_open ms ≡ false → (list_any is_summary ms || list_any is_error ms) ≡ true → whole_of mode ms ≡ t → Ends mode ms t
@@ -65,7 +65,7 @@ as_apply mode ms t closed last is = subst (Ends mode ms) is (record {
   closed = closed;
   plan = λ yes. absurd cc;
   apply = λ no. (refl, last);
-  told = refl;
+  errors = refl;
 })
 
 same_whole : (x t : Whole) → all_of x ≡ Ok t → x ≡ t
@@ -98,7 +98,7 @@ is_whole mode texts t e =
         completed = λ no. (last.apply no).0;
         planned = λ yes. (last.plan yes).0;
         summed = all_sum_up all.0 all.2;
-        told = last.told;
+        errors = last.errors;
         closed = λ no. (last.apply no).1;
         asked = λ yes. (last.plan yes).1;
       },
@@ -109,7 +109,7 @@ or_left true b e none = refl
 or_left false b e none = absurd cc
 
 -- without an error there is a summary
-pub is_summed : (mode : Mode) (texts : List (List ℕ)) (t : Whole) → verdict_of mode texts ≡ Ok t → t.has_errors ≡ false → t.is_plan ≡ false → (messages : List Message) × Say mode.find [] messages texts × (list_any is_summary messages ≡ true)
+pub is_summed : (mode : Mode) (texts : List (List ℕ)) (t : Whole) → verdict_of mode texts ≡ Ok t → t.has_errors ≡ false → t.is_plan ≡ false → (messages : List Message) × StateMessages mode.find [] messages texts × (list_any is_summary messages ≡ true)
 is_summed mode texts t e none no_plan =
     let found = is_whole mode texts t e in
-    (found.0, found.1.lines, or_left (list_any is_summary found.0) (list_any is_error found.0) (found.1.closed no_plan) (sym found.1.told ∙ none))
+    (found.0, found.1.lines, or_left (list_any is_summary found.0) (list_any is_error found.0) (found.1.closed no_plan) (sym found.1.errors ∙ none))

@@ -4,7 +4,7 @@ use Rattle.stream_check.specs.declared.messages.action.Action.{Action}
 use Rattle.stream_check.specs.declared.messages.action.Action.TheVariants.{Create, Update, Delete, Read, Refresh}
 use Rattle.stream_check.specs.Words.{same_action}
 
--- one test tells each action
+-- one test distinguishes the actions
 pub same_is : (k l : Action) → same_action k l ≡ true → k ≡ l
 same_is Create Create e = refl
 same_is Create Update e = absurd cc

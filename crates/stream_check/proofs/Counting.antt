@@ -1,4 +1,4 @@
--- The counts of messages, one more behind those that were counted.
+-- The counts of messages, after one more message.
 use Rattle.std.proofs.Common.{◌≡◌, ℕ, ◌+◌, ◌-◌, List, [], ◌∷◌, length, Bool, true, false, cond, Option, Some, None, refl, sym, ap, ◌∙◌, arith}
 use Rattle.std.specs.Prelude.{◌||◌, count_by, is_some}
 use Rattle.std.specs.List.{list_any}
@@ -8,17 +8,17 @@ use Rattle.stream_check.specs.declared.messages.action.Action.TheVariants.{Creat
 use Rattle.stream_check.specs.declared.messages.intent.Intent.{Intent}
 use Rattle.stream_check.specs.declared.messages.intent.Intent.TheVariants as intent
 use Rattle.stream_check.specs.declared.messages.intent.Intent.TheVariants.{Nothing}
-use Rattle.stream_check.specs.declared.messages.stage.Stage.{Stage}
+use Rattle.stream_check.specs.declared.messages.timed_stage.Stage.{Stage}
 use Rattle.stream_check.specs.declared.messages.timed_stage.TimedStage.{TimedStage}
 use Rattle.stream_check.specs.declared.messages.timed_stage.TimedStage.TheVariants.{Start, Progress, Complete, Errored}
 use Rattle.stream_check.specs.declared.messages.totals.Totals.{Totals}
 use Rattle.stream_check.specs.declared.rules.tally.Tally.{Tally}
-use Rattle.stream_check.specs.Counted.{begun_counted, counted, failures_counted, foretold}
+use Rattle.stream_check.specs.Counted.{begun_counted, counted, failures_counted, planned_counted}
 use Rattle.stream_check.specs.Intents.{creates, deletes, intent_of, updates}
 use Rattle.stream_check.specs.Message.{Message, version, step, provision, planned, plan_summary, summary, diagnostic, outputs, other, foreign}
-use Rattle.stream_check.specs.Standing.{standing_of}
+use Rattle.stream_check.specs.AddressState.{state_of}
 use Rattle.stream_check.specs.Tallied.{tally_of, with_error, with_error_at, with_foreign, with_line, with_outputs, with_plan_summary, with_planned, with_step, with_summary, with_version}
-use Rattle.stream_check.specs.Tally.{begins, begun_totals, completed_totals, completes, failure_count, failures_left, is_error_alone, is_foreign, line_of, planned_totals, plans_create, plans_delete, plans_update}
+use Rattle.stream_check.specs.Tally.{begins, begun_totals, completed_totals, completes, failure_count, failures_left, is_error_without_address, is_foreign, line_of, planned_totals, plans_create, plans_delete, plans_update}
 
 -- ---- totals
 
@@ -43,11 +43,11 @@ same p m ms e =
     let none : cond (p m) 1 0 ≡ 0 = rw e refl in
     none_on (count_by p ms) ∙ ap (λ (n : ℕ). n + count_by p ms) (sym none) ∙ sym (sum_by-cons (λ x. cond (p x) 1 0) m ms)
 
--- a message that tells of no completion
+-- a message that reports no completion
 pub uncounted : (m : Message) (ms : List Message) → completes Create m ≡ false → completes Update m ≡ false → completes Delete m ≡ false → completed_totals ms ≡ completed_totals (m ∷ ms)
 uncounted m ms c u d = same_counts (same _ m ms c) (same _ m ms u) (same _ m ms d)
 
--- a message that tells of no start
+-- a message that reports no start
 unbegun : (m : Message) (ms : List Message) → begins Create m ≡ false → begins Update m ≡ false → begins Delete m ≡ false → begun_totals ms ≡ begun_totals (m ∷ ms)
 unbegun m ms c u d = same_counts (same _ m ms c) (same _ m ms u) (same _ m ms d)
 
@@ -75,7 +75,7 @@ begun_is a Refresh Start ms = unbegun (step a Refresh Start) ms refl refl refl
 unplanned : (m : Message) (ms : List Message) → intent_of m ≡ Nothing → planned_totals ms ≡ planned_totals (m ∷ ms)
 unplanned m ms e = same_counts (same plans_create m ms (ap creates e)) (same plans_update m ms (ap updates e)) (same plans_delete m ms (ap deletes e))
 
-foretold_is : (i : Intent) (ms : List Message) → foretold i (planned_totals ms) ≡ planned_totals (planned i ∷ ms)
+foretold_is : (i : Intent) (ms : List Message) → planned_counted i (planned_totals ms) ≡ planned_totals (planned i ∷ ms)
 foretold_is intent.Create ms = let m = planned intent.Create in same_counts (more plans_create m ms refl) (same plans_update m ms refl) (same plans_delete m ms refl)
 foretold_is intent.Update ms = let m = planned intent.Update in same_counts (same plans_create m ms refl) (more plans_update m ms refl) (same plans_delete m ms refl)
 foretold_is intent.Delete ms = let m = planned intent.Delete in same_counts (same plans_create m ms refl) (same plans_update m ms refl) (more plans_delete m ms refl)
@@ -91,7 +91,7 @@ failures_after_step a k (Progress seconds) ms = refl
 failures_after_step a k (Complete seconds) ms = refl
 failures_after_step a k (Errored seconds) ms = refl
 
-failures_after_error : (a : List ℕ) (ms : List Message) → (let n : ℕ = failures_left ms in n - failure_count (standing_of a ms).failures) ≡ failures_left (diagnostic true (Some a) ∷ ms)
+failures_after_error : (a : List ℕ) (ms : List Message) → (let n : ℕ = failures_left ms in n - failure_count (state_of a ms).failures) ≡ failures_left (diagnostic true (Some a) ∷ ms)
 unfolding failures_left
 failures_after_error a ms = refl
 
@@ -99,8 +99,8 @@ failures_after_error a ms = refl
 
 same_tally : {a a' : ℕ} {b b' c c' d d' : Totals} {e e' : Bool} {f f' g g' h h' : Option ℕ} {i i' j j' : Bool} {k k' l l' n n' : ℕ}
     → a ≡ a' → b ≡ b' → c ≡ c' → d ≡ d' → e ≡ e' → f ≡ f' → g ≡ g' → h ≡ h' → i ≡ i' → j ≡ j' → k ≡ k' → l ≡ l' → n ≡ n'
-    → (let one : Tally = record { lines = a; completed = b; begun = c; planned = d; has_plan = e; version = f; plan_summary = g; summary = h; awaits_outputs = i; has_failed = j; errors_alone = k; failures = l; foreign = n } in one)
-    ≡ (let other : Tally = record { lines = a'; completed = b'; begun = c'; planned = d'; has_plan = e'; version = f'; plan_summary = g'; summary = h'; awaits_outputs = i'; has_failed = j'; errors_alone = k'; failures = l'; foreign = n' } in other)
+    → (let one : Tally = record { lines = a; completed = b; begun = c; planned = d; has_plan = e; version = f; plan_summary = g; summary = h; awaits_outputs = i; has_failed = j; errors_without_address = k; failures = l; foreign = n } in one)
+    ≡ (let other : Tally = record { lines = a'; completed = b'; begun = c'; planned = d'; has_plan = e'; version = f'; plan_summary = g'; summary = h'; awaits_outputs = i'; has_failed = j'; errors_without_address = k'; failures = l'; foreign = n' } in other)
 same_tally p q r s t u v w x y z aa bb = cc
 
 one_line : (m : Message) (ms : List Message) → length ms + 1 ≡ length (m ∷ ms)
@@ -110,7 +110,7 @@ pub step_tallied : (a : List ℕ) (k : Action) (stage : TimedStage) (ms : List M
 step_tallied a k stage ms =
     let m = step a k stage in
     same_tally (one_line m ms) (counted_is a k stage ms) (begun_is a k stage ms) (unplanned m ms refl) refl refl refl refl refl refl
-    (same is_error_alone m ms refl) (failures_after_step a k stage ms) (same is_foreign m ms refl)
+    (same is_error_without_address m ms refl) (failures_after_step a k stage ms) (same is_foreign m ms refl)
 
 -- a message that changes no count but that of lines
 abbrev pub IsPlain : Message → List Message → Type 0
@@ -120,69 +120,69 @@ pub provision_tallied : (a : List ℕ) (stage : Stage) (ms : List Message) → I
 unfolding failures_left
 provision_tallied a stage ms =
     let m = provision a stage in
-    same_tally (one_line m ms) (uncounted m ms refl refl refl) (unbegun m ms refl refl refl) (unplanned m ms refl) refl refl refl refl refl refl (same is_error_alone m ms refl) refl (same is_foreign m ms refl)
+    same_tally (one_line m ms) (uncounted m ms refl refl refl) (unbegun m ms refl refl refl) (unplanned m ms refl) refl refl refl refl refl refl (same is_error_without_address m ms refl) refl (same is_foreign m ms refl)
 
 pub other_tallied : (ms : List Message) → IsPlain other ms
 unfolding failures_left
 other_tallied ms =
     let m = other in
-    same_tally (one_line m ms) (uncounted m ms refl refl refl) (unbegun m ms refl refl refl) (unplanned m ms refl) refl refl refl refl refl refl (same is_error_alone m ms refl) refl (same is_foreign m ms refl)
+    same_tally (one_line m ms) (uncounted m ms refl refl refl) (unbegun m ms refl refl refl) (unplanned m ms refl) refl refl refl refl refl refl (same is_error_without_address m ms refl) refl (same is_foreign m ms refl)
 
 pub warning_tallied : (o : Option (List ℕ)) (ms : List Message) → IsPlain (diagnostic false o) ms
 unfolding failures_left
 warning_tallied None ms =
     let m = diagnostic false None in
-    same_tally (one_line m ms) (uncounted m ms refl refl refl) (unbegun m ms refl refl refl) (unplanned m ms refl) refl refl refl refl refl refl (same is_error_alone m ms refl) refl (same is_foreign m ms refl)
+    same_tally (one_line m ms) (uncounted m ms refl refl refl) (unbegun m ms refl refl refl) (unplanned m ms refl) refl refl refl refl refl refl (same is_error_without_address m ms refl) refl (same is_foreign m ms refl)
 warning_tallied (Some a) ms =
     let m = diagnostic false (Some a) in
-    same_tally (one_line m ms) (uncounted m ms refl refl refl) (unbegun m ms refl refl refl) (unplanned m ms refl) refl refl refl refl refl refl (same is_error_alone m ms refl) refl (same is_foreign m ms refl)
+    same_tally (one_line m ms) (uncounted m ms refl refl refl) (unbegun m ms refl refl refl) (unplanned m ms refl) refl refl refl refl refl refl (same is_error_without_address m ms refl) refl (same is_foreign m ms refl)
 
 pub version_tallied : (ms : List Message) → with_version (tally_of ms) ≡ tally_of (version ∷ ms)
 unfolding failures_left
 version_tallied ms =
     let m = version in
-    same_tally (one_line m ms) (uncounted m ms refl refl refl) (unbegun m ms refl refl refl) (unplanned m ms refl) refl refl refl refl refl refl (same is_error_alone m ms refl) refl (same is_foreign m ms refl)
+    same_tally (one_line m ms) (uncounted m ms refl refl refl) (unbegun m ms refl refl refl) (unplanned m ms refl) refl refl refl refl refl refl (same is_error_without_address m ms refl) refl (same is_foreign m ms refl)
 
 pub foreign_tallied : (ms : List Message) → with_foreign (tally_of ms) ≡ tally_of (foreign ∷ ms)
 unfolding failures_left
 foreign_tallied ms =
     let m = foreign in
-    same_tally (one_line m ms) (uncounted m ms refl refl refl) (unbegun m ms refl refl refl) (unplanned m ms refl) refl refl refl refl refl refl (same is_error_alone m ms refl) refl (more is_foreign m ms refl)
+    same_tally (one_line m ms) (uncounted m ms refl refl refl) (unbegun m ms refl refl refl) (unplanned m ms refl) refl refl refl refl refl refl (same is_error_without_address m ms refl) refl (more is_foreign m ms refl)
 
 pub planned_tallied : (i : Intent) (ms : List Message) → with_planned i (tally_of ms) ≡ tally_of (planned i ∷ ms)
 unfolding failures_left
 planned_tallied i ms =
     let m = planned i in
-    same_tally (one_line m ms) (uncounted m ms refl refl refl) (unbegun m ms refl refl refl) (foretold_is i ms) refl refl refl refl refl refl (same is_error_alone m ms refl) refl (same is_foreign m ms refl)
+    same_tally (one_line m ms) (uncounted m ms refl refl refl) (unbegun m ms refl refl refl) (foretold_is i ms) refl refl refl refl refl refl (same is_error_without_address m ms refl) refl (same is_foreign m ms refl)
 
 pub plan_summary_tallied : (t : Totals) (ms : List Message) → with_plan_summary (tally_of ms) ≡ tally_of (plan_summary t ∷ ms)
 unfolding failures_left
 plan_summary_tallied t ms =
     let m = plan_summary t in
-    same_tally (one_line m ms) (uncounted m ms refl refl refl) (unbegun m ms refl refl refl) (unplanned m ms refl) refl refl refl refl refl refl (same is_error_alone m ms refl) refl (same is_foreign m ms refl)
+    same_tally (one_line m ms) (uncounted m ms refl refl refl) (unbegun m ms refl refl refl) (unplanned m ms refl) refl refl refl refl refl refl (same is_error_without_address m ms refl) refl (same is_foreign m ms refl)
 
 pub summary_tallied : (t : Totals) (ms : List Message) → with_summary (tally_of ms) ≡ tally_of (summary t ∷ ms)
 unfolding failures_left
 summary_tallied t ms =
     let m = summary t in
-    same_tally (one_line m ms) (uncounted m ms refl refl refl) (unbegun m ms refl refl refl) (unplanned m ms refl) refl refl refl refl refl refl (same is_error_alone m ms refl) refl (same is_foreign m ms refl)
+    same_tally (one_line m ms) (uncounted m ms refl refl refl) (unbegun m ms refl refl refl) (unplanned m ms refl) refl refl refl refl refl refl (same is_error_without_address m ms refl) refl (same is_foreign m ms refl)
 
 pub outputs_tallied : (ms : List Message) → with_outputs (tally_of ms) ≡ tally_of (outputs ∷ ms)
 unfolding failures_left
 outputs_tallied ms =
     let m = outputs in
-    same_tally (one_line m ms) (uncounted m ms refl refl refl) (unbegun m ms refl refl refl) (unplanned m ms refl) refl refl refl refl refl refl (same is_error_alone m ms refl) refl (same is_foreign m ms refl)
+    same_tally (one_line m ms) (uncounted m ms refl refl refl) (unbegun m ms refl refl refl) (unplanned m ms refl) refl refl refl refl refl refl (same is_error_without_address m ms refl) refl (same is_foreign m ms refl)
 
 pub error_tallied : (ms : List Message) → with_error (tally_of ms) ≡ tally_of (diagnostic true None ∷ ms)
 unfolding failures_left
 error_tallied ms =
     let m = diagnostic true None in
-    same_tally (one_line m ms) (uncounted m ms refl refl refl) (unbegun m ms refl refl refl) (unplanned m ms refl) refl refl refl refl refl refl (more is_error_alone m ms refl) refl (same is_foreign m ms refl)
+    same_tally (one_line m ms) (uncounted m ms refl refl refl) (unbegun m ms refl refl refl) (unplanned m ms refl) refl refl refl refl refl refl (more is_error_without_address m ms refl) refl (same is_foreign m ms refl)
 
-pub error_at_tallied : (a : List ℕ) (ms : List Message) → with_error_at (failure_count (standing_of a ms).failures) (tally_of ms) ≡ tally_of (diagnostic true (Some a) ∷ ms)
+pub error_at_tallied : (a : List ℕ) (ms : List Message) → with_error_at (failure_count (state_of a ms).failures) (tally_of ms) ≡ tally_of (diagnostic true (Some a) ∷ ms)
 error_at_tallied a ms =
     let m = diagnostic true (Some a) in
-    same_tally (one_line m ms) (uncounted m ms refl refl refl) (unbegun m ms refl refl refl) (unplanned m ms refl) refl refl refl refl refl refl (same is_error_alone m ms refl) (failures_after_error a ms) (same is_foreign m ms refl)
+    same_tally (one_line m ms) (uncounted m ms refl refl refl) (unbegun m ms refl refl refl) (unplanned m ms refl) refl refl refl refl refl refl (same is_error_without_address m ms refl) (failures_after_error a ms) (same is_foreign m ms refl)
 
 -- ---- the line of a message
 

@@ -1,4 +1,4 @@
--- The objects that say verdicts have no number with a point.
+-- The objects that report verdicts have no number with a point.
 use Rattle.std.proofs.Common.{◌≡◌, ℕ, List, [], ◌∷◌, map, Bool, true, false, Option, Some, None, refl, Ordering, Less, Equal, Greater}
 use Rattle.std.specs.Prelude.{◌||◌, codes}
 use Rattle.std.specs.Cmp.Lexicographic.{slice_cmp}
@@ -8,7 +8,7 @@ use Rattle.serde_json.specs.View.{items_of}
 use Rattle.serde_json.specs.Written.{has_float, items_have_float, members_have_float}
 use Rattle.stream_check.specs.declared.command.object.Object.{Object}
 use Rattle.stream_check.specs.declared.command.object.Object.TheVariants as about
-use Rattle.stream_check.specs.declared.command.told.Told.{Told}
+use Rattle.stream_check.specs.declared.command.finding_report.FindingReport.{FindingReport}
 use Rattle.stream_check.specs.declared.messages.totals.Totals.{Totals}
 use Rattle.stream_check.specs.declared.rules.fault.Fault.{Fault}
 use Rattle.stream_check.specs.declared.rules.fault.Fault.TheVariants as fault
@@ -18,7 +18,7 @@ use Rattle.stream_check.specs.declared.verdict.whole.Whole.{Whole}
 use Rattle.stream_check.specs.Malformed.{path_text}
 use Rattle.stream_check.specs.Faults.{other_of, word_of}
 use Rattle.stream_check.specs.Objects.{totals_object, with_count, with_finding, with_front, with_plan, with_totals, with_whole}
-use Rattle.stream_check.specs.ToldObject.{entry_object, with_detail, with_object, with_told}
+use Rattle.stream_check.specs.ReportObject.{entry_object, with_detail, with_object, with_report}
 use Rattle.stream_check.specs.Unended.{kind_word}
 use Rattle.stream_check.specs.Words.{action_word}
 use Rattle.term_text.specs.Fronts.{front_of}
@@ -92,21 +92,21 @@ none_in_entries (entry ∷ entries) = neither (has_float (entry_object entry)) (
 none_in_front : {ms : Members} (text : List ℕ) (b : Bool) → Floatless ms → Floatless (with_front text b ms)
 none_in_front text b rest = one_put (codes "cut_off") (boolean b) refl (text_put (codes "text") (readable_text (front_of 80 text)) rest)
 
-none_in_both : {ms : Members} (says counted : Totals) → Floatless ms → Floatless (with_totals (codes "counted") counted (with_totals (codes "says") says ms))
-none_in_both says counted rest =
-    one_put (codes "counted") (totals_object counted) (none_in_totals counted) (one_put (codes "says") (totals_object says) (none_in_totals says) rest)
+none_in_both : {ms : Members} (stated counted : Totals) → Floatless ms → Floatless (with_totals (codes "counted") counted (with_totals (codes "says") stated ms))
+none_in_both stated counted rest =
+    one_put (codes "counted") (totals_object counted) (none_in_totals counted) (one_put (codes "says") (totals_object stated) (none_in_totals stated) rest)
 
-none_detailed : {ms : Members} (f : Fault) (told : Told) → Floatless ms → Floatless (with_detail f told ms)
-none_detailed fault.NotJson told rest = none_in_front told.text.now told.is_cut_off rest
-none_detailed fault.NoType told rest = none_in_front told.text.now told.is_cut_off rest
-none_detailed (fault.Malformed path lack) told rest = text_put (codes "member") (path_text path) rest
-none_detailed (fault.WrongTotals says counted) told rest = none_in_both says counted rest
-none_detailed (fault.WrongPlanTotals says counted) told rest = none_in_both says counted rest
-none_detailed fault.Unended told rest = one_put (codes "open") (array (items_of (map entry_object told.open.now))) (none_in_entries told.open.now) rest
-none_detailed _ told rest = rest
+none_detailed : {ms : Members} (f : Fault) (report : FindingReport) → Floatless ms → Floatless (with_detail f report ms)
+none_detailed fault.NotJson report rest = none_in_front report.text.now report.is_cut_off rest
+none_detailed fault.NoType report rest = none_in_front report.text.now report.is_cut_off rest
+none_detailed (fault.Malformed path member_fault) report rest = text_put (codes "member") (path_text path) rest
+none_detailed (fault.WrongTotals stated counted) report rest = none_in_both stated counted rest
+none_detailed (fault.WrongPlanTotals stated counted) report rest = none_in_both stated counted rest
+none_detailed fault.Unended report rest = one_put (codes "open") (array (items_of (map entry_object report.open.now))) (none_in_entries report.open.now) rest
+none_detailed _ report rest = rest
 
-pub none_told : (told : Told) → has_float (object (with_told told no_members)) ≡ false
-none_told told = (none_detailed told.finding.fault told (none_about told.object (none_found told.finding))).free
+pub none_in_report : (report : FindingReport) → has_float (object (with_report report no_members)) ≡ false
+none_in_report report = (none_detailed report.finding.fault report (none_about report.object (none_found report.finding))).free
 
 plan_put : {ms : Members} (is_plan : Bool) → Floatless ms → Floatless (with_plan is_plan ms)
 plan_put true rest = one_put (codes "plan") (boolean true) refl rest

@@ -8,36 +8,36 @@ use Rattle.stream_check.specs.declared.rules.fault.Fault.{Fault}
 use Rattle.stream_check.specs.declared.rules.fault.Fault.TheVariants.{Memory, NoApply, NoEnd, TooLong, Unended}
 use Rattle.stream_check.specs.declared.rules.mode.Mode.{Mode}
 use Rattle.stream_check.specs.declared.verdict.finding.Finding.{Finding}
-use Rattle.stream_lines.specs.declared.line_end.LineEnd.{LineEnd}
-use Rattle.stream_lines.specs.declared.line_end.LineEnd.TheVariants as next
+use Rattle.stream_lines.specs.declared.line.LineEnd.{LineEnd}
+use Rattle.stream_lines.specs.declared.line.LineEnd.TheVariants as next
 use Rattle.stream_check.specs.declared.verdict.read_fault.ReadFault.{ReadFault}
 use Rattle.stream_check.specs.declared.verdict.read_fault.ReadFault.TheVariants as read
 use Rattle.stream_check.specs.declared.verdict.whole.Whole.{Whole}
 use Rattle.stream_check.specs.declared.rules.checker.Checker.{Checker}
-use Rattle.stream_check.specs.declared.command.told.Told.{Told}
+use Rattle.stream_check.specs.declared.command.finding_report.FindingReport.{FindingReport}
 use Rattle.stream_check.specs.About.{about_line, object_view}
 use Rattle.stream_check.specs.Checking.{HasRead}
-use Rattle.stream_lines.specs.Cut.{behind_lines, first_line, has_feed, cut_lines, feed_at, line_at}
-use Rattle.stream_check.specs.Faults.{is_no_json, tells_front, tells_line, tells_object}
-use Rattle.stream_check.specs.Judged.{judged, judged_behind, Stops, StopsAt}
-use Rattle.stream_check.specs.Lines.{at_line, end_of, is_plan_stream, passed_of, read_line, verdict_behind, verdict_of, whole_of, whole_plan_of}
+use Rattle.stream_lines.specs.Cut.{after_lines, first_line, has_feed, cut_lines, feed_at, line_at}
+use Rattle.stream_check.specs.Faults.{is_no_json, reports_front, reports_line, reports_object}
+use Rattle.stream_check.specs.Judged.{judged, judged_after, Stops, StopsAt}
+use Rattle.stream_check.specs.Lines.{at_line, end_of, is_plan_stream, passed_of, read_line, verdict_after, verdict_of, whole_of, whole_plan_of}
 use Rattle.stream_check.specs.Open.{any_open}
 use Rattle.stream_check.specs.Tally.{is_error, is_summary}
-use Rattle.stream_check.specs.Telling.{IsToldOf}
+use Rattle.stream_check.specs.Reports.{IsReportOf}
 use Rattle.stream_check.specs.Unended.{AreAllOpen}
 use Rattle.stream_check.specs.Message.{Message}
 use Rattle.stream_lines.specs.Reading.{Gives}
 use Rattle.stream_check.specs.Reading.{IsAnswer, IsFaultAt, IsNoAnswer}
 use Rattle.stream_check.proofs.Cut.{cut_first}
 use Rattle.stream_check.proofs.OneLine.{too_long}
-use Rattle.stream_check.proofs.WholeStream.{finding_at, goes_on, is_done, is_faulty, one_more}
+use Rattle.stream_check.proofs.WholeStream.{finding_at, goes_on, is_done, is_faulty, with_one}
 
--- behind the messages so far, what is left gives the verdict on all, and so many lines more
+-- after the messages so far, the rest gives the verdict on all, and that many more lines
 pub record LeadsTo (mode : Mode) (bytes rest : List ℕ) (messages : List Message) : Type 0 where
-  pub verdict : verdict_behind mode messages (cut_lines rest) ≡ verdict_of mode (cut_lines bytes)
+  pub verdict : verdict_after mode messages (cut_lines rest) ≡ verdict_of mode (cut_lines bytes)
   pub count : length (cut_lines bytes) ≡ length messages + length (cut_lines rest)
-  pub reached : judged_behind mode messages (cut_lines rest) ≡ judged mode (cut_lines bytes)
-  pub place : rest ≡ behind_lines (length messages) bytes
+  pub reached : judged_after mode messages (cut_lines rest) ≡ judged mode (cut_lines bytes)
+  pub place : rest ≡ after_lines (length messages) bytes
 
 abbrev pub Leads : Mode → (all left : Option (List ℕ)) → List Message → Type 0
 Leads mode all left messages = IfSome all (λ bytes. (rest : List ℕ) × (left ≡ Some rest) × LeadsTo mode bytes rest messages)
@@ -51,37 +51,37 @@ starts mode (Some bytes) = (bytes, refl, record { verdict = refl; count = omega 
 pub given : (left rest : Option (List ℕ)) (which : LineEnd) (line xs : List ℕ) → left ≡ Some xs → IfSome left (Gives which line rest) → Gives which line rest xs
 given left rest which line xs is gives = subst (λ (o : Option (List ℕ)). IfSome o (Gives which line rest)) is gives
 
--- the first line is at hand, and what is behind it
+-- the first line was read, and the rest comes after it
 pub record Ahead (mode : Mode) (messages : List Message) (bytes xs : List ℕ) : Type 0 where
-  pub verdict : verdict_behind mode messages (first_line xs ∷ cut_lines (drop_through 10 xs)) ≡ verdict_of mode (cut_lines bytes)
+  pub verdict : verdict_after mode messages (first_line xs ∷ cut_lines (drop_through 10 xs)) ≡ verdict_of mode (cut_lines bytes)
   pub count : length (cut_lines bytes) ≡ length messages + (length (cut_lines (drop_through 10 xs)) + 1)
-  pub reached : judged_behind mode messages (first_line xs ∷ cut_lines (drop_through 10 xs)) ≡ judged mode (cut_lines bytes)
+  pub reached : judged_after mode messages (first_line xs ∷ cut_lines (drop_through 10 xs)) ≡ judged mode (cut_lines bytes)
 
 ahead : (mode : Mode) (messages : List Message) (bytes xs : List ℕ) → xs ≢ [] → LeadsTo mode bytes xs messages → Ahead mode messages bytes xs
 ahead mode messages bytes [] some h = absurd (some refl)
 ahead mode messages bytes (x ∷ xs) some h =
     let cut = cut_first x xs in
     let counted : length (cut_lines (x ∷ xs)) ≡ length (cut_lines (drop_through 10 (x ∷ xs))) + 1 = ap length cut ∙ omega arith in
-    record { verdict = ap (verdict_behind mode messages) (sym cut) ∙ h.verdict; count = h.count ∙ ap (λ (n : ℕ). length messages + n) counted; reached = ap (judged_behind mode messages) (sym cut) ∙ h.reached }
+    record { verdict = ap (verdict_after mode messages) (sym cut) ∙ h.verdict; count = h.count ∙ ap (λ (n : ℕ). length messages + n) counted; reached = ap (judged_after mode messages) (sym cut) ∙ h.reached }
 
 -- ---- what was judged
 
-judged_on : (mode : Mode) (messages later : List Message) (text : List ℕ) (texts : List (List ℕ)) (all : List Message) → read_line mode.find messages text ≡ Ok later → judged_behind mode messages (text ∷ texts) ≡ all → judged_behind mode later texts ≡ all
-unfolding judged_behind
+judged_on : (mode : Mode) (messages later : List Message) (text : List ℕ) (texts : List (List ℕ)) (all : List Message) → read_line mode.find messages text ≡ Ok later → judged_after mode messages (text ∷ texts) ≡ all → judged_after mode later texts ≡ all
+unfolding judged_after
 judged_on mode messages later text texts all e is = rw e at is
 
-judged_here : (mode : Mode) (messages : List Message) (text : List ℕ) (texts : List (List ℕ)) (fault : Fault) (all : List Message) → read_line mode.find messages text ≡ Err fault → judged_behind mode messages (text ∷ texts) ≡ all → messages ≡ all
-unfolding judged_behind
+judged_here : (mode : Mode) (messages : List Message) (text : List ℕ) (texts : List (List ℕ)) (fault : Fault) (all : List Message) → read_line mode.find messages text ≡ Err fault → judged_after mode messages (text ∷ texts) ≡ all → messages ≡ all
+unfolding judged_after
 judged_here mode messages text texts fault all e is = rw e at is
 
-judged_all : (mode : Mode) (messages all : List Message) → judged_behind mode messages [] ≡ all → messages ≡ all
-unfolding judged_behind
+judged_all : (mode : Mode) (messages all : List Message) → judged_after mode messages [] ≡ all → messages ≡ all
+unfolding judged_after
 judged_all mode messages all is = is
 
 -- one line further
-further : (messages later : List Message) (bytes rest : List ℕ) → length later ≡ length messages + 1 → rest ≡ behind_lines (length messages) bytes → drop_through 10 rest ≡ behind_lines (length later) bytes
+further : (messages later : List Message) (bytes rest : List ℕ) → length later ≡ length messages + 1 → rest ≡ after_lines (length messages) bytes → drop_through 10 rest ≡ after_lines (length later) bytes
 further messages later bytes rest longer place =
-    ap (drop_through 10) place ∙ ap (λ (n : ℕ). behind_lines n bytes) (let e : suc (length messages) ≡ length later = omega arith in e)
+    ap (drop_through 10) place ∙ ap (λ (n : ℕ). after_lines n bytes) (let e : suc (length messages) ≡ length later = omega arith in e)
 
 -- ---- one line after another
 
@@ -91,16 +91,16 @@ leads_on mode None left rest messages later line feed h gives e = tt
 leads_on mode (Some bytes) left rest messages later line feed h gives e =
     let n = given left rest (next.Line feed) line h.0 h.1 gives in
     let at = ahead mode messages bytes h.0 n.0 h.2 in
-    let more = one_more mode.find messages line later e in
+    let more = with_one mode.find messages line later e in
     let before = at.count in
-    let first : verdict_behind mode messages (line ∷ cut_lines (drop_through 10 h.0)) ≡ verdict_of mode (cut_lines bytes) =
-    ap (λ (l : List ℕ). verdict_behind mode messages (l ∷ cut_lines (drop_through 10 h.0))) n.1 ∙ at.verdict in (
+    let first : verdict_after mode messages (line ∷ cut_lines (drop_through 10 h.0)) ≡ verdict_of mode (cut_lines bytes) =
+    ap (λ (l : List ℕ). verdict_after mode messages (l ∷ cut_lines (drop_through 10 h.0))) n.1 ∙ at.verdict in (
       drop_through 10 h.0,
       n.2,
       record {
         verdict = goes_on mode messages later line (cut_lines (drop_through 10 h.0)) (verdict_of mode (cut_lines bytes)) e first;
         count = omega arith;
-        reached = judged_on mode messages later line (cut_lines (drop_through 10 h.0)) (judged mode (cut_lines bytes)) e (ap (λ (l : List ℕ). judged_behind mode messages (l ∷ cut_lines (drop_through 10 h.0))) n.1 ∙ at.reached);
+        reached = judged_on mode messages later line (cut_lines (drop_through 10 h.0)) (judged mode (cut_lines bytes)) e (ap (λ (l : List ℕ). judged_after mode messages (l ∷ cut_lines (drop_through 10 h.0))) n.1 ∙ at.reached);
         place = further messages later bytes h.0 more h.2.place;
       },
     )
@@ -120,8 +120,8 @@ leads_wrong mode None left rest messages line feed fault r h gives e is = tt
 leads_wrong mode (Some bytes) left rest messages line feed fault r h gives e is =
     let k = given left rest (next.Line feed) line h.0 h.1 gives in
     let at = ahead mode messages bytes h.0 k.0 h.2 in
-    let first : verdict_behind mode messages (line ∷ cut_lines (drop_through 10 h.0)) ≡ verdict_of mode (cut_lines bytes) =
-    ap (λ (l : List ℕ). verdict_behind mode messages (l ∷ cut_lines (drop_through 10 h.0))) k.1 ∙ at.verdict in
+    let first : verdict_after mode messages (line ∷ cut_lines (drop_through 10 h.0)) ≡ verdict_of mode (cut_lines bytes) =
+    ap (λ (l : List ℕ). verdict_after mode messages (l ∷ cut_lines (drop_through 10 h.0))) k.1 ∙ at.verdict in
     faulty mode messages (cut_lines bytes) (length messages + 1) fault r is
     (λ memory. is_faulty mode messages line (cut_lines (drop_through 10 h.0)) (verdict_of mode (cut_lines bytes)) fault (e memory) first)
 
@@ -149,7 +149,7 @@ pub leads_out : (mode : Mode) (all left rest : Option (List ℕ)) (messages : Li
 leads_out mode None left rest messages line h gives = tt
 leads_out mode (Some bytes) left rest messages line h gives =
     let none = (given left rest next.End line h.0 h.1 gives).0 in
-    is_done mode messages (verdict_of mode (cut_lines bytes)) (ap (λ (xs : List ℕ). verdict_behind mode messages (cut_lines xs)) (sym none) ∙ h.2.verdict)
+    is_done mode messages (verdict_of mode (cut_lines bytes)) (ap (λ (xs : List ℕ). verdict_after mode messages (cut_lines xs)) (sym none) ∙ h.2.verdict)
 
 -- the end was reached
 pub at_end_of : (left rest : Option (List ℕ)) (line : List ℕ) → IfSome left (Gives next.End line rest) → OnSome left (IsAtEnd rest)
@@ -165,7 +165,7 @@ pub as_answer : (mode : Mode) (o : Option (List ℕ)) (v : Result Whole Finding)
 as_answer mode None v r h answer = tt
 as_answer mode (Some bytes) v r h answer = answer (cut_lines bytes) h
 
--- an answer that nothing is said of
+-- an answer without a verdict
 refused : (mode : Mode) (texts : List (List ℕ)) (r : ReadFault) → IsNoAnswer r → IsAnswer mode texts (Err r)
 refused mode texts (read.Found finding) none = absurd none
 refused mode texts read.TooMany none = absurd none
@@ -182,27 +182,27 @@ not_then : {T : Type 0} (b : Bool) (here there : T) → b ≡ false → b ≡ tr
 not_then b here there never yet = absurd cc
 
 -- the text of the line of that number
-here_is : (messages : List Message) (bytes rest line : List ℕ) → rest ≡ behind_lines (length messages) bytes → line ≡ first_line rest → line ≡ line_at (length messages + 1) bytes
+here_is : (messages : List Message) (bytes rest line : List ℕ) → rest ≡ after_lines (length messages) bytes → line ≡ first_line rest → line ≡ line_at (length messages + 1) bytes
 here_is messages bytes rest line place is =
-    is ∙ ap first_line place ∙ ap (λ (n : ℕ). first_line (behind_lines n bytes)) (let e : length messages ≡ length messages + 1 - 1 = omega arith in e)
+    is ∙ ap first_line place ∙ ap (λ (n : ℕ). first_line (after_lines n bytes)) (let e : length messages ≡ length messages + 1 - 1 = omega arith in e)
 
 -- and whether a line feed ends it
-feed_is : (messages : List Message) (bytes rest : List ℕ) (feed : Bool) → rest ≡ behind_lines (length messages) bytes → feed ≡ has_feed rest → feed ≡ feed_at (length messages + 1) bytes
+feed_is : (messages : List Message) (bytes rest : List ℕ) (feed : Bool) → rest ≡ after_lines (length messages) bytes → feed ≡ has_feed rest → feed ≡ feed_at (length messages + 1) bytes
 feed_is messages bytes rest feed place is =
-    is ∙ ap has_feed place ∙ ap (λ (n : ℕ). has_feed (behind_lines n bytes)) (let e : length messages ≡ length messages + 1 - 1 = omega arith in e)
+    is ∙ ap has_feed place ∙ ap (λ (n : ℕ). has_feed (after_lines n bytes)) (let e : length messages ≡ length messages + 1 - 1 = omega arith in e)
 
 -- at a finding of that fault
 stops_found : (mode : Mode) (bytes : List ℕ) (earlier : List Message) (checker : Checker) (line : List ℕ) (feed : Bool) (number : ℕ) (fault : Fault) (finding : Finding) → finding ≡ record { line = number; fault = fault; passed = passed_of mode earlier }
-    → HasRead checker (judged mode (cut_lines bytes)) → (tells_line fault ≡ true → line ≡ line_at number bytes) → (tells_line fault ≡ true → feed ≡ feed_at number bytes) → StopsAt mode bytes finding checker line feed
-stops_found mode bytes earlier checker line feed number fault finding is read told ends =
-    subst (λ (f : Finding). StopsAt mode bytes f checker line feed) (sym is) (record { has_read = read; is_line = told; is_feed = ends })
+    → HasRead checker (judged mode (cut_lines bytes)) → (reports_line fault ≡ true → line ≡ line_at number bytes) → (reports_line fault ≡ true → feed ≡ feed_at number bytes) → StopsAt mode bytes finding checker line feed
+stops_found mode bytes earlier checker line feed number fault finding is read report ends =
+    subst (λ (f : Finding). StopsAt mode bytes f checker line feed) (sym is) (record { has_read = read; is_line = report; is_feed = ends })
 
 stops_at : (mode : Mode) (bytes : List ℕ) (earlier : List Message) (checker : Checker) (line : List ℕ) (feed : Bool) (number : ℕ) (fault : Fault) (r : ReadFault) → IsFaultAt mode earlier number fault r
-    → (fault ≢ Memory → HasRead checker (judged mode (cut_lines bytes))) → (tells_line fault ≡ true → line ≡ line_at number bytes) → (tells_line fault ≡ true → feed ≡ feed_at number bytes) → Stops mode (Some bytes) checker line feed (Err r)
-stops_at mode bytes earlier checker line feed number fault (read.Found finding) is read told ends = stops_found mode bytes earlier checker line feed number fault finding is.1 (read is.0) told ends
-stops_at mode bytes earlier checker line feed number fault read.Memory is read told ends = tt
-stops_at mode bytes earlier checker line feed number fault read.TooMany is read told ends = tt
-stops_at mode bytes earlier checker line feed number fault (read.Unread n) is read told ends = tt
+    → (fault ≢ Memory → HasRead checker (judged mode (cut_lines bytes))) → (reports_line fault ≡ true → line ≡ line_at number bytes) → (reports_line fault ≡ true → feed ≡ feed_at number bytes) → Stops mode (Some bytes) checker line feed (Err r)
+stops_at mode bytes earlier checker line feed number fault (read.Found finding) is read report ends = stops_found mode bytes earlier checker line feed number fault finding is.1 (read is.0) report ends
+stops_at mode bytes earlier checker line feed number fault read.Memory is read report ends = tt
+stops_at mode bytes earlier checker line feed number fault read.TooMany is read report ends = tt
+stops_at mode bytes earlier checker line feed number fault (read.Unread n) is read report ends = tt
 
 -- nothing is known of the bytes
 stops_unseen : (mode : Mode) (checker : Checker) (line : List ℕ) (feed : Bool) (r : ReadFault) → Stops mode None checker line feed (Err r)
@@ -226,7 +226,7 @@ stops_wrong mode (Some bytes) left rest messages checker line feed fault r h giv
     let at = ahead mode messages bytes h.0 k.0 h.2 in
     stops_at mode bytes messages checker line feed (length messages + 1) fault r is
     (λ memory. subst (λ (ms : List Message). HasRead checker ms)
-    (judged_here mode messages line (cut_lines (drop_through 10 h.0)) fault (judged mode (cut_lines bytes)) (e memory) (ap (λ (l : List ℕ). judged_behind mode messages (l ∷ cut_lines (drop_through 10 h.0))) k.1 ∙ at.reached)) read)
+    (judged_here mode messages line (cut_lines (drop_through 10 h.0)) fault (judged mode (cut_lines bytes)) (e memory) (ap (λ (l : List ℕ). judged_after mode messages (l ∷ cut_lines (drop_through 10 h.0))) k.1 ∙ at.reached)) read)
     (λ tells. here_is messages bytes h.0 line h.2.place k.1)
     (λ tells. feed_is messages bytes h.0 feed h.2.place k.3)
 
@@ -240,8 +240,8 @@ stops_too_long mode (Some bytes) left rest messages checker line feed r h gives 
     stops_at mode bytes messages checker line feed (length messages + 1) TooLong r is
     (λ memory. subst (λ (ms : List Message). HasRead checker ms)
     (judged_here mode messages (first_line h.0) (cut_lines (drop_through 10 h.0)) TooLong (judged mode (cut_lines bytes)) (too_long mode.find (first_line h.0) messages k.1) at.reached) read)
-    (not_then (tells_line TooLong) line (line_at (length messages + 1) bytes) refl)
-    (not_then (tells_line TooLong) feed (feed_at (length messages + 1) bytes) refl)
+    (not_then (reports_line TooLong) line (line_at (length messages + 1) bytes) refl)
+    (not_then (reports_line TooLong) feed (feed_at (length messages + 1) bytes) refl)
 
 abbrev no_such : Fault → Result Whole Fault
 no_such fault = Err fault
@@ -249,25 +249,25 @@ no_such fault = Err fault
 fault_of : (a b : Fault) → no_such a ≡ Err b → a ≡ b
 fault_of a b e = cc
 
--- a fault of the end tells nothing of a line
-end_tells_none : (mode : Mode) (messages : List Message) (fault : Fault) → end_of mode messages ≡ Err fault → tells_line fault ≡ false
+-- a fault of the end reports nothing of a line
+end_tells_none : (mode : Mode) (messages : List Message) (fault : Fault) → end_of mode messages ≡ Err fault → reports_line fault ≡ false
 unfolding end_of
 end_tells_none mode messages fault e = by_open (any_open messages) e
   where
-    by_apply : (p : Bool) → cond p (no_such NoApply) (no_such NoEnd) ≡ Err fault → tells_line fault ≡ false
-    by_apply true e = ap tells_line (sym (fault_of NoApply fault e))
-    by_apply false e = ap tells_line (sym (fault_of NoEnd fault e))
+    by_apply : (p : Bool) → cond p (no_such NoApply) (no_such NoEnd) ≡ Err fault → reports_line fault ≡ false
+    by_apply true e = ap reports_line (sym (fault_of NoApply fault e))
+    by_apply false e = ap reports_line (sym (fault_of NoEnd fault e))
 
-    by_end : (b : Bool) → cond b (Ok (whole_of mode messages)) (cond (is_plan_stream messages) (no_such NoApply) (no_such NoEnd)) ≡ Err fault → tells_line fault ≡ false
+    by_end : (b : Bool) → cond b (Ok (whole_of mode messages)) (cond (is_plan_stream messages) (no_such NoApply) (no_such NoEnd)) ≡ Err fault → reports_line fault ≡ false
     by_end true e = absurd cc
     by_end false e = by_apply (is_plan_stream messages) e
 
-    by_plan : (b : Bool) → cond b (Ok (whole_plan_of mode messages)) (cond (list_any is_summary messages || list_any is_error messages) (Ok (whole_of mode messages)) (cond (is_plan_stream messages) (no_such NoApply) (no_such NoEnd))) ≡ Err fault → tells_line fault ≡ false
+    by_plan : (b : Bool) → cond b (Ok (whole_plan_of mode messages)) (cond (list_any is_summary messages || list_any is_error messages) (Ok (whole_of mode messages)) (cond (is_plan_stream messages) (no_such NoApply) (no_such NoEnd))) ≡ Err fault → reports_line fault ≡ false
     by_plan true e = absurd cc
     by_plan false e = by_end (list_any is_summary messages || list_any is_error messages) e
 
-    by_open : (b : Bool) → cond b (no_such Unended) (cond (mode.plan && is_plan_stream messages) (Ok (whole_plan_of mode messages)) (cond (list_any is_summary messages || list_any is_error messages) (Ok (whole_of mode messages)) (cond (is_plan_stream messages) (no_such NoApply) (no_such NoEnd)))) ≡ Err fault → tells_line fault ≡ false
-    by_open true e = ap tells_line (sym (fault_of Unended fault e))
+    by_open : (b : Bool) → cond b (no_such Unended) (cond (mode.plan && is_plan_stream messages) (Ok (whole_plan_of mode messages)) (cond (list_any is_summary messages || list_any is_error messages) (Ok (whole_of mode messages)) (cond (is_plan_stream messages) (no_such NoApply) (no_such NoEnd)))) ≡ Err fault → reports_line fault ≡ false
+    by_open true e = ap reports_line (sym (fault_of Unended fault e))
     by_open false e = by_plan (mode.plan && is_plan_stream messages) e
 
 -- at the end
@@ -278,9 +278,9 @@ stops_out mode (Some bytes) left rest messages checker line feed fault r h gives
     let none = (given left rest next.End line h.0 h.1 gives).0 in
     stops_at mode bytes messages checker line feed (length messages) fault r is
     (λ memory. subst (λ (ms : List Message). HasRead checker ms)
-    (judged_all mode messages (judged mode (cut_lines bytes)) (ap (λ (xs : List ℕ). judged_behind mode messages (cut_lines xs)) (sym none) ∙ h.2.reached)) read)
-    (not_then (tells_line fault) line (line_at (length messages) bytes) (end_tells_none mode messages fault e))
-    (not_then (tells_line fault) feed (feed_at (length messages) bytes) (end_tells_none mode messages fault e))
+    (judged_all mode messages (judged mode (cut_lines bytes)) (ap (λ (xs : List ℕ). judged_after mode messages (cut_lines xs)) (sym none) ∙ h.2.reached)) read)
+    (not_then (reports_line fault) line (line_at (length messages) bytes) (end_tells_none mode messages fault e))
+    (not_then (reports_line fault) feed (feed_at (length messages) bytes) (end_tells_none mode messages fault e))
 
 pub stops_ended : (mode : Mode) (all left rest : Option (List ℕ)) (messages : List Message) (checker : Checker) (line : List ℕ) (feed : Bool) (r : Result Whole ReadFault) → Leads mode all left messages → IfSome left (Gives next.End line rest)
     → HasRead checker messages → IfErr r (λ answer. (ms : List Message) → HasRead checker ms → (fault : Fault) × (end_of mode ms ≡ Err fault) × IsFaultAt mode ms (length ms) fault answer) → Stops mode all checker line feed r
@@ -289,19 +289,19 @@ stops_ended mode all left rest messages checker line feed (Err answer) h gives r
     let w = why messages read in
     stops_out mode all left rest messages checker line feed w.0 answer h gives read w.1 w.2
 
--- ---- what is told of it
+-- ---- the report
 
-front_is_line : (fault : Fault) → tells_front fault ≡ true → tells_line fault ≡ true
+front_is_line : (fault : Fault) → reports_front fault ≡ true → reports_line fault ≡ true
 front_is_line fault e = rw e refl
 
-object_is_line : (fault : Fault) → tells_object fault ≡ true → tells_line fault ≡ true
-object_is_line fault e = or_true (tells_front fault) (tells_object fault) e
+object_is_line : (fault : Fault) → reports_object fault ≡ true → reports_line fault ≡ true
+object_is_line fault e = or_true (reports_front fault) (reports_object fault) e
   where
     or_true : (a b : Bool) → b ≡ true → (a || b) ≡ true
     or_true true b is = refl
     or_true false b is = is
 
--- whether the line is cut off, as is told
+-- whether the line is cut off, as reported
 cut_same : (a b : Fault) (here there is : Bool) → a ≡ b → is ≡ (is_no_json b && not here) → here ≡ there → is ≡ (is_no_json a && not there)
 cut_same a b here there is same so feeds = so ∙ ap (λ (f : Fault). is_no_json f && not here) (sym same) ∙ ap (λ (feed : Bool). is_no_json a && not feed) feeds
 
@@ -309,32 +309,32 @@ about_same : (find b : Bool) (line there : List ℕ) → (b ≡ true → line �
 about_same find true line there same = ap (about_line find) (same refl)
 about_same find false line there same = refl
 
-pub told_there : (mode : Mode) (bytes : List ℕ) (finding : Finding) (checker : Checker) (line : List ℕ) (feed : Bool) (told : Told) → told.finding ≡ finding → told.text.now ≡ line
-    → told.is_cut_off ≡ (is_no_json finding.fault && not feed)
-    → option_map object_view told.object ≡ cond (tells_object finding.fault) (about_line mode.find line) None
-    → (finding.fault ≡ Unended → (messages : List Message) → HasRead checker messages → AreAllOpen messages told.«open».now)
-    → StopsAt mode bytes finding checker line feed → IsToldOf mode bytes told
-told_there mode bytes finding checker line feed told same text cut about open_there stops = record {
+pub report_holds : (mode : Mode) (bytes : List ℕ) (finding : Finding) (checker : Checker) (line : List ℕ) (feed : Bool) (report : FindingReport) → report.finding ≡ finding → report.text.now ≡ line
+    → report.is_cut_off ≡ (is_no_json finding.fault && not feed)
+    → option_map object_view report.object ≡ cond (reports_object finding.fault) (about_line mode.find line) None
+    → (finding.fault ≡ Unended → (messages : List Message) → HasRead checker messages → AreAllOpen messages report.«open».now)
+    → StopsAt mode bytes finding checker line feed → IsReportOf mode bytes report
+report_holds mode bytes finding checker line feed report same text cut about open_there stops = record {
   text = λ front. text ∙ stops.is_line (shown front) ∙ number;
   cut_off = λ front.
-      cut_same told.finding.fault finding.fault feed (feed_at told.finding.line bytes) told.is_cut_off (ap (λ (f : Finding). f.fault) same) cut
+      cut_same report.finding.fault finding.fault feed (feed_at report.finding.line bytes) report.is_cut_off (ap (λ (f : Finding). f.fault) same) cut
       (stops.is_feed (shown front) ∙ sym (ap (λ (f : Finding). feed_at f.line bytes) same));
   object = about
-      ∙ about_same mode.find (tells_object finding.fault) line (line_at finding.line bytes) (λ tells. stops.is_line (object_is_line finding.fault tells))
-      ∙ sym (ap (λ (f : Finding). cond (tells_object f.fault) (about_line mode.find (line_at f.line bytes)) None) same);
+      ∙ about_same mode.find (reports_object finding.fault) line (line_at finding.line bytes) (λ tells. stops.is_line (object_is_line finding.fault tells))
+      ∙ sym (ap (λ (f : Finding). cond (reports_object f.fault) (about_line mode.find (line_at f.line bytes)) None) same);
   «open» = λ is. open_there (sym (ap (λ (f : Finding). f.fault) same) ∙ is) (judged mode (cut_lines bytes)) stops.has_read;
 }
   where
-    number : line_at finding.line bytes ≡ line_at told.finding.line bytes
+    number : line_at finding.line bytes ≡ line_at report.finding.line bytes
     number = sym (ap (λ (f : Finding). line_at f.line bytes) same)
 
-    shown : tells_front told.finding.fault ≡ true → tells_line finding.fault ≡ true
-    shown front = front_is_line finding.fault (sym (ap (λ (f : Finding). tells_front f.fault) same) ∙ front)
+    shown : reports_front report.finding.fault ≡ true → reports_line finding.fault ≡ true
+    shown front = front_is_line finding.fault (sym (ap (λ (f : Finding). reports_front f.fault) same) ∙ front)
 
-pub told_if : (mode : Mode) (seen : Option (List ℕ)) (finding : Finding) (checker : Checker) (line : List ℕ) (feed : Bool) (told : Told) → told.finding ≡ finding → told.text.now ≡ line
-    → told.is_cut_off ≡ (is_no_json finding.fault && not feed)
-    → option_map object_view told.object ≡ cond (tells_object finding.fault) (about_line mode.find line) None
-    → (finding.fault ≡ Unended → (messages : List Message) → HasRead checker messages → AreAllOpen messages told.«open».now)
-    → IfSome seen (λ bytes. StopsAt mode bytes finding checker line feed) → IfSome seen (λ bytes. IsToldOf mode bytes told)
-told_if mode None finding checker line feed told same text cut about open_there stops = tt
-told_if mode (Some bytes) finding checker line feed told same text cut about open_there stops = told_there mode bytes finding checker line feed told same text cut about open_there stops
+pub report_holds_if_known : (mode : Mode) (seen : Option (List ℕ)) (finding : Finding) (checker : Checker) (line : List ℕ) (feed : Bool) (report : FindingReport) → report.finding ≡ finding → report.text.now ≡ line
+    → report.is_cut_off ≡ (is_no_json finding.fault && not feed)
+    → option_map object_view report.object ≡ cond (reports_object finding.fault) (about_line mode.find line) None
+    → (finding.fault ≡ Unended → (messages : List Message) → HasRead checker messages → AreAllOpen messages report.«open».now)
+    → IfSome seen (λ bytes. StopsAt mode bytes finding checker line feed) → IfSome seen (λ bytes. IsReportOf mode bytes report)
+report_holds_if_known mode None finding checker line feed report same text cut about open_there stops = tt
+report_holds_if_known mode (Some bytes) finding checker line feed report same text cut about open_there stops = report_holds mode bytes finding checker line feed report same text cut about open_there stops

@@ -7,14 +7,14 @@ use Rattle.stream_check.specs.declared.rules.checker.Checker.{Checker}
 use Rattle.stream_check.specs.declared.rules.fault.Fault.{Fault}
 use Rattle.stream_check.specs.declared.rules.fault.Fault.TheVariants.{NoApply, NoEnd, Unended}
 use Rattle.stream_check.specs.declared.rules.mode.Mode.{Mode}
-use Rattle.stream_check.specs.declared.rules.standing.Standing.{Standing}
+use Rattle.stream_check.specs.declared.rules.address_state.AddressState.{AddressState}
 use Rattle.stream_check.specs.declared.rules.tally.Tally.{Tally}
 use Rattle.stream_check.specs.declared.verdict.whole.Whole.{Whole}
 use Rattle.stream_check.specs.Checking.{HasRead}
 use Rattle.stream_check.specs.Lines.{end_of, is_plan_stream, whole_of, whole_plan_of}
 use Rattle.stream_check.specs.Message.{Message}
 use Rattle.stream_check.specs.Open.{any_open, is_open_at, stands_open}
-use Rattle.stream_check.specs.Standing.{idle, standing_of}
+use Rattle.stream_check.specs.AddressState.{idle, state_of}
 use Rattle.stream_check.specs.Tallied.{has_nothing_begun}
 use Rattle.stream_check.specs.Tally.{is_error, is_summary}
 use Rattle.stream_check.proofs.Continuing.{kept}
@@ -22,22 +22,22 @@ use Rattle.stream_check.proofs.Counting.{line_any}
 use Rattle.stream_check.proofs.OpenSteps.{is_any_open, not_any_open}
 
 -- what the checker finds at an address
-pub found_at : (checker : Checker) (messages : List Message) → HasRead checker messages → (a : List ℕ) → unwrap_or (get_by_text checker.pending.standings a) idle ≡ standing_of a messages
-found_at checker messages read a = ap (λ (o : Option Standing). unwrap_or o idle) (read.standing a) ∙ kept (standing_of a messages)
+pub state_found : (checker : Checker) (messages : List Message) → HasRead checker messages → (a : List ℕ) → unwrap_or (get_by_text checker.pending.states a) idle ≡ state_of a messages
+state_found checker messages read a = ap (λ (o : Option AddressState). unwrap_or o idle) (read.state a) ∙ kept (state_of a messages)
 
--- what matters, as the checker tells it
-abbrev pub matters_of : Checker → Standing → Bool
-matters_of checker s = stands_open (not checker.tally.has_failed) (nat_lt checker.tally.errors_alone checker.tally.failures) s
+-- the criteria, as the checker computes them
+abbrev pub matters_of : Checker → AddressState → Bool
+matters_of checker s = stands_open (not checker.tally.has_failed) (nat_lt checker.tally.errors_without_address checker.tally.failures) s
 
-pub same_matters : (checker : Checker) (messages : List Message) → HasRead checker messages → (a : List ℕ) → matters_of checker (unwrap_or (get_by_text checker.pending.standings a) idle) ≡ is_open_at messages a
+pub same_matters : (checker : Checker) (messages : List Message) → HasRead checker messages → (a : List ℕ) → matters_of checker (unwrap_or (get_by_text checker.pending.states a) idle) ≡ is_open_at messages a
 same_matters checker messages read a =
-    ap (matters_of checker) (found_at checker messages read a)
-    ∙ ap (λ (t : Tally). stands_open (not t.has_failed) (nat_lt t.errors_alone t.failures) (standing_of a messages)) read.tally
+    ap (matters_of checker) (state_found checker messages read a)
+    ∙ ap (λ (t : Tally). stands_open (not t.has_failed) (nat_lt t.errors_without_address t.failures) (state_of a messages)) read.tally
 
 -- the answer of a look at all addresses is whether something stands open
 pub open_is : (checker : Checker) (messages : List Message) (b : Bool) → HasRead checker messages
-    → (b ≡ true → (a : List ℕ) × (matters_of checker (unwrap_or (get_by_text checker.pending.standings a) idle) ≡ true))
-    → (b ≡ false → (a : List ℕ) → matters_of checker (unwrap_or (get_by_text checker.pending.standings a) idle) ≡ false)
+    → (b ≡ true → (a : List ℕ) × (matters_of checker (unwrap_or (get_by_text checker.pending.states a) idle) ≡ true))
+    → (b ≡ false → (a : List ℕ) → matters_of checker (unwrap_or (get_by_text checker.pending.states a) idle) ≡ false)
     → b ≡ any_open messages
 open_is checker messages true read some none =
     let there = some refl in

@@ -1,12 +1,12 @@
--- An answer behind another, where both may be faults.
+-- One result after another, where both may be faults.
 use Rattle.std.proofs.Common.{◌≡◌, Result, Ok, Err, refl, sym, ap, ◌∙◌}
 use Rattle.std.specs.Result.{result_and}
 use Rattle.stream_check.specs.declared.rules.fault.Fault.{Fault}
 use Rattle.stream_check.specs.Results.{◌>>=◌, mapped}
 
-behind : {A B C : Type 0} (r : Result A Fault) (s : Result B Fault) (f : B → Result C Fault) → ((r >>= λ a. s) >>= f) ≡ (r >>= λ a. s >>= f)
-behind (Ok a) s f = refl
-behind (Err fault) s f = refl
+bind_after : {A B C : Type 0} (r : Result A Fault) (s : Result B Fault) (f : B → Result C Fault) → ((r >>= λ a. s) >>= f) ≡ (r >>= λ a. s >>= f)
+bind_after (Ok a) s f = refl
+bind_after (Err fault) s f = refl
 
 module _ {A X Y : Type 0} (view : X → Y) where
   joined : (first : Result A Fault) (second : Result X Fault) → mapped view (result_and first second) ≡ (first >>= λ a. mapped view second)
@@ -20,4 +20,4 @@ module _ {A X Y : Type 0} (view : X → Y) where
 
     -- and its fault is that of what is made of both
     pub fault_of_both : {Z : Type 0} (fault : Fault) (f : Y → Result Z Fault) → both ≡ Err fault → Err fault ≡ (held >>= λ a. second_held >>= f)
-    fault_of_both fault f faulty = ap (λ r. mapped view r >>= f) (sym faulty) ∙ ap (λ r. r >>= f) joined_at ∙ behind held second_held f
+    fault_of_both fault f faulty = ap (λ r. mapped view r >>= f) (sym faulty) ∙ ap (λ r. r >>= f) joined_at ∙ bind_after held second_held f

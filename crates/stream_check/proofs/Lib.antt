@@ -9,8 +9,8 @@ pub mod Floats
 pub mod FromReader
 pub mod Held
 pub mod Joined
-pub mod Kept
-pub mod Listed
+pub mod SlotContents
+pub mod OpenEntries
 pub mod Marks
 pub mod MessageKinds
 pub mod OneLine
@@ -19,7 +19,7 @@ pub mod Parsed
 pub mod Pendings
 pub mod Progress
 pub mod Putting
-pub mod Saying
+pub mod MessageText
 pub mod Slots
 pub mod Statuses
 pub mod Summaries

@@ -1,4 +1,4 @@
--- What a message of a type says, by what the type tells of.
+-- The message of a type, by its kind.
 use Rattle.std.proofs.Common.{◌≡◌, ℕ, List, codes, Bool, true, false, cond, Result, refl}
 use Rattle.std.specs.Str.{bytes_eq}
 use Rattle.serde_json.specs.Data.{Data}

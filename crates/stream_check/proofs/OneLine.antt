@@ -6,17 +6,17 @@ use Rattle.stream_check.specs.declared.rules.checker.Checker.{Checker}
 use Rattle.stream_check.specs.declared.rules.fault.Fault.{Fault}
 use Rattle.stream_check.specs.declared.rules.fault.Fault.TheVariants.{TooLong, NotJson}
 use Rattle.stream_check.specs.Checking.{Continues, HasRead}
-use Rattle.stream_check.specs.Found.{from_mark, through_brace}
+use Rattle.stream_check.specs.Located.{from_mark, through_brace}
 use Rattle.stream_lines.specs.Limits.{max_bytes}
-use Rattle.stream_check.specs.Lines.{as_first, behind, found_message, line_message, next, read_line, read_text, text_message}
+use Rattle.stream_check.specs.Lines.{as_first, after_version, located_message, line_message, next, read_line, read_text, text_message}
 use Rattle.stream_check.specs.Message.{Message, foreign}
-use Rattle.stream_check.specs.Pieces.{piece_behind, piece_of}
+use Rattle.stream_check.specs.Pieces.{piece_from, piece_of}
 use Rattle.stream_check.specs.Results.{◌>>=◌, mapped, or_refuse}
 use Rattle.stream_check.specs.Tally.{is_version, line_of}
 
 -- ---- a line that is passed over
 
-foreign_anywhere : (version : Option ℕ) (ms : List Message) → option_map_or (λ first. behind ms first foreign) version (as_first ms foreign) ≡ Ok (foreign ∷ ms)
+foreign_anywhere : (version : Option ℕ) (ms : List Message) → option_map_or (λ first. after_version ms first foreign) version (as_first ms foreign) ≡ Ok (foreign ∷ ms)
 foreign_anywhere None ms = refl
 foreign_anywhere (Some line) ms = refl
 
@@ -49,7 +49,7 @@ up_to_brace : (o : Option (List ℕ)) (ms : List Message) → read_piece true ms
 up_to_brace None ms = refl
 up_to_brace (Some piece) ms = refl
 
-from_mark_on : (from : Option (List ℕ)) (ms : List Message) → read_piece true ms (piece_behind from) ≡ (found_message from >>= next ms)
+from_mark_on : (from : Option (List ℕ)) (ms : List Message) → read_piece true ms (piece_from from) ≡ (located_message from >>= next ms)
 from_mark_on None ms = refl
 from_mark_on (Some text) ms = up_to_brace (through_brace text) ms
 
@@ -64,7 +64,7 @@ piece_line false text ms few =
 
 -- ---- answers
 
--- the same answer, said of another function that gives the same
+-- the same answer, for another function with the same values
 pub continues_as : (old new : Checker) (f g : List Message → Result (List Message) Fault) (r : Result (Unit {0}) Fault) → ((ms : List Message) → f ms ≡ g ms) → Continues old new f r → Continues old new g r
 continues_as old new f g (Ok done) same h = λ ms read. let k = h ms read in (k.0, sym (same ms) ∙ k.1, k.2)
 continues_as old new f g (Err fault) same h = λ ms read. let k = h ms read in (k.0, λ memory. sym (same ms) ∙ k.1 memory)

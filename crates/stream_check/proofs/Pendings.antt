@@ -3,12 +3,12 @@ use Rattle.std.proofs.Common.{◌≡◌, false, Option, refl}
 use Rattle.stream_check.specs.declared.messages.action.Action.{Action}
 use Rattle.stream_check.specs.declared.messages.action.Action.TheVariants.{Create, Update, Delete, Read, Refresh}
 use Rattle.stream_check.specs.declared.rules.pending.Pending.{Pending}
-use Rattle.stream_check.specs.declared.rules.standing.Standing.{Standing}
-use Rattle.stream_check.specs.Standing.{pending_at, with_pending}
+use Rattle.stream_check.specs.declared.rules.address_state.AddressState.{AddressState}
+use Rattle.stream_check.specs.AddressState.{pending_at, with_pending}
 use Rattle.stream_check.specs.Words.{same_action}
 
 -- what is put for an action is what it has
-pub put_same : (k : Action) (p : Option Pending) (s : Standing) → pending_at k (with_pending k p s) ≡ p
+pub put_same : (k : Action) (p : Option Pending) (s : AddressState) → pending_at k (with_pending k p s) ≡ p
 put_same Create p s = refl
 put_same Update p s = refl
 put_same Delete p s = refl
@@ -16,7 +16,7 @@ put_same Read p s = refl
 put_same Refresh p s = refl
 
 -- and the others keep what they had
-pub put_other : (l k : Action) (p : Option Pending) (s : Standing) → same_action l k ≡ false → pending_at k (with_pending l p s) ≡ pending_at k s
+pub put_other : (l k : Action) (p : Option Pending) (s : AddressState) → same_action l k ≡ false → pending_at k (with_pending l p s) ≡ pending_at k s
 put_other Create Create p s e = absurd cc
 put_other Create Update p s e = refl
 put_other Create Delete p s e = refl

@@ -1,4 +1,4 @@
--- Members that were put, one behind another.
+-- Members that were put, one after another.
 use Rattle.std.proofs.Common.{◌≡◌, ◌∙◌, ℕ, List, Result, Ok, Err, false, ap, subst}
 use Rattle.std.specs.Prelude.{IfOk, OnErr}
 use Rattle.std.specs.declared.alloc.AllocError.{AllocError}
@@ -14,7 +14,7 @@ puts_then a b c f g first second whole =
     let sooner = first later.0 in
     (sooner.0, later.1 ∙ ap g sooner.1)
 
--- behind members that are known
+-- after known members
 pub puts_all : (a b : putting.Members) (f : Members → Members) (ms : Members) → Holds a ms → Puts a b f → Holds b (f ms)
 puts_all a b f ms held more whole = let all = more whole in all.1 ∙ ap f (held all.0)
 

@@ -11,7 +11,7 @@ use Rattle.stream_check.specs.declared.messages.totals.Totals.{Totals}
 use Rattle.stream_check.specs.declared.rules.fault.Fault.{Fault}
 use Rattle.stream_check.specs.declared.rules.fault.Fault.TheVariants.{AfterSummary, Unended, WrongTotals}
 use Rattle.stream_check.specs.Laws.{SumsUp}
-use Rattle.stream_check.specs.Lines.{as_first, behind, next}
+use Rattle.stream_check.specs.Lines.{as_first, after_version, next}
 use Rattle.stream_check.specs.Message.{Message, version, step, provision, planned, plan_summary, summary, diagnostic, outputs, other, foreign}
 use Rattle.stream_check.specs.Open.{any_open}
 use Rattle.stream_check.specs.Tally.{completed_totals, completes, is_summary, is_version, line_of, same_totals}
@@ -37,7 +37,7 @@ no_summaries t (foreign ∷ ms) e = (tt, no_summaries t ms e)
 
 step_before : (a : List ℕ) (k : Action) (stage : TimedStage) (ms later : List Message) → next ms (step a k stage) ≡ Ok later → line_of is_summary ms ≡ None
 step_before a k stage ms later e = by_line (line_of is_version ms) e where
-  by_line : (o : Option ℕ) → option_map_or (λ first. behind ms first (step a k stage)) o (as_first ms (step a k stage)) ≡ Ok later → line_of is_summary ms ≡ None
+  by_line : (o : Option ℕ) → option_map_or (λ first. after_version ms first (step a k stage)) o (as_first ms (step a k stage)) ≡ Ok later → line_of is_summary ms ≡ None
   by_line None f = absurd cc
   by_line (Some first) f = (past_line AfterSummary (line_of is_summary ms) _ later f).0
 
@@ -58,13 +58,13 @@ agreed t found false false x later e = absurd cc
 
 summary_agrees : (t : Totals) (ms later : List Message) → next ms (summary t) ≡ Ok later → t ≡ completed_totals ms
 summary_agrees t ms later e = by_line (line_of is_version ms) e where
-  by_line : (o : Option ℕ) → option_map_or (λ first. behind ms first (summary t)) o (as_first ms (summary t)) ≡ Ok later → t ≡ completed_totals ms
+  by_line : (o : Option ℕ) → option_map_or (λ first. after_version ms first (summary t)) o (as_first ms (summary t)) ≡ Ok later → t ≡ completed_totals ms
   by_line None f = absurd cc
   by_line (Some first) f =
       same_is_equal t (completed_totals ms)
       (agreed t (completed_totals ms) (any_open ms) (same_totals t (completed_totals ms)) (summary t ∷ ms) later (past_line AfterSummary (line_of is_summary ms) _ later f).1)
 
--- behind a message that completes nothing, summaries say the same
+-- after a message that completes nothing, summaries state the same
 summed_too : (m : Message) (ms : List Message) → completes Create m ≡ false → completes Update m ≡ false → completes Delete m ≡ false → AllByRecursion (SumsUp (completed_totals ms)) ms → AllByRecursion (SumsUp (completed_totals (m ∷ ms))) ms
 summed_too m ms c u d all = subst (λ (t : Totals). AllByRecursion (SumsUp t) ms) (uncounted m ms c u d) all
 

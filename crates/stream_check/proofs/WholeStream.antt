@@ -7,11 +7,11 @@ use Rattle.stream_check.specs.declared.rules.fault.Fault.TheVariants.{AfterSumma
 use Rattle.stream_check.specs.declared.rules.mode.Mode.{Mode}
 use Rattle.stream_check.specs.declared.verdict.finding.Finding.{Finding}
 use Rattle.stream_check.specs.declared.verdict.whole.Whole.{Whole}
-use Rattle.stream_check.specs.Lines.{as_first, at_line, behind, end_of, foreseen, is_beyond_plan, line_message, next, passed_of, read_line, summed, verdict_behind, within_plan}
+use Rattle.stream_check.specs.Lines.{as_first, at_line, after_version, end_of, plan_summed, is_beyond_plan, line_message, next, passed_of, read_line, summed, verdict_after, within_plan}
 use Rattle.stream_check.specs.Message.{Message, version, step, provision, planned, plan_summary, summary, diagnostic, outputs, other, foreign}
 use Rattle.stream_check.specs.Open.{any_open}
 use Rattle.stream_check.specs.Results.{◌>>=◌}
-use Rattle.stream_check.specs.Standing.{provision_on, standing_of, step_on}
+use Rattle.stream_check.specs.AddressState.{provision_on, state_of, step_on}
 use Rattle.stream_check.specs.Tally.{awaits_outputs, completed_totals, is_plan_summary, is_summary, is_version, line_of, planned_totals, same_totals}
 
 -- ---- each line is one message
@@ -34,34 +34,34 @@ one_on m ms = Ok (m ∷ ms)
 put_on : (m : Message) (ms later : List Message) → one_on m ms ≡ Ok later → m ∷ ms ≡ later
 put_on m ms later e = cc
 
--- what is refused behind some line is not refused
+-- an accepted answer names no line that refuses it
 pub past_line : {A : Type 0} (f : ℕ → Fault) (o : Option ℕ) (r : Result A Fault) (y : A) → option_map_or (λ line. Err (f line)) o r ≡ Ok y → (o ≡ None) × (r ≡ Ok y)
 past_line f None r y e = (refl, e)
 past_line f (Some line) r y e = absurd cc
 
-one_behind : (ms : List Message) (first : ℕ) (m : Message) (later : List Message) → behind ms first m ≡ Ok later → m ∷ ms ≡ later
-one_behind ms first version later e = absurd cc
-one_behind ms first (step a k stage) later e =
-    let found = bind_ok (step_on k stage (length ms + 1) (standing_of a ms)) (λ standing. within_plan k stage ms (one_on (step a k stage) ms)) later (past_line AfterSummary _ _ later e).1 in
+one_after : (ms : List Message) (first : ℕ) (m : Message) (later : List Message) → after_version ms first m ≡ Ok later → m ∷ ms ≡ later
+one_after ms first version later e = absurd cc
+one_after ms first (step a k stage) later e =
+    let found = bind_ok (step_on k stage (length ms + 1) (state_of a ms)) (λ state. within_plan k stage ms (one_on (step a k stage) ms)) later (past_line AfterSummary _ _ later e).1 in
     put_on (step a k stage) ms later (guard_ok (is_beyond_plan k stage ms) NotPlanned (one_on (step a k stage) ms) later found.2)
-one_behind ms first (provision a stage) later e =
-    let found = bind_ok (provision_on stage (length ms + 1) (standing_of a ms)) (λ standing. one_on (provision a stage) ms) later (past_line AfterSummary _ _ later e).1 in
+one_after ms first (provision a stage) later e =
+    let found = bind_ok (provision_on stage (length ms + 1) (state_of a ms)) (λ state. one_on (provision a stage) ms) later (past_line AfterSummary _ _ later e).1 in
     put_on (provision a stage) ms later found.2
-one_behind ms first (planned intent) later e = put_on (planned intent) ms later (past_line AfterSummary (line_of is_summary ms) (one_on (planned intent) ms) later e).1
-one_behind ms first (plan_summary t) later e =
+one_after ms first (planned intent) later e = put_on (planned intent) ms later (past_line AfterSummary (line_of is_summary ms) (one_on (planned intent) ms) later e).1
+one_after ms first (plan_summary t) later e =
     let right : Result (List Message) Fault = cond (same_totals t (planned_totals ms)) (one_on (plan_summary t) ms) (Err (WrongPlanTotals t (planned_totals ms))) in
-    let once = (past_line AfterSummary (line_of is_summary ms) (foreseen t ms) later e).1 in
+    let once = (past_line AfterSummary (line_of is_summary ms) (plan_summed t ms) later e).1 in
     put_on (plan_summary t) ms later
     (guard_err (same_totals t (planned_totals ms)) (WrongPlanTotals t (planned_totals ms)) (one_on (plan_summary t) ms) later (past_line PlanAgain (line_of is_plan_summary ms) right later once).1)
-one_behind ms first (summary t) later e =
+one_after ms first (summary t) later e =
     let right : Result (List Message) Fault = cond (same_totals t (completed_totals ms)) (one_on (summary t) ms) (Err (WrongTotals t (completed_totals ms))) in
     let once = (past_line AfterSummary (line_of is_summary ms) (summed t ms) later e).1 in
     let second = guard_ok (any_open ms) Unended right later once in
     put_on (summary t) ms later (guard_err (same_totals t (completed_totals ms)) (WrongTotals t (completed_totals ms)) (one_on (summary t) ms) later second)
-one_behind ms first (diagnostic b a) later e = put_on (diagnostic b a) ms later e
-one_behind ms first outputs later e = put_on outputs ms later (guard_err (awaits_outputs ms) OutputsAlone (one_on outputs ms) later e)
-one_behind ms first other later e = put_on other ms later e
-one_behind ms first foreign later e = put_on foreign ms later e
+one_after ms first (diagnostic b a) later e = put_on (diagnostic b a) ms later e
+one_after ms first outputs later e = put_on outputs ms later (guard_err (awaits_outputs ms) OutputsAlone (one_on outputs ms) later e)
+one_after ms first other later e = put_on other ms later e
+one_after ms first foreign later e = put_on foreign ms later e
 
 one_first : (ms : List Message) (m : Message) (later : List Message) → as_first ms m ≡ Ok later → m ∷ ms ≡ later
 one_first ms version later e = put_on version ms later e
@@ -77,33 +77,33 @@ one_first ms foreign later e = put_on foreign ms later e
 
 pub one_next : (ms : List Message) (m : Message) (later : List Message) → next ms m ≡ Ok later → m ∷ ms ≡ later
 one_next ms m later e = by_line (line_of is_version ms) e where
-  by_line : (o : Option ℕ) → option_map_or (λ first. behind ms first m) o (as_first ms m) ≡ Ok later → m ∷ ms ≡ later
+  by_line : (o : Option ℕ) → option_map_or (λ first. after_version ms first m) o (as_first ms m) ≡ Ok later → m ∷ ms ≡ later
   by_line None f = one_first ms m later f
-  by_line (Some first) f = one_behind ms first m later f
+  by_line (Some first) f = one_after ms first m later f
 
-pub one_more : (find : Bool) (ms : List Message) (text : List ℕ) (later : List Message) → read_line find ms text ≡ Ok later → length later ≡ length ms + 1
+pub with_one : (find : Bool) (ms : List Message) (text : List ℕ) (later : List Message) → read_line find ms text ≡ Ok later → length later ≡ length ms + 1
 unfolding read_line
-one_more find ms text later e =
+with_one find ms text later e =
     let found = bind_ok (line_message find text) (next ms) later e in
     subst (λ (xs : List Message). length xs ≡ length ms + 1) (one_next ms found.0 later found.2) (omega arith)
 
--- ---- the verdict, behind the lines so far
+-- ---- the verdict after the lines so far
 
-pub goes_on : (mode : Mode) (ms later : List Message) (text : List ℕ) (texts : List (List ℕ)) (v : Result Whole Finding) → read_line mode.find ms text ≡ Ok later → verdict_behind mode ms (text ∷ texts) ≡ v → verdict_behind mode later texts ≡ v
-unfolding verdict_behind
+pub goes_on : (mode : Mode) (ms later : List Message) (text : List ℕ) (texts : List (List ℕ)) (v : Result Whole Finding) → read_line mode.find ms text ≡ Ok later → verdict_after mode ms (text ∷ texts) ≡ v → verdict_after mode later texts ≡ v
+unfolding verdict_after
 goes_on mode ms later text texts v e is = rw e at is
 
--- a finding on that line, behind these messages
+-- a finding on that line, after these messages
 abbrev pub finding_at : Mode → List Message → ℕ → Fault → Result Whole Finding
 finding_at mode ms line fault = Err (record { line = line; fault = fault; passed = passed_of mode ms })
 
-pub is_faulty : (mode : Mode) (ms : List Message) (text : List ℕ) (texts : List (List ℕ)) (v : Result Whole Finding) (fault : Fault) → read_line mode.find ms text ≡ Err fault → verdict_behind mode ms (text ∷ texts) ≡ v
+pub is_faulty : (mode : Mode) (ms : List Message) (text : List ℕ) (texts : List (List ℕ)) (v : Result Whole Finding) (fault : Fault) → read_line mode.find ms text ≡ Err fault → verdict_after mode ms (text ∷ texts) ≡ v
     → v ≡ finding_at mode ms (length ms + 1) fault
-unfolding verdict_behind
+unfolding verdict_after
 is_faulty mode ms text texts v fault e is = sym (rw e at is)
 
-pub is_done : (mode : Mode) (ms : List Message) (v : Result Whole Finding) → verdict_behind mode ms [] ≡ v → v ≡ at_line mode ms (length ms) (end_of mode ms)
-unfolding verdict_behind
+pub is_done : (mode : Mode) (ms : List Message) (v : Result Whole Finding) → verdict_after mode ms [] ≡ v → v ≡ at_line mode ms (length ms) (end_of mode ms)
+unfolding verdict_after
 is_done mode ms v is = sym is
 
 -- ---- the lines that are left

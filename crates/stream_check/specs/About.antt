@@ -1,4 +1,4 @@
--- What a message is about that tells of a step or of a provisioner.
+-- What a message about a step or a provisioner is about.
 use Rattle.std.specs.Prelude.{ℕ, List, codes, Bool, if◌then◌else◌, Option, Some, None, Result, Ok, Err}
 use Rattle.std.specs.Option.{option_and_then, option_copied}
 use Rattle.serde_json.specs.Data.{Data}
@@ -7,14 +7,14 @@ use Rattle.stream_check.specs.declared.command.object.Object.{Object}
 use Rattle.stream_check.specs.declared.command.object.Object.TheVariants as object
 use Rattle.stream_check.specs.declared.messages.action.Action.{Action}
 use Rattle.stream_check.specs.declared.rules.fault.Fault.{Fault}
-use Rattle.stream_check.specs.Found.{from_mark, through_brace}
+use Rattle.stream_check.specs.Located.{from_mark, through_brace}
 use Rattle.stream_check.specs.Message.{Message, version, step, provision, planned, plan_summary, summary, diagnostic, outputs, other, foreign, typed_message}
 
 pub data About : Type 0 where
   of_step : Action → (address : List ℕ) → About
   of_provisioner : (name : Option (List ℕ)) → (address : List ℕ) → About
 
--- an object whose texts stand in a tree, as contracts see it
+-- the subject of a message, with its texts as contracts see them
 abbrev pub object_view : Object → About
 object_view (object.Step action address) = of_step action address.now
 object_view (object.Provisioner name address) = of_provisioner (option_copied name) address.now
@@ -36,11 +36,11 @@ about_message d (Ok other) = None
 about_message d (Ok foreign) = None
 about_message d (Err fault) = None
 
--- what the message of a tree is about
+-- what the message of a parsed line is about
 unfoldable pub about_tree : Data → Option About
 about_tree d = option_and_then (λ name. about_message d (typed_message name d)) (text_of (codes "type") d)
 
--- the text of a line's message
+-- the text of the line's message
 abbrev pub message_in : (find : Bool) → List ℕ → Option (List ℕ)
 message_in find text = if find then option_and_then through_brace (from_mark text) else Some text
 

@@ -1,4 +1,4 @@
--- What is planned.
+-- What a plan intends for an object.
 use Rattle.std.specs.Prelude.{Bool, true, false}
 use Rattle.stream_check.specs.declared.messages.intent.Intent.{Intent}
 use Rattle.stream_check.specs.declared.messages.intent.Intent.TheVariants.{Create, Update, Delete, Replace, Nothing}
@@ -25,7 +25,7 @@ deletes Delete = true
 deletes Replace = true
 deletes Nothing = false
 
--- what a message plans
+-- the intent of a message
 abbrev pub intent_of : Message → Intent
 intent_of (planned intent) = intent
 intent_of _ = Nothing

@@ -1,4 +1,4 @@
--- What follows for every stream that is accepted.
+-- Laws of every accepted stream.
 use Rattle.std.specs.Prelude.{◌≡◌, ◌≢◌, ◌≤◌, ⊤, ℕ, List, [], ◌∷◌, drop, count_by, Bool, true, false, ◌&&◌, ◌||◌, Result, Ok, Err}
 use Rattle.std.specs.List.{AllByRecursion, list_any}
 use Rattle.std.specs.Str.{bytes_eq}
@@ -27,7 +27,7 @@ is_end (Progress seconds) = false
 is_end (Complete seconds) = true
 is_end (Errored seconds) = true
 
--- it tells so of the action on the object of that address
+-- the message is about the action at the address, at a stage that passes the test
 abbrev pub tells : (TimedStage → Bool) → List ℕ → Action → Message → Bool
 tells test a k version = false
 tells test a k (step b l stage) = (bytes_eq b a && same_action l k) && test stage
@@ -40,50 +40,51 @@ tells test a k outputs = false
 tells test a k other = false
 tells test a k foreign = false
 
--- At each moment no step of an object has ended more often than it has started, and in the end each create, update and
--- delete as often. The latest message is the first of the list, so that what stands behind its first n is what was told
--- up to some moment.
+-- At no time has a step ended more often than it started. At the end, each create, update and
+-- delete has ended as often as it started. The latest message is the first of the list, so the list
+-- without its first n messages is an earlier time.
 pub record EachEnds (messages : List Message) : Type 0 where
   pub in_order : (n : ℕ) (a : List ℕ) (k : Action) → count_by (tells is_end a k) (drop n messages)
       ≤ count_by (tells is_start a k) (drop n messages)
   pub at_last : (a : List ℕ) (k : Action) → k ≢ Read → k ≢ Refresh → count_by (tells is_start a k) messages
       ≡ count_by (tells is_end a k) messages
 
--- it sums up so much, where it sums up
+-- a summary states these totals
 abbrev pub SumsUp : Totals → Message → Type 0
 SumsUp totals version = ⊤
 SumsUp totals (step a k stage) = ⊤
 SumsUp totals (provision a stage) = ⊤
 SumsUp totals (planned intent) = ⊤
-SumsUp totals (plan_summary said) = ⊤
-SumsUp totals (summary said) = said ≡ totals
+SumsUp totals (plan_summary stated) = ⊤
+SumsUp totals (summary stated) = stated ≡ totals
 SumsUp totals (diagnostic e a) = ⊤
 SumsUp totals outputs = ⊤
 SumsUp totals other = ⊤
 SumsUp totals foreign = ⊤
 
--- the lines say these messages behind the earlier ones, the latest of which is the first
-abbrev pub Say : (find : Bool) → (earlier messages : List Message) → List (List ℕ) → Type 0
-Say find earlier messages [] = messages ≡ earlier
-Say find earlier messages (text ∷ texts) =
-    (m : Message) × (line_message find text ≡ Ok m) × Say find (m ∷ earlier) messages texts
+-- the lines state these messages after the earlier ones, the latest first
+abbrev pub StateMessages : (find : Bool) → (earlier messages : List Message) → List (List ℕ) → Type 0
+StateMessages find earlier messages [] = messages ≡ earlier
+StateMessages find earlier messages (text ∷ texts) =
+    (m : Message) × (line_message find text ≡ Ok m) × StateMessages find (m ∷ earlier) messages texts
 
--- the line says a message that passes
-abbrev pub says_in : (Message → Bool) → Result Message Fault → Bool
-says_in p (Ok m) = p m
-says_in p (Err fault) = false
+-- the line states a message that passes the test
+abbrev pub states_in : (Message → Bool) → Result Message Fault → Bool
+states_in p (Ok m) = p m
+states_in p (Err fault) = false
 
 abbrev pub says : (find : Bool) → (Message → Bool) → List ℕ → Bool
-says find p text = says_in p (line_message find text)
+says find p text = states_in p (line_message find text)
 
--- its lines are messages in which each step ends as often as it starts, the totals are what they complete, a summary
--- says the same, and there is a summary or an error; of a plan's stream the totals are what was planned
+-- The lines are messages in which each step ends as often as it starts. The totals count the
+-- completed steps, or the planned ones in the stream of a plan. A summary states the same totals.
+-- The stream has a summary or an error.
 pub record IsWhole (mode : Mode) (texts : List (List ℕ)) (whole : Whole) (messages : List Message) : Type 0 where
-  pub lines : Say mode.find [] messages texts
+  pub lines : StateMessages mode.find [] messages texts
   pub steps : EachEnds messages
   pub completed : whole.is_plan ≡ false → whole.totals ≡ completed_totals messages
   pub planned : whole.is_plan ≡ true → whole.totals ≡ planned_totals messages
   pub summed : AllByRecursion (SumsUp (completed_totals messages)) messages
-  pub told : whole.has_errors ≡ list_any is_error messages
+  pub errors : whole.has_errors ≡ list_any is_error messages
   pub closed : whole.is_plan ≡ false → (list_any is_summary messages || list_any is_error messages) ≡ true
   pub asked : whole.is_plan ≡ true → mode.plan ≡ true

@@ -1,4 +1,4 @@
--- How much is read.
+-- Limits of reading.
 use Rattle.std.specs.Prelude.{ℕ}
 
 -- the greatest number of lines

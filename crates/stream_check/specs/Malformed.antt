@@ -1,9 +1,9 @@
--- Where a member stands, in words.
+-- Paths of members in a message.
 use Rattle.std.specs.Prelude.{ℕ, List, codes}
 use Rattle.stream_check.specs.declared.messages.path.Path.{Path}
 use Rattle.stream_check.specs.declared.messages.path.Path.TheVariants.{Hook, Resource, Address, Action, Seconds, Change, ChangeAction, Changes, Operation, Added, Changed, Removed, Diagnostic, Severity}
 
--- the names from the message down to the member
+-- the names from the message down to the member, joined with dots
 abbrev pub path_text : Path → List ℕ
 path_text Hook = codes "hook"
 path_text Resource = codes "hook.resource"

@@ -1,4 +1,4 @@
--- What a line says, as far as it is checked (Machine-Readable UI, "Message Types").
+-- The message of a line, as far as the rules need it (Machine-Readable UI, "Message Types").
 use Rattle.std.specs.Prelude.{ℕ, List, codes, Bool, ◌||◌, if◌then◌else◌, Option, Some, None, Result, Ok}
 use Rattle.std.specs.Option.{option_map_or}
 use Rattle.std.specs.Str.{bytes_eq}
@@ -8,8 +8,8 @@ use Rattle.stream_check.specs.declared.messages.action.Action.TheVariants.{Refre
 use Rattle.stream_check.specs.declared.messages.intent.Intent.{Intent}
 use Rattle.stream_check.specs.declared.messages.intent.Intent.TheVariants as intent
 use Rattle.stream_check.specs.declared.messages.path.Path.TheVariants as path
-use Rattle.stream_check.specs.declared.messages.stage.Stage.{Stage}
-use Rattle.stream_check.specs.declared.messages.stage.Stage.TheVariants as stage
+use Rattle.stream_check.specs.declared.messages.timed_stage.Stage.{Stage}
+use Rattle.stream_check.specs.declared.messages.timed_stage.Stage.TheVariants as stage
 use Rattle.stream_check.specs.declared.messages.timed_stage.TimedStage.{TimedStage}
 use Rattle.stream_check.specs.declared.messages.timed_stage.TimedStage.TheVariants.{Start, Progress, Complete, Errored}
 use Rattle.stream_check.specs.declared.messages.totals.Totals.{Totals}
@@ -20,28 +20,28 @@ use Rattle.stream_check.specs.Results.{◌>>=◌}
 use Rattle.stream_check.specs.Words.{action_named}
 
 pub data Message : Type 0 where
-  -- the first line
+  -- the version
   version : Message
-  -- what becomes of a step: an action on the object of an address
+  -- a stage of a step: an action on the object of an address
   step : List ℕ → Action → TimedStage → Message
-  -- what becomes of a provisioner of the object of an address
+  -- a stage of a provisioner of the object of an address
   provision : List ℕ → Stage → Message
-  -- a change that was planned
+  -- a planned change
   planned : Intent → Message
   -- the summary of a plan
   plan_summary : Totals → Message
   -- the summary of an apply or a destroy
   summary : Totals → Message
-  -- an error or a warning, and the address that it names
+  -- an error or a warning, with the address that it names
   diagnostic : (is_error : Bool) → (address : Option (List ℕ)) → Message
-  -- the values that a plan or an apply puts out
+  -- the outputs of a plan or an apply
   outputs : Message
-  -- a message that no law is about
+  -- a message that no rule is about
   other : Message
-  -- a line of a log that is no message, where such lines are passed over
+  -- a line of a log that holds no message, and is ignored
   foreign : Message
 
--- what the message is about
+-- the address that the message is about
 abbrev pub address_of : Message → Option (List ℕ)
 address_of version = None
 address_of (step address action stage) = Some address
@@ -56,7 +56,7 @@ address_of foreign = None
 
 -- ---- members
 
--- the address and the action word in `hook`
+-- the address and the action word of `hook`
 abbrev pub subject_of : Data → Result (List ℕ × List ℕ) Fault
 subject_of hook = do
   resource ← object_at path.Address (codes "resource") path.Resource hook
@@ -64,11 +64,11 @@ subject_of hook = do
   word ← text_at path.Action (codes "action") hook
   Ok (address, word)
 
--- a message about a step; one with an action that is not known is passed over
+-- the message about a step; with an unknown action it is `other`
 abbrev pub step_or_other : List ℕ × List ℕ → TimedStage → Message
 step_or_other subject stage = option_map_or (λ action. step subject.0 action stage) (action_named subject.1) other
 
--- ---- each type that is known
+-- ---- known types
 
 unfoldable pub start_of : Data → Result Message Fault
 start_of d = do
@@ -76,7 +76,7 @@ start_of d = do
   subject ← subject_of hook
   Ok (step_or_other subject Start)
 
--- that stage of a step, after so many seconds; a start has none
+-- the stage with its seconds; a start has none
 abbrev pub timed_stage_of : Stage → (seconds : ℕ) → TimedStage
 timed_stage_of stage.Start seconds = Start
 timed_stage_of stage.Progress seconds = Progress seconds
@@ -90,7 +90,7 @@ timed_of stage d = do
   seconds ← count_at path.Seconds (codes "elapsed_seconds") hook
   Ok (step_or_other subject (stage seconds))
 
--- the address in `hook`
+-- the address of `hook`
 abbrev pub hook_address_of : Data → Result (List ℕ) Fault
 hook_address_of d = do
   hook ← object_at path.Address (codes "hook") path.Hook d
@@ -109,7 +109,7 @@ refresh_of stage d = do
   address ← hook_address_of d
   Ok (step address Refresh stage)
 
--- what a word plans; `move`, `read`, `import` and others change no total
+-- the intent that a word names; `move`, `read`, `import` and others change no total
 abbrev pub intent_named : List ℕ → Intent
 intent_named word =
     if bytes_eq word (codes "create") then intent.Create
@@ -118,7 +118,7 @@ intent_named word =
     else if bytes_eq word (codes "replace") then intent.Replace
     else intent.Nothing
 
--- a change that was planned
+-- a planned change
 unfoldable pub planned_of : Data → Result Message Fault
 planned_of d = do
   change ← object_at path.ChangeAction (codes "change") path.Change d
@@ -126,14 +126,14 @@ planned_of d = do
   Ok (planned (intent_named word))
 
 -- the totals of `changes`
-abbrev pub totals_said : Data → Result Totals Fault
-totals_said changes = do
+abbrev pub totals_in : Data → Result Totals Fault
+totals_in changes = do
   added ← count_at path.Added (codes "add") changes
   changed ← count_at path.Changed (codes "change") changes
   removed ← count_at path.Removed (codes "remove") changes
   Ok (record { added = added; changed = changed; removed = removed })
 
--- a summary of that operation; one of another than a plan, an apply or a destroy is passed over
+-- the summary of that operation; the summary of an unknown operation is `other`
 abbrev pub summary_named : List ℕ → Totals → Message
 summary_named operation totals =
     if bytes_eq operation (codes "apply") || bytes_eq operation (codes "destroy") then summary totals
@@ -144,17 +144,17 @@ unfoldable pub summary_of : Data → Result Message Fault
 summary_of d = do
   changes ← object_at path.Operation (codes "changes") path.Changes d
   operation ← text_at path.Operation (codes "operation") changes
-  totals ← totals_said changes
+  totals ← totals_in changes
   Ok (summary_named operation totals)
 
--- an address that is no text is none
+-- an address that is no text counts as missing
 unfoldable pub diagnostic_of : Data → Result Message Fault
 diagnostic_of d = do
   members ← object_at path.Severity (codes "diagnostic") path.Diagnostic d
   severity ← text_at path.Severity (codes "severity") members
   Ok (diagnostic (bytes_eq severity (codes "error")) (text_of (codes "address") members))
 
--- a message of a type that is about no step and no provisioner
+-- the message of a type that is about no step, refresh or provisioner
 abbrev pub general_message : List ℕ → Data → Result Message Fault
 general_message name d =
     if bytes_eq name (codes "planned_change") then planned_of d
@@ -163,7 +163,7 @@ general_message name d =
     else if bytes_eq name (codes "outputs") then Ok outputs
     else Ok other
 
--- a message of a type that is about a refresh, or about no step
+-- the message of a type that is no start, progress or end of a step
 abbrev pub stepless_message : List ℕ → Data → Result Message Fault
 stepless_message name d =
     if bytes_eq name (codes "refresh_start") then refresh_of Start d
@@ -174,7 +174,7 @@ stepless_message name d =
     else if bytes_eq name (codes "provision_errored") then provision_of stage.Errored d
     else general_message name d
 
--- a message of a type, or which member a type that is known lacks
+-- the message of a type, or the fault of a required member
 unfoldable pub typed_message : List ℕ → Data → Result Message Fault
 typed_message name d =
     if bytes_eq name (codes "version") then Ok version

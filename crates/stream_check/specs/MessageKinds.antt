@@ -1,10 +1,10 @@
--- The types of messages, read once for all that a message of one says, for private clauses.
+-- The kinds of message types, for private clauses.
 use Rattle.std.specs.Prelude.{ℕ, List, codes, if◌then◌else◌, Result, Ok}
 use Rattle.std.specs.Str.{bytes_eq}
 use Rattle.serde_json.specs.Data.{Data}
 use Rattle.stream_check.specs.declared.messages.kind.Kind.{Kind}
 use Rattle.stream_check.specs.declared.messages.kind.Kind.TheVariants as kind
-use Rattle.stream_check.specs.declared.messages.stage.Stage.TheVariants as stage
+use Rattle.stream_check.specs.declared.messages.timed_stage.Stage.TheVariants as stage
 use Rattle.stream_check.specs.declared.rules.fault.Fault.{Fault}
 use Rattle.stream_check.specs.Message.{Message, version, outputs, other, diagnostic_of, planned_of, provision_of, refresh_of, start_of, summary_of, timed_of, timed_stage_of}
 
@@ -35,7 +35,7 @@ kind_named name =
     else if bytes_eq name (codes "apply_errored") then kind.Timed stage.Errored
     else stepless_kind name
 
--- what a message of that kind says
+-- the message of that kind
 abbrev pub kind_message : Kind → Data → Result Message Fault
 kind_message kind.Version d = Ok version
 kind_message kind.Start d = start_of d

@@ -1,4 +1,4 @@
--- What contracts see of a message that stands in the tree, for the private type that reads one.
+-- A message that borrows its texts, as contracts see it.
 use Rattle.std.specs.Option.{option_copied}
 use Rattle.stream_check.specs.declared.messages.message.Message as in_tree
 use Rattle.stream_check.specs.declared.messages.message.Message.TheVariants as tree

@@ -1,4 +1,5 @@
--- The members of the objects that say verdicts, each put where its name belongs in the order of bytes.
+-- The members of the objects that report verdicts. Each member is put where its name belongs in the
+-- order of bytes.
 use Rattle.std.specs.Prelude.{ℕ, List, codes, Bool, true, false, if◌then◌else◌, Option, Some, None}
 use Rattle.serde_json.specs.Data.{Data, Members, boolean, no_members, number, object, put as with_member, string, unsigned}
 use Rattle.stream_check.specs.declared.messages.totals.Totals.{Totals}
@@ -29,11 +30,11 @@ totals_object totals =
 abbrev pub with_totals : (name : List ℕ) → Totals → Members → Members
 with_totals name totals members = with_member name (totals_object totals) members
 
--- that it is a plan's stream, where it is
+-- `plan` for the stream of a plan
 abbrev pub with_plan : Bool → Members → Members
 with_plan is_plan members = if is_plan then with_member (codes "plan") (boolean true) members else members
 
--- what a whole stream tells
+-- the members of a verdict on a whole stream
 abbrev pub with_whole : Whole → Members → Members
 with_whole whole members =
     with_count (codes "passed") whole.passed
@@ -44,7 +45,7 @@ with_whole whole members =
     (with_member (codes "errors") (boolean whole.has_errors)
     (with_number (codes "change") whole.totals.changed (with_number (codes "add") whole.totals.added members)))))))
 
--- what is wrong, with the line that the faulty one contradicts, where the fault names one
+-- the fault and its line, with the line that the faulty one contradicts
 abbrev pub with_finding : Finding → Members → Members
 with_finding finding members =
     with_count (codes "passed") finding.passed

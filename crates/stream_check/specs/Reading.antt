@@ -1,4 +1,4 @@
--- What reading a stream gives.
+-- The answer of a check of a reader.
 use Rattle.std.specs.Prelude.{◌≡◌, ◌≢◌, ◌<◌, ◌^◌, ⊤, ℕ, List, length, Result, Ok, Err}
 use Rattle.stream_check.specs.declared.rules.mode.Mode.{Mode}
 use Rattle.stream_check.specs.Lines.{passed_of, verdict_of}
@@ -9,14 +9,14 @@ use Rattle.stream_check.specs.declared.verdict.read_fault.ReadFault.{ReadFault}
 use Rattle.stream_check.specs.declared.verdict.read_fault.ReadFault.TheVariants as read
 use Rattle.stream_check.specs.declared.verdict.whole.Whole.{Whole}
 
--- the read failed or memory was refused, and nothing is said of the stream
+-- a read failed or memory was refused, so that there is no verdict
 abbrev pub IsNoAnswer : ReadFault → Type 0
 IsNoAnswer (read.Found finding) = ⊥
 IsNoAnswer read.TooMany = ⊥
 IsNoAnswer (read.Unread number) = ⊤
 IsNoAnswer read.Memory = ⊤
 
--- the fault of that line, unless it is want of memory
+-- the fault of that line, unless memory was refused
 abbrev pub IsFaultAt : Mode → (earlier : List Message) → (line : ℕ) → Fault → ReadFault → Type 0
 IsFaultAt mode earlier line fault (read.Found finding) =
     (fault ≢ Memory) × (finding ≡ record { line = line; fault = fault; passed = passed_of mode earlier })
@@ -24,7 +24,8 @@ IsFaultAt mode earlier line fault read.Memory = fault ≡ Memory
 IsFaultAt mode earlier line fault read.TooMany = ⊥
 IsFaultAt mode earlier line fault (read.Unread number) = ⊥
 
--- the answer is the verdict on those lines, or there are too many of them; a read that fails and want of memory aside
+-- The answer is the verdict on the lines, or there are too many lines. A failed read and refused
+-- memory give no verdict.
 abbrev pub IsAnswer : Mode → List (List ℕ) → Result Whole ReadFault → Type 0
 IsAnswer mode texts (Ok whole) = verdict_of mode texts ≡ Ok whole
 IsAnswer mode texts (Err (read.Found finding)) = (finding.fault ≢ Memory) × (verdict_of mode texts ≡ Err finding)

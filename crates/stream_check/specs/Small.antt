@@ -1,4 +1,4 @@
--- Counts that fit: none is greater than the number of lines, for private clauses.
+-- No count exceeds the number of lines, for private clauses.
 use Rattle.std.specs.Prelude.{◌<◌, ◌≤◌, ◌^◌}
 use Rattle.stream_check.specs.declared.rules.tally.Tally.{Tally}
 
@@ -7,4 +7,4 @@ IsSmall t =
     (t.lines < 2 ^ 33) × (t.completed.added ≤ t.lines) × (t.completed.changed ≤ t.lines) × (t.completed.removed ≤ t.lines)
     × (t.begun.added ≤ t.lines) × (t.begun.changed ≤ t.lines) × (t.begun.removed ≤ t.lines)
     × (t.planned.added ≤ t.lines) × (t.planned.changed ≤ t.lines) × (t.planned.removed ≤ t.lines)
-    × (t.errors_alone ≤ t.lines) × (t.failures ≤ t.lines) × (t.foreign ≤ t.lines)
+    × (t.errors_without_address ≤ t.lines) × (t.failures ≤ t.lines) × (t.foreign ≤ t.lines)

@@ -1,15 +1,15 @@
--- The counts that a checker keeps, one line after another, for private clauses.
+-- The tally of a checker, line by line, for private clauses.
 use Rattle.std.specs.Prelude.{ℕ, ◌+◌, ◌-◌, List, length, count_by, Bool, true, false, ◌&&◌, not, is_some, Some}
 use Rattle.std.specs.List.{list_any}
 use Rattle.stream_check.specs.declared.messages.action.Action.{Action}
 use Rattle.stream_check.specs.declared.messages.intent.Intent.{Intent}
 use Rattle.stream_check.specs.declared.messages.timed_stage.TimedStage.{TimedStage}
 use Rattle.stream_check.specs.declared.rules.tally.Tally.{Tally}
-use Rattle.stream_check.specs.Counted.{begun_counted, counted, failures_counted, foretold, is_used_up}
+use Rattle.stream_check.specs.Counted.{begun_counted, counted, failures_counted, planned_counted, is_used_up}
 use Rattle.stream_check.specs.Message.{Message}
-use Rattle.stream_check.specs.Tally.{awaits_outputs, begun_totals, completed_totals, failures_left, is_begin, is_error, is_error_alone, is_foreign, is_plan_summary, is_planned, is_summary, is_version, line_of, no_totals, planned_totals, same_totals, share_of}
+use Rattle.stream_check.specs.Tally.{awaits_outputs, begun_totals, completed_totals, failures_left, is_begin, is_error, is_error_without_address, is_foreign, is_plan_summary, is_planned, is_summary, is_version, line_of, no_totals, planned_totals, same_totals, share_of}
 
--- what is kept of these messages
+-- the tally of these messages
 abbrev pub tally_of : List Message → Tally
 tally_of messages = record {
   lines = length messages;
@@ -22,7 +22,7 @@ tally_of messages = record {
   summary = line_of is_summary messages;
   awaits_outputs = awaits_outputs messages;
   has_failed = list_any is_error messages;
-  errors_alone = count_by is_error_alone messages;
+  errors_without_address = count_by is_error_without_address messages;
   failures = failures_left messages;
   foreign = count_by is_foreign messages;
 }
@@ -45,7 +45,7 @@ with_step action stage t = record t {
 }
 
 abbrev pub with_planned : Intent → Tally → Tally
-with_planned intent t = record t { lines = t.lines + 1; planned = foretold intent t.planned; has_plan = true }
+with_planned intent t = record t { lines = t.lines + 1; planned = planned_counted intent t.planned; has_plan = true }
 
 abbrev pub with_plan_summary : Tally → Tally
 with_plan_summary t = record t { lines = t.lines + 1; plan_summary = Some (t.lines + 1); awaits_outputs = true }
@@ -57,7 +57,7 @@ abbrev pub with_outputs : Tally → Tally
 with_outputs t = record t { lines = t.lines + 1; awaits_outputs = false }
 
 abbrev pub with_error : Tally → Tally
-with_error t = record t { lines = t.lines + 1; has_failed = true; errors_alone = t.errors_alone + 1 }
+with_error t = record t { lines = t.lines + 1; has_failed = true; errors_without_address = t.errors_without_address + 1 }
 
 abbrev pub with_error_at : ℕ → Tally → Tally
 with_error_at n t = record t { lines = t.lines + 1; has_failed = true; failures = t.failures - n }

@@ -1,4 +1,4 @@
--- The words of the Machine-Readable UI that are known.
+-- The words of the Machine-Readable UI that the rules know.
 use Rattle.std.specs.Prelude.{ℕ, List, codes, Bool, true, false, if◌then◌else◌, Option, Some, None}
 use Rattle.std.specs.Str.{bytes_eq}
 use Rattle.stream_check.specs.declared.messages.action.Action.{Action}

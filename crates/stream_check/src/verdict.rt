@@ -1,8 +1,8 @@
-//! What is found of a whole stream.
+//! The verdict on a stream.
 
 pub(crate) mod finding;
+pub(crate) mod from_lines;
+pub(crate) mod from_reader;
 pub(crate) mod laws;
-pub(crate) mod lines_given;
 pub(crate) mod read_fault;
-pub(crate) mod stream_given;
 pub(crate) mod whole;

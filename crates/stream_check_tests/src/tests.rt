@@ -1,6 +1,9 @@
-//! What neither a clause says nor `checks/verdicts` sees of the built program: what a checker says of itself, findings of lines
-//! that are given, and readers that fail, are interrupted, or give a line in parts. Where a FILE is checked, standard input is
-//! left alone; and an object is printed whole, however long it is.
+//! Tests of what neither a clause states nor `checks/verdicts` sees of the program:
+//!
+//! - what a checker reports of itself, and findings in given lines;
+//! - readers that fail, are interrupted, or give a line in parts;
+//! - that standard input stays unread where a file is named;
+//! - that an object is printed whole, however long it is.
 
 mod files;
 mod given;
@@ -25,20 +28,20 @@ const WHOLE: &str = r#"{"type":"version"}
 {"type":"change_summary","changes":{"operation":"apply","add":1,"change":0,"remove":0}}
 "#;
 
-/// An error that explains all.
+/// An error that explains every failure.
 const ERROR: &str = r#"{"type":"diagnostic","diagnostic":{"severity":"error"}}"#;
 
-/// The value, for as long as the test runs: a proof grows with each place at which something has to be dropped.
-fn kept<'a, T: Drop + 'a>(rt: &impl Abort, alloc: Global, value: T) -> &'a mut T {
+/// Keeps the value until the process ends: a proof grows with each place that drops a value.
+fn leaked<'a, T: Drop + 'a>(rt: &impl Abort, alloc: Global, value: T) -> &'a mut T {
     Box::leak(Box::new(alloc, value).expect(rt, "memory"))
 }
 
-/// Fails where it is not so.
+/// Fails where the condition is false.
 fn holds(rt: &impl Abort, case: &str, is_so: bool) {
     assert!(rt; is_so, "{case}");
 }
 
 /// Fails where the text is another.
-fn text_is(rt: &impl Abort, case: &str, found: &str, wanted: &str) {
-    assert!(rt; found == wanted, "{case}: {found}");
+fn text_is(rt: &impl Abort, case: &str, actual: &str, wanted: &str) {
+    assert!(rt; actual == wanted, "{case}: {actual}");
 }

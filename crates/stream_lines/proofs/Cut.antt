@@ -8,10 +8,10 @@ use Rattle.std.proofs.KnownBytes.{Consumes-nil}
 use Rattle.std.proofs.lemmas.List.Elements.{All-append, All-head, All-nil, All-tail}
 use Rattle.stream_lines.specs.Cut.{first_line, has_feed}
 use Rattle.stream_lines.specs.Limits.{max_bytes}
-use Rattle.stream_lines.specs.Reading.{Gives, Shows}
-use Rattle.stream_lines.specs.declared.line_end.LineEnd.TheVariants as next
-use Rattle.stream_lines.specs.declared.piece.Piece.{Piece}
-use Rattle.stream_lines.specs.declared.piece.Piece.TheVariants as shown
+use Rattle.stream_lines.specs.Reading.{Gives, Supplies}
+use Rattle.stream_lines.specs.declared.line.LineEnd.TheVariants as next
+use Rattle.stream_lines.specs.declared.line_reader.Piece.{Piece}
+use Rattle.stream_lines.specs.declared.line_reader.Piece.TheVariants as shown
 
 -- ---- one line read in parts
 
@@ -29,7 +29,7 @@ first_line-append (x ∷ xs) ys h =
     ap (λ b. cond b [] (x ∷ first_line (xs ++ ys))) (ne_eqb x 10 (All-head (λ y. y ≢ 10) x xs h))
     ∙ ap (λ (l : List ℕ). x ∷ l) (first_line-append xs ys (All-tail (λ y. y ≢ 10) x xs h))
 
--- the first line feed behind such a front
+-- the first line feed after such a front
 feed-append : (xs ys : List ℕ) → All (λ byte. byte ≢ 10) xs → has_feed (xs ++ ys) ≡ has_feed ys
 feed-append [] ys h = refl
 feed-append (x ∷ xs) ys h =
@@ -79,7 +79,7 @@ end_given (Some xs) None line h end none = absurd h
 end_given (Some xs) (Some ys) [] h end none = (h ∙ end, end)
 end_given (Some xs) (Some ys) (x ∷ line) h end none = absurd (omega arith)
 
--- more than a line may have, whatever stands behind it
+-- more than a line may have, whatever follows
 too_long_given : (old new : Option (List ℕ)) (line more : List ℕ) → All (λ byte. byte ≢ 10) line → Consumes old new (line ++ more) → max_bytes < length line → IfSome old (Gives next.TooLong line new)
 too_long_given None new line more free h long = tt
 too_long_given (Some xs) None line more free h long = absurd h
@@ -104,7 +104,7 @@ still_no_feed a b c old piece new p = subst (All (λ byte. byte ≢ 10)) (sym p.
 still_taken : (a b c : Option (List ℕ)) (old piece new : List ℕ) → Parts a b c old piece new → Consumes b c piece → Consumes a c new
 still_taken a b c old piece new p k = subst (Consumes a c) (sym p.grown) (consumes_on a b c old piece p.taken k)
 
--- with the line feed behind them
+-- with the line feed after them
 with_feed : (a b c : Option (List ℕ)) (old piece new : List ℕ) → Parts a b c old piece new → Consumes b c (piece ++ 10 ∷ []) → Consumes a c (new ++ 10 ∷ [])
 with_feed a b c old piece new p k =
     let joined : old ++ (piece ++ 10 ∷ []) ≡ new ++ 10 ∷ [] = sym (append_assoc old piece (10 ∷ [])) ∙ ap (λ (l : List ℕ). l ++ 10 ∷ []) (sym p.grown) in
@@ -131,7 +131,7 @@ part_too_long : (a b c : Option (List ℕ)) (old piece new : List ℕ) → Parts
 part_too_long a b c old piece new p k long = too_long_given a c new [] (still_no_feed a b c old piece new p) (subst (Consumes a c) (sym (append-nil new)) (still_taken a b c old piece new p k)) long
 
 -- whatever was shown
-pub gets_too_long : (which : Piece) (a b c : Option (List ℕ)) (old piece new : List ℕ) → Parts a b c old piece new → Shows which piece b c → max_bytes < length new → IfSome a (Gives next.TooLong new c)
+pub gets_too_long : (which : Piece) (a b c : Option (List ℕ)) (old piece new : List ℕ) → Parts a b c old piece new → Supplies which piece b c → max_bytes < length new → IfSome a (Gives next.TooLong new c)
 gets_too_long shown.Part a b c old piece new p k long = part_too_long a b c old piece new p k long
 gets_too_long shown.Line a b c old piece new p k long = too_long_given a c new (10 ∷ []) (still_no_feed a b c old piece new p) (with_feed a b c old piece new p k) long
 gets_too_long shown.End a b c old piece new p k long = part_too_long a b c old piece new p k.0 long

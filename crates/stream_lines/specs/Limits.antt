@@ -1,6 +1,6 @@
--- How much is read.
+-- Limits of reading.
 use Rattle.std.specs.Prelude.{ℕ}
 
--- the greatest size of a line, 64 MiB
+-- the greatest length of a line in bytes, 64 MiB
 abbrev pub max_bytes : ℕ
 max_bytes = 67108864

@@ -1,4 +1,4 @@
-//! How much is read.
+//! Limits of reading.
 
-/// The greatest size of a line, in bytes: 64 MiB.
+/// The greatest length of a line in bytes: 64 MiB.
 pub const MAX_BYTES: usize = 67_108_864;

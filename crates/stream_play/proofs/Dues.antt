@@ -6,7 +6,7 @@ use Rattle.std.proofs.lemmas.List.{map-append}
 use Rattle.std.proofs.lemmas.Nat.{le-div}
 use Rattle.std.proofs.lemmas.List.Elements.{All-head, All-tail}
 use Rattle.std.proofs.Math.Nat.{div-mul-le_self, div-one, mul-le-mul_left, zero-div}
-use Rattle.stream_play.specs.Due.{HasTaken, Pacing, due_of, first_of, forward, greatest, time_of}
+use Rattle.stream_play.specs.Due.{HasPaced, Pacing, due_of, first_of, forward, greatest, time_of}
 
 -- ---- the first message
 
@@ -65,12 +65,12 @@ due_at_first speed xs x e =
     ap (λ (o : Option ℤ). greatest (map (time_of speed o) (xs ++ x ∷ []))) late
     ∙ greatest_of_more (time_of speed (first_of (x ∷ []))) xs x ∙ omega arith
 
--- ---- what is kept
+-- ---- the state of a pace
 
-pub taken_none : (p : Pacing) (xs : List (Option ℤ)) → HasTaken p xs → HasTaken p (xs ++ None ∷ [])
+pub taken_none : (p : Pacing) (xs : List (Option ℤ)) → HasPaced p xs → HasPaced p (xs ++ None ∷ [])
 taken_none p xs h = by_first (first_of xs) refl
   where
-    by_first : (o : Option ℤ) → first_of xs ≡ o → HasTaken p (xs ++ None ∷ [])
+    by_first : (o : Option ℤ) → first_of xs ≡ o → HasPaced p (xs ++ None ∷ [])
     by_first None e = record {
       first = h.first ∙ e ∙ sym (first_late xs (None ∷ []) e);
       due = h.due ∙ due_of_none p.speed xs e ∙ sym (due_at_first p.speed xs None e);
@@ -80,10 +80,10 @@ taken_none p xs h = by_first (first_of xs) refl
       due = h.due ∙ (let more = due_behind p.speed xs None f e in omega arith);
     }
 
-pub taken_some : (p q : Pacing) (xs : List (Option ℤ)) (m : ℤ) → q.speed ≡ p.speed → q.first ≡ Some (unwrap_or p.first m) → q.due ≡ max p.due (time_of p.speed (Some (unwrap_or p.first m)) (Some m)) → HasTaken p xs → HasTaken q (xs ++ Some m ∷ [])
+pub taken_some : (p q : Pacing) (xs : List (Option ℤ)) (m : ℤ) → q.speed ≡ p.speed → q.first ≡ Some (unwrap_or p.first m) → q.due ≡ max p.due (time_of p.speed (Some (unwrap_or p.first m)) (Some m)) → HasPaced p xs → HasPaced q (xs ++ Some m ∷ [])
 taken_some p q xs m same first due h = by_first (first_of xs) refl
   where
-    by_first : (o : Option ℤ) → first_of xs ≡ o → HasTaken q (xs ++ Some m ∷ [])
+    by_first : (o : Option ℤ) → first_of xs ≡ o → HasPaced q (xs ++ Some m ∷ [])
     by_first None e =
         let is : p.first ≡ None = h.first ∙ e in
         let now : q.first ≡ Some m = first ∙ ap (λ (o : Option ℤ). Some (unwrap_or o m)) is in
@@ -136,7 +136,7 @@ faster slow fast xs some no_less = all_smaller (time_of fast (first_of xs)) (tim
 
 -- ---- at speed 1
 
--- a moment that lies behind another is further forward
+-- a later timestamp is further forward
 further : (f a b : ℤ) → a ≤ℤ b → forward (a -ℤ f) ≤ forward (b -ℤ f)
 further f a b le = of_each (a -ℤ f) (b -ℤ f) (let e : (a -ℤ f) ≤ℤ (b -ℤ f) = omega (arith, ints) in e)
   where

@@ -1,5 +1,5 @@
 pub mod Dues
-pub mod Moments
+pub mod Timestamps
 pub mod Parsed
 pub mod Sent
 pub mod Speeds

@@ -17,7 +17,7 @@ speed_read gives (Some v) n text parses reads is numeral least greatest =
 speed_read gives None n text parses reads is numeral least greatest =
     absurd (parses text (Err reads.0) reads.1 (numeral, omega (arith, greatest)))
 
--- what is read of the option, brought into the range, is the number that its text says
+-- the value of the option, brought into the range, is the number of its text
 pub speed_is : {E : Type 0} (gives : Text → Result ℕ E → Type 0) (read : Option ℕ) (n : ℕ) (found : Option Text)
     → ((t : Text) (r : Result ℕ E) → gives t r → ParsesUnsigned 32 10 t r)
     → ((t : Text) → found ≡ Some t → ReadsOne gives t read) → n ≡ max 1 (min (unwrap_or read 1) most_speed)

@@ -7,11 +7,11 @@ use Rattle.std.proofs.KnownBytes.{Appends-kept, Appends-nil, Appends-trans}
 use Rattle.std.proofs.lemmas.Bool.{cases_Bool}
 use Rattle.std.proofs.lemmas.List.{take_rest}
 use Rattle.std.proofs.lemmas.Map.Views.{exact_unsigned_eq}
-use Rattle.stream_lines.specs.Cut.{behind_lines, first_line, has_feed}
+use Rattle.stream_lines.specs.Cut.{after_lines, first_line, has_feed}
 use Rattle.stream_lines.specs.Limits.{max_bytes}
 use Rattle.stream_lines.specs.Reading.{Gives}
-use Rattle.stream_lines.specs.declared.line_end.LineEnd.TheVariants as next
-use Rattle.stream_play.specs.Played.{FrontWritten, IsLinePlayed, IsPlayed, IsReadFault, LinesWritten}
+use Rattle.stream_lines.specs.declared.line.LineEnd.TheVariants as next
+use Rattle.stream_play.specs.Played.{FrontWritten, IsLineWritten, IsPlayed, IsReadFault, LinesWritten}
 use Rattle.stream_play.specs.declared.play_fault.PlayFault.{PlayFault}
 use Rattle.stream_play.specs.declared.play_fault.PlayFault.TheVariants as play
 
@@ -24,11 +24,11 @@ written_more a b c bytes i n before more =
 
 -- ---- line by line
 
--- so many lines of what the reader gave were written, and it has what stands behind them
+-- that many lines were written, and the reader has the bytes after them
 pub record HavePlayed (bytes : List ℕ) (left : Option (List ℕ)) (count : ℕ) (before after : Option (List ℕ)) : Type 0 where
   pub lines : LinesWritten bytes count before after
-  pub place : left ≡ Some (behind_lines count bytes)
-  pub last : 0 < count → behind_lines (count - 1) bytes ≢ []
+  pub place : left ≡ Some (after_lines count bytes)
+  pub last : 0 < count → after_lines (count - 1) bytes ≢ []
 
 abbrev pub Played : (all left : Option (List ℕ)) → (count : ℕ) → (before after : Option (List ℕ)) → Type 0
 Played all left count before after = IfSome all (λ bytes. HavePlayed bytes left count before after)
@@ -43,7 +43,7 @@ starts (Some bytes) a = record { lines = record { lines = []; cut = refl; writte
 abbrev pub closed : List ℕ → Bool → List ℕ
 closed line feed = line ++ cond feed (10 ∷ []) []
 
--- bytes are their first line and what stands behind it
+-- bytes are their first line and the bytes after it
 first_and_rest : (xs : List ℕ) → xs ≡ closed (first_line xs) (has_feed xs) ++ drop_through 10 xs
 first_and_rest [] = refl
 first_and_rest (x ∷ xs) =
@@ -51,21 +51,21 @@ first_and_rest (x ∷ xs) =
     (λ (no : eqb x 10 ≡ false). rw no (ap (λ (l : List ℕ). x ∷ l) (first_and_rest xs)))
     (cases_Bool (eqb x 10))
 
--- the bytes behind so many lines are known by their place
-placed : (bytes : List ℕ) (left rest : Option (List ℕ)) (n : ℕ) (P : List ℕ → Type 0) → left ≡ Some (behind_lines n bytes) → IfSome left P → P (behind_lines n bytes)
+-- the bytes after that many lines
+placed : (bytes : List ℕ) (left rest : Option (List ℕ)) (n : ℕ) (P : List ℕ → Type 0) → left ≡ Some (after_lines n bytes) → IfSome left P → P (after_lines n bytes)
 placed bytes left rest n P place holds = subst (λ (o : Option (List ℕ)). IfSome o P) place holds
 
-lines_more : (bytes line : List ℕ) (feed : Bool) (n : ℕ) (before mid after : Option (List ℕ)) → line ≡ first_line (behind_lines n bytes) → feed ≡ has_feed (behind_lines n bytes)
+lines_more : (bytes line : List ℕ) (feed : Bool) (n : ℕ) (before mid after : Option (List ℕ)) → line ≡ first_line (after_lines n bytes) → feed ≡ has_feed (after_lines n bytes)
     → LinesWritten bytes n before mid → Appends mid after (closed line feed) → LinesWritten bytes (n + 1) before after
 lines_more bytes line feed n before mid after is feeds h more =
-    let behind : List ℕ = behind_lines n bytes in
+    let behind : List ℕ = after_lines n bytes in
     let whole : closed line feed ≡ closed (first_line behind) (has_feed behind) = ap₂ closed is feeds in
-    let next : drop_through 10 behind ≡ behind_lines (n + 1) bytes = ap (λ (m : ℕ). behind_lines m bytes) (let e : suc n ≡ n + 1 = omega arith in e) in
+    let next : drop_through 10 behind ≡ after_lines (n + 1) bytes = ap (λ (m : ℕ). after_lines m bytes) (let e : suc n ≡ n + 1 = omega arith in e) in
     record {
       lines = h.lines ++ closed line feed;
       cut = h.cut
           ∙ ap (λ (l : List ℕ). h.lines ++ l) (first_and_rest behind ∙ ap₂ (λ (l r : List ℕ). l ++ r) (sym whole) next)
-          ∙ sym (append_assoc h.lines (closed line feed) (behind_lines (n + 1) bytes));
+          ∙ sym (append_assoc h.lines (closed line feed) (after_lines (n + 1) bytes));
       written = Appends-trans before mid after h.lines (closed line feed) h.written more;
     }
 
@@ -74,12 +74,12 @@ pub one_more : (all left rest : Option (List ℕ)) (n : ℕ) (before mid after :
 one_more None left rest n before mid after line feed h gives more = tt
 one_more (Some bytes) left rest n before mid after line feed h gives more =
     let k = placed bytes left rest n (Gives (next.Line feed) line rest) h.place gives in
-    let next : drop_through 10 (behind_lines n bytes) ≡ behind_lines (n + 1) bytes = ap (λ (m : ℕ). behind_lines m bytes) (let e : suc n ≡ n + 1 = omega arith in e) in
+    let next : drop_through 10 (after_lines n bytes) ≡ after_lines (n + 1) bytes = ap (λ (m : ℕ). after_lines m bytes) (let e : suc n ≡ n + 1 = omega arith in e) in
     let number : n ≡ n + 1 - 1 = omega arith in
     record {
       lines = lines_more bytes line feed n before mid after k.1 k.3 h.lines more;
       place = k.2 ∙ ap Some next;
-      last = λ some. subst (λ (m : ℕ). behind_lines m bytes ≢ []) number k.0;
+      last = λ some. subst (λ (m : ℕ). after_lines m bytes ≢ []) number k.0;
     }
 
 -- ---- what is the same with a flush
@@ -110,7 +110,7 @@ too_long (Some bytes) left rest n a b line h gives =
     let k = placed bytes left rest n (Gives next.TooLong line rest) h.place gives in
     let number : n ≡ n + 1 - 1 = omega arith in (
       subst (λ (m : ℕ). LinesWritten bytes m a b) number h.lines,
-      subst (λ (m : ℕ). max_bytes < length (first_line (behind_lines m bytes))) number k.1,
+      subst (λ (m : ℕ). max_bytes < length (first_line (after_lines m bytes))) number k.1,
     )
 
 pub too_many : (all left : Option (List ℕ)) (n : ℕ) (a b : Option (List ℕ)) → n ≡ 2 ^ 64 - 1 → Played all left n a b → IfSome all (λ bytes. IsPlayed bytes a b (Err play.TooMany))
@@ -127,14 +127,14 @@ unread play.TooMany (Some bytes) left n a b c h keeps is = absurd is
 unread (play.Unread failed) (Some bytes) left n a b c h keeps is = (n, lines_kept bytes n a b c h.lines keeps)
 unread play.Memory (Some bytes) left n a b c h keeps is = (n, lines_kept bytes n a b c h.lines keeps)
 unread play.Gone (Some bytes) left n a b c h keeps is =
-    record { front = h.lines.lines; rest = behind_lines n bytes; cut = h.lines.cut; written = Appends-kept a b c h.lines.lines h.lines.written keeps }
+    record { front = h.lines.lines; rest = after_lines n bytes; cut = h.lines.cut; written = Appends-kept a b c h.lines.lines h.lines.written keeps }
 unread play.Unwritten (Some bytes) left n a b c h keeps is =
-    record { front = h.lines.lines; rest = behind_lines n bytes; cut = h.lines.cut; written = Appends-kept a b c h.lines.lines h.lines.written keeps }
+    record { front = h.lines.lines; rest = after_lines n bytes; cut = h.lines.cut; written = Appends-kept a b c h.lines.lines h.lines.written keeps }
 
 -- where a part of it was
-part_of_line : (bytes whole : List ℕ) (n k : ℕ) (a b c : Option (List ℕ)) → behind_lines n bytes ≡ whole ++ drop_through 10 (behind_lines n bytes) → LinesWritten bytes n a b → Appends b c (take k whole) → FrontWritten bytes a c
+part_of_line : (bytes whole : List ℕ) (n k : ℕ) (a b c : Option (List ℕ)) → after_lines n bytes ≡ whole ++ drop_through 10 (after_lines n bytes) → LinesWritten bytes n a b → Appends b c (take k whole) → FrontWritten bytes a c
 part_of_line bytes whole n k a b c is h part =
-    let rest : List ℕ = drop_through 10 (behind_lines n bytes) in
+    let rest : List ℕ = drop_through 10 (after_lines n bytes) in
     record {
       front = h.lines ++ take k whole;
       rest = drop k whole ++ rest;
@@ -144,7 +144,7 @@ part_of_line bytes whole n k a b c is h part =
       written = Appends-trans a b c h.lines (take k whole) h.written part;
     }
 
-line_fault : (fault : PlayFault) (bytes whole : List ℕ) (n : ℕ) (a b c : Option (List ℕ)) → behind_lines n bytes ≡ whole ++ drop_through 10 (behind_lines n bytes) → LinesWritten bytes n a b → IsLinePlayed whole b c (Err fault) → IsPlayed bytes a c (Err fault)
+line_fault : (fault : PlayFault) (bytes whole : List ℕ) (n : ℕ) (a b c : Option (List ℕ)) → after_lines n bytes ≡ whole ++ drop_through 10 (after_lines n bytes) → LinesWritten bytes n a b → IsLineWritten whole b c (Err fault) → IsPlayed bytes a c (Err fault)
 line_fault (play.TooLong number) bytes whole n a b c is h played = absurd played
 line_fault play.TooMany bytes whole n a b c is h played = absurd played
 line_fault (play.Unread failed) bytes whole n a b c is h played = absurd played
@@ -153,10 +153,10 @@ line_fault play.Gone bytes whole n a b c is h played = part_of_line bytes whole 
 line_fault play.Unwritten bytes whole n a b c is h played = part_of_line bytes whole n played.0 a b c is h played.1
 
 pub line_failed : (fault : PlayFault) (all left rest : Option (List ℕ)) (n : ℕ) (a b c : Option (List ℕ)) (line : List ℕ) (feed : Bool)
-    → Played all left n a b → IfSome left (Gives (next.Line feed) line rest) → IsLinePlayed (closed line feed) b c (Err fault) → IfSome all (λ bytes. IsPlayed bytes a c (Err fault))
+    → Played all left n a b → IfSome left (Gives (next.Line feed) line rest) → IsLineWritten (closed line feed) b c (Err fault) → IfSome all (λ bytes. IsPlayed bytes a c (Err fault))
 line_failed fault None left rest n a b c line feed h gives played = tt
 line_failed fault (Some bytes) left rest n a b c line feed h gives played =
     let k = placed bytes left rest n (Gives (next.Line feed) line rest) h.place gives in
-    let behind : List ℕ = behind_lines n bytes in
+    let behind : List ℕ = after_lines n bytes in
     let whole : closed (first_line behind) (has_feed behind) ≡ closed line feed = ap₂ closed (sym k.1) (sym k.3) in
     line_fault fault bytes (closed line feed) n a b c (first_and_rest behind ∙ ap (λ (l : List ℕ). l ++ drop_through 10 behind) whole) h.lines played

@@ -1,4 +1,4 @@
 pub mod CommandLine
 pub mod Due
-pub mod Moment
+pub mod Timestamp
 pub mod Played

@@ -3,12 +3,12 @@
 
 mod command;
 mod laws;
-mod moment;
 mod pace;
 mod play_fault;
 mod playing;
 mod shape;
 mod speed;
+mod timestamp;
 mod timing;
 mod watch;
 mod writing;
@@ -21,8 +21,8 @@ pub use command::settings::Settings;
 pub use laws::{
     at_speed_1_a_due_is_the_time_from_the_first, dues_never_fall, greater_speed_gives_no_later_due,
 };
-pub use moment::moment_of;
 pub use pace::Pace;
 pub use play_fault::PlayFault;
 pub use playing::play;
 pub use speed::Speed;
+pub use timestamp::timestamp_of;

@@ -1,14 +1,15 @@
-//! When the lines of a stream are due.
+//! Computes when the lines of a stream are due.
 
 ghost use Rattle.std.specs.Prelude.{◌≡◌, ◌++◌, ◌∷◌, [], ℤ, List, Option, Some};
-ghost use Rattle.stream_play.specs.Due.{HasTaken, time_of};
+ghost use Rattle.stream_play.specs.Due.{HasPaced, time_of};
 
 use crate::speed::Speed;
 use std::marker::Model;
 
-/// When the lines of a stream are due, one after another, in microseconds since the first message was read.
+/// Computes when one line after another is due, in microseconds after the first message was read.
 ///
-/// Contracts see the speed, the moment of the first message so far, and the due of the line before.
+/// Contracts see the speed, the timestamp of the first message so far, and the due time of the line
+/// before.
 #[derive(Drop)]
 pub struct Pace {
     speed: Speed,
@@ -25,10 +26,10 @@ impl Model for Pace {
 }
 
 impl Pace {
-    /// Before any line.
+    /// A pace that has read no line.
     pub fn new(speed: Speed) -> Pace
         ensures speed { result.speed ≡ speed }
-        ensures taken { HasTaken result [] }
+        ensures paced { HasPaced result [] }
     {
         Pace {
             speed,
@@ -37,30 +38,31 @@ impl Pace {
         }
     }
 
-    /// When the next line is due, whose message has that moment, in microseconds since the start of 1970; none where it is no
-    /// message, or has none.
-    pub fn line(&mut self, moment: Option<i64>) -> u64
+    /// Returns when the next line is due. `timestamp` is in microseconds since 1970. It is `None`
+    /// where the line is no message, or states no timestamp.
+    pub fn line(&mut self, timestamp: Option<i64>) -> u64
         ensures speed { self.new.speed ≡ self.old.speed }
         ensures due { result ≡ self.new.due }
-        ensures taken { (moments : List (Option ℤ)) → HasTaken self.old moments
-            → HasTaken self.new (moments ++ moment ∷ []) }
+        ensures paced { (timestamps : List (Option ℤ)) → HasPaced self.old timestamps
+            → HasPaced self.new (timestamps ++ timestamp ∷ []) }
     {
-        let Some(moment) = moment else {
+        let Some(timestamp) = timestamp else {
             return self.due;
         };
-        let first = self.first.unwrap_or(moment);
+        let first = self.first.unwrap_or(timestamp);
         self.first = Some(first);
-        self.due = self.due.max(time(self.speed, first, moment));
+        self.due = self.due.max(time(self.speed, first, timestamp));
         self.due
     }
 }
 
-/// How long after the first message that moment comes at that speed, in microseconds; 0 where it lies before it.
-fn time(speed: Speed, first: i64, moment: i64) -> u64
-    ensures { result ≡ time_of speed (Some first) (Some moment) }
+/// Returns the time from the first message to the timestamp, divided by the speed, in microseconds.
+/// It is 0 for an earlier timestamp.
+fn time(speed: Speed, first: i64, timestamp: i64) -> u64
+    ensures { result ≡ time_of speed (Some first) (Some timestamp) }
 {
-    if moment < first {
+    if timestamp < first {
         return 0;
     }
-    moment.abs_diff(first) / speed.times() as u64
+    timestamp.abs_diff(first) / speed.times() as u64
 }

@@ -11,10 +11,10 @@ use thiserror::Error;
 /// Why a stream was not played to its end.
 #[derive(Clone, Copy, Debug, Drop, Error, PartialEq, Eq)]
 pub enum PlayFault {
-    /// The line of that number, counted from 1, is too long.
+    /// This line, counted from 1, has more than 67,108,864 bytes.
     #[error("line {0} is longer than 67108864 bytes")]
     TooLong(u64),
-    /// It has more than 18,446,744,073,709,551,614 lines.
+    /// The stream has more than 18,446,744,073,709,551,614 lines.
     #[error("the stream has more than 18446744073709551614 lines")]
     TooMany,
     /// A read failed.
@@ -23,7 +23,7 @@ pub enum PlayFault {
     /// Memory was refused.
     #[error("out of memory")]
     Memory,
-    /// A write or a flush failed since the reader of the output is gone, as the writer's error says.
+    /// A write or a flush failed because the reader of the output is gone (`BrokenPipe`).
     #[error("the output could not be written")]
     Gone,
     /// A write or a flush failed for another reason.

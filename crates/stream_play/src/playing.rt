@@ -1,9 +1,9 @@
-//! Playing a stream.
+//! Plays a stream: each line at its own time.
 
 ghost use Rattle.std.specs.Prelude.{◌≡◌, ◌++◌, ◌∷◌, [], IfErr, IfOk, IfSome, OnOk, OnSome, if◌then◌else◌};
 ghost use Rattle.std.specs.Io.Buffered.{reader_remaining};
 ghost use Rattle.std.specs.Io.KnownBytes.{IsAtEnd, Keeps};
-ghost use Rattle.stream_play.specs.Played.{IsLinePlayed, IsPlayed, IsReadFault};
+ghost use Rattle.stream_play.specs.Played.{IsLineWritten, IsPlayed, IsReadFault};
 ghost use Rattle.stream_lines.specs.Reading.{Gives};
 
 use crate::play_fault::PlayFault;
@@ -16,17 +16,24 @@ use std::io::{BufReader, Read, Write};
 use std::time::Clock;
 use stream_lines::{LineEnd, next_line};
 
-/// Writes the lines that the reader gives, as they stand, each when its time has come: so many times as fast as they came, by
-/// the moments of their messages, counted from when the first message was read. A line that is no message, or whose moment
-/// goes back, follows the one before it at once; where the clock can't be read no line is waited for.
+/// Writes the lines of the reader unchanged, each when it is due.
 ///
-/// What was written is flushed before each sleep, and before each read of the input while no whole line of it is at hand, so
-/// also before the read that finds its end.
+/// A line is due at the time of its timestamp, counted from the first message and divided by the
+/// speed. The count starts when the first message was read. A line follows at once where it is no
+/// message, or its timestamp goes back. Where the clock can't be read, no line waits.
 ///
-/// `Err` with `PlayFault::TooLong` at a line of more than 67,108,864 bytes, with `PlayFault::Unread` where a read fails, and
-/// with `PlayFault::Memory` where memory is refused: then whole lines were written; so they were where there are too many, for
-/// `PlayFault::TooMany`. `Err` with `PlayFault::Gone` or `PlayFault::Unwritten` where a write or a flush fails: then a front of
-/// the stream was written. In each case nothing is read or written behind it.
+/// The output is flushed before each sleep. It is also flushed before each read of the input while
+/// no whole line is buffered.
+///
+/// These errors leave whole lines on the output:
+///
+/// - `PlayFault::TooLong`: a line has more than 67,108,864 bytes.
+/// - `PlayFault::TooMany`: the stream has more than 2^64 - 2 lines.
+/// - `PlayFault::Unread`: a read failed.
+/// - `PlayFault::Memory`: memory was refused.
+///
+/// `PlayFault::Gone` and `PlayFault::Unwritten` report a failed write or flush, and may leave a part
+/// of a line. After an error, nothing more is read or written.
 pub fn play<R: Read, W: Write, C: Clock>(
     alloc: Global,
     clock: &C,
@@ -60,8 +67,10 @@ pub fn play<R: Read, W: Write, C: Clock>(
     Err(PlayFault::TooMany)
 }
 
-/// Reads the next line, without its line feed. What was written is sent on before, unless a whole line is at hand: else the
-/// read may have to wait for one.
+/// Reads the next line, without its line feed. The output is flushed first, unless a whole line is
+/// buffered: the read may have to wait.
+///
+/// `Err` where the read or the flush fails, or memory is refused.
 fn read_next<R: Read, W: Write>(
     reader: &mut BufReader<R>,
     line: &mut Vec<u8>,
@@ -78,7 +87,9 @@ fn read_next<R: Read, W: Write>(
     Ok(next_line(reader, line)?)
 }
 
-/// Writes a line that was read just now, when it is due, with its line feed, where it had one.
+/// Writes a line that was just read, when it is due, with its line feed where it had one.
+///
+/// `Err` where a write or a flush fails, or memory is refused.
 fn play_line<W: Write, C: Clock>(
     alloc: Global,
     clock: &C,
@@ -87,7 +98,7 @@ fn play_line<W: Write, C: Clock>(
     has_feed: bool,
     output: &mut W,
 ) -> Result<(), PlayFault>
-    ensures { IsLinePlayed (line.old.items ++ (if has_feed then 10 ∷ [] else [])) (W.contents output.old) (W.contents output.new) result }
+    ensures { IsLineWritten (line.old.items ++ (if has_feed then 10 ∷ [] else [])) (W.contents output.old) (W.contents output.new) result }
 {
     match close(line, has_feed) {
         Ok(()) => write_when_due(alloc, clock, timing, line, output),
@@ -95,7 +106,7 @@ fn play_line<W: Write, C: Clock>(
     }
 }
 
-/// Gives the line its line feed back, where it had one. `Err` where memory is refused.
+/// Adds the line feed where the line had one. `Err` where memory is refused.
 fn close(line: &mut Vec<u8>, has_feed: bool) -> Result<(), AllocError>
     ensures { OnOk result (line.new.items ≡ line.old.items ++ (if has_feed then 10 ∷ [] else [])) }
 {
@@ -105,7 +116,8 @@ fn close(line: &mut Vec<u8>, has_feed: bool) -> Result<(), AllocError>
     Ok(())
 }
 
-/// Writes the bytes of a line that was read just now, when it is due.
+/// Waits until the line is due, then writes it. `Err` where a write or a flush fails, or memory is
+/// refused.
 fn write_when_due<W: Write, C: Clock>(
     alloc: Global,
     clock: &C,
@@ -113,7 +125,7 @@ fn write_when_due<W: Write, C: Clock>(
     line: &[u8],
     output: &mut W,
 ) -> Result<(), PlayFault>
-    ensures { IsLinePlayed line.now (W.contents output.old) (W.contents output.new) result }
+    ensures { IsLineWritten line.now (W.contents output.old) (W.contents output.new) result }
 {
     let due = timing.due(alloc, clock, line)?;
     timing.wait(clock, due, output)?;

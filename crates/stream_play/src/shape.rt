@@ -1,14 +1,14 @@
-//! What of a line is looked at.
+//! The members of a line that are read.
 
 ghost use Rattle.std.specs.Prelude.{◌≡◌};
-ghost use Rattle.stream_play.specs.Moment.{line_selection};
+ghost use Rattle.stream_play.specs.Timestamp.{line_selection};
 
 use apply_json_tree::Shape;
 
-/// What of a line is looked at: what says that it is a message, and when that came.
+/// Which members of a line are read: `type` marks a message, `@timestamp` is its time.
 #[derive(Clone, Copy)]
 pub enum LineShape {
-    /// Neither a member nor an item.
+    /// A value without members or items of interest.
     Scalar,
     /// A line.
     Line,

@@ -8,7 +8,8 @@ use std::marker::Model;
 /// The greatest speed: a day in a second.
 const MOST: u32 = 86_400;
 
-/// How many times as fast as it was written a stream is played: 1 to 86,400. Contracts see the number.
+/// How many times as fast as its timestamps a stream is played: 1 to 86,400. Contracts see the
+/// number.
 #[derive(Clone, Copy, Debug, PartialEq, Eq)]
 pub struct Speed {
     times: u32,
@@ -28,7 +29,7 @@ impl Model for Speed {
 }
 
 impl Speed {
-    /// The speed of that number, or the nearest one where it lies beyond the range.
+    /// The speed of that number. A number out of range gives the nearest speed.
     pub fn new(times: u32) -> Speed
         ensures { result ≡ max 1 (min times most_speed) }
     {
@@ -37,7 +38,7 @@ impl Speed {
         }
     }
 
-    /// The number.
+    /// The speed as a number.
     pub(crate) fn times(self) -> u32
         ensures value { result ≡ self }
         ensures some { 1 ≤ result }

@@ -1,16 +1,16 @@
-//! Waiting until a line is due.
+//! Waits until a line is due.
 
 ghost use Rattle.std.specs.Prelude.{◌≡◌, ◌++◌, ◌∷◌, [], ℤ, IfErr, IfOk, List, Option};
 ghost use Rattle.std.specs.Io.KnownBytes.{Keeps};
-ghost use Rattle.stream_play.specs.Due.{HasTaken};
-ghost use Rattle.stream_play.specs.Moment.{moment_of};
+ghost use Rattle.stream_play.specs.Due.{HasPaced};
+ghost use Rattle.stream_play.specs.Timestamp.{timestamp_of};
 ghost use Rattle.stream_play.specs.Played.{IsWriteFault};
 ghost use Rattle.stream_play.specs.declared.play_fault.PlayFault.TheVariants.{Memory};
 
-use crate::moment::moment_of;
 use crate::pace::Pace;
 use crate::play_fault::PlayFault;
 use crate::speed::Speed;
+use crate::timestamp::timestamp_of;
 use crate::watch::Watch;
 use crate::writing::flush;
 use apply_json::Scratch;
@@ -19,20 +19,20 @@ use std::io::Write;
 use std::thread;
 use std::time::Clock;
 
-/// What is kept from line to line, to know when the next one is due.
+/// What is stored between lines, to know when the next line is due.
 #[derive(Drop)]
 pub struct Timing {
     pace: Pace,
     watch: Watch,
-    /// Room for reading a line.
+    /// Reused for parsing each line.
     scratch: Scratch,
 }
 
 impl Timing {
-    /// Before any line.
+    /// A state that has read no line.
     pub fn new(alloc: Global, speed: Speed) -> Timing
         ensures speed { result.pace.speed ≡ speed }
-        ensures taken { HasTaken result.pace [] }
+        ensures paced { HasPaced result.pace [] }
     {
         Timing {
             pace: Pace::new(speed),
@@ -41,25 +41,25 @@ impl Timing {
         }
     }
 
-    /// When the next line is due, which was read just now, in microseconds since the first message was. `Err` where memory is
-    /// refused.
+    /// Returns when the line that was just read is due, in microseconds after the first message was
+    /// read. `Err` with `PlayFault::Memory` where memory is refused.
     pub fn due<C: Clock>(&mut self, alloc: Global, clock: &C, line: &[u8]) -> Result<u64, PlayFault>
         ensures speed { self.new.pace.speed ≡ self.old.pace.speed }
         ensures due { IfOk result (λ due. due ≡ self.new.pace.due) }
-        ensures taken { IfOk result (λ due. (moments : List (Option ℤ)) → HasTaken self.old.pace moments
-            → HasTaken self.new.pace (moments ++ moment_of line.now ∷ [])) }
+        ensures paced { IfOk result (λ due. (timestamps : List (Option ℤ)) → HasPaced self.old.pace timestamps
+            → HasPaced self.new.pace (timestamps ++ timestamp_of line.now ∷ [])) }
         ensures err { IfErr result (λ fault. fault ≡ Memory) }
     {
-        let moment = moment_of(alloc, &mut self.scratch, line)?;
-        self.watch = match (self.watch, moment) {
+        let timestamp = timestamp_of(alloc, &mut self.scratch, line)?;
+        self.watch = match (self.watch, timestamp) {
             (Watch::Waiting, Some(_)) => Watch::begun(clock),
             (watch, _) => watch,
         };
-        Ok(self.pace.line(moment))
+        Ok(self.pace.line(timestamp))
     }
 
-    /// Waits until so many microseconds have gone by since the first message was read. What was written is flushed before;
-    /// a sleep that ends early is begun again. `Err` where the flush fails.
+    /// Waits until `due` microseconds have passed since the first message was read. The output is
+    /// flushed before each sleep. A sleep that ends early is repeated. `Err` where the flush fails.
     pub fn wait<C: Clock, W: Write>(
         &self,
         clock: &C,

@@ -2,19 +2,19 @@
 
 use std::time::{Clock, Duration, Instant};
 
-/// The time since the first message was read, by a clock that never goes back.
+/// The time since the first message was read, by a monotonic clock.
 #[derive(Clone, Copy)]
 pub enum Watch {
     /// No message was read yet.
     Waiting,
-    /// It was read then.
+    /// The first message was read at this instant.
     Since(Instant),
-    /// The clock could not be read then, so that nothing is waited for.
+    /// The clock could not be read, so no line waits.
     Unknown,
 }
 
 impl Watch {
-    /// Counts from now on.
+    /// Starts to count now.
     pub fn begun<C: Clock>(clock: &C) -> Watch {
         match Instant::now(clock) {
             Ok(now) => Watch::Since(now),
@@ -22,7 +22,8 @@ impl Watch {
         }
     }
 
-    /// How long it is until so many microseconds have gone by; nothing where they have, and where the clock can't be read.
+    /// Returns how long to wait until `due` microseconds have passed. It is zero where they have,
+    /// and where the clock can't be read.
     pub fn rest<C: Clock>(self, clock: &C, due: u64) -> Duration {
         let Watch::Since(begin) = self else {
             return Duration::ZERO;

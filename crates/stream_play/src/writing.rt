@@ -1,4 +1,4 @@
-//! Lines that go out.
+//! Writes to the output.
 
 ghost use Rattle.std.specs.Prelude.{ℕ, IfErr, OnErr, OnOk, take};
 ghost use Rattle.std.specs.Io.KnownBytes.{Appends, Keeps};
@@ -7,10 +7,11 @@ ghost use Rattle.stream_play.specs.Played.{IsWriteFault};
 use crate::play_fault::PlayFault;
 use std::io::{self, ErrorKind, Write};
 
-/// Writes all of the bytes, by as many writes as it takes; one that a signal interrupts is tried again.
+/// Writes all bytes, in as many writes as needed. An interrupted write is repeated.
 ///
-/// `Err` with `PlayFault::Gone` where a write fails since the reader of the output is gone, and with `PlayFault::Unwritten`
-/// where it fails otherwise or takes nothing: then some of the first bytes were written.
+/// `Err` with `PlayFault::Gone` where the reader of the output is gone. `Err` with
+/// `PlayFault::Unwritten` where a write fails otherwise, or writes nothing. A front of the bytes
+/// may be written then.
 pub fn write_whole<W: Write>(output: &mut W, bytes: &[u8]) -> Result<(), PlayFault>
     ensures ok { OnOk result (Appends (W.contents output.old) (W.contents output.new) bytes.now) }
     ensures part { OnErr result ((n : ℕ) × Appends (W.contents output.old) (W.contents output.new) (take n bytes.now)) }
@@ -32,7 +33,7 @@ pub fn write_whole<W: Write>(output: &mut W, bytes: &[u8]) -> Result<(), PlayFau
     Err(PlayFault::Unwritten)
 }
 
-/// Sends on what was written. `Err` with `PlayFault::Gone` or `PlayFault::Unwritten` where that fails, as a write does.
+/// Flushes the output. `Err` with `PlayFault::Gone` or `PlayFault::Unwritten`, as for a write.
 pub fn flush<W: Write>(output: &mut W) -> Result<(), PlayFault>
     ensures bytes { Keeps (W.contents output.old) (W.contents output.new) }
     ensures err { IfErr result IsWriteFault }
@@ -43,7 +44,7 @@ pub fn flush<W: Write>(output: &mut W) -> Result<(), PlayFault>
     }
 }
 
-/// What a failed write or flush is.
+/// Classifies a failed write or flush.
 fn write_fault(error: &io::Error) -> PlayFault
     ensures { IsWriteFault result }
 {

@@ -8,13 +8,13 @@ use Rattle.std.proofs.lemmas.List.Elements.{recursion_from_All}
 use Rattle.std.proofs.lemmas.List.Sums.{sum_by-cons, sum_by-le-sum_by}
 use Rattle.stream_timeline.specs.declared.numbers.interval.Interval.{Interval}
 use Rattle.stream_timeline.specs.declared.numbers.stretch.Stretch.{Stretch}
-use Rattle.stream_timeline.specs.declared.told.moments.Moments.{Moments}
+use Rattle.stream_timeline.specs.declared.reading.time_range.TimeRange.{TimeRange}
 use Rattle.stream_timeline.specs.Intervals.{intervals_from, intervals_of, is_counted}
 use Rattle.stream_timeline.specs.Numbers.{busy_in, stretch_length}
-use Rattle.stream_timeline.specs.Steps.{ToldStep}
+use Rattle.stream_timeline.specs.Steps.{StepRead}
 use Rattle.stream_timeline.specs.Stretches.{AreInOrder, IsOrdered, IsSmallInterval, cuts, put, stretch_of, stretches_between, stretches_of}
 use Rattle.stream_timeline.proofs.Cuts.{Ascends, cuts_ascend}
-use Rattle.stream_timeline.proofs.Kept.{all_from}
+use Rattle.stream_timeline.proofs.SweptSoFar.{all_from}
 
 -- ---- an end is no sooner than its begin
 
@@ -34,7 +34,7 @@ gap_max f a x =
     (λ (less : int_lt x a ≡ false). rw less (gap_rises f a x less))
     (cases_Bool (int_lt x a))
 
-all_ordered : (m : Moments) (n : ℕ) (steps : List ToldStep) → AllByRecursion IsOrdered (intervals_from m n steps)
+all_ordered : (m : TimeRange) (n : ℕ) (steps : List StepRead) → AllByRecursion IsOrdered (intervals_from m n steps)
 all_ordered m n [] = tt
 all_ordered m n (step ∷ steps) =
     ⊎_elim
@@ -42,7 +42,7 @@ all_ordered m n (step ∷ steps) =
     (λ (out : is_counted step ≡ false). rw out (all_ordered m (n + 1) steps))
     (cases_Bool (is_counted step))
 
-pub intervals_ordered : (m : Moments) (steps : List ToldStep) → All IsOrdered (intervals_of m steps)
+pub intervals_ordered : (m : TimeRange) (steps : List StepRead) → All IsOrdered (intervals_of m steps)
 intervals_ordered m steps = all_from IsOrdered (intervals_of m steps) (all_ordered m 0 steps)
 
 -- ---- the lengths of the stretches add up to no more than the last cut
@@ -96,9 +96,9 @@ lengths_fit : (is : List Interval) → All IsOrdered is → All IsSmallInterval 
 lengths_fit is o s = let all = lengths_within 18446744073709551615 is o (small_end is (recursion_from_All IsSmallInterval is s)) in omega (arith, all)
 
 -- so they are of the steps of a stream
-pub told_fit : (m : Moments) (steps : List ToldStep) (found : List Interval) (ss : List Stretch) → found ≡ intervals_of m steps → All IsSmallInterval found → ss ≡ stretches_of found
+pub intervals_fit : (m : TimeRange) (steps : List StepRead) (value : List Interval) (ss : List Stretch) → value ≡ intervals_of m steps → All IsSmallInterval value → ss ≡ stretches_of value
     → sum_by stretch_length ss < 2 ^ 64
-told_fit m steps found ss is small same =
+intervals_fit m steps value ss is small same =
     let fit = lengths_fit (intervals_of m steps) (intervals_ordered m steps) (subst (λ (xs : List Interval). All IsSmallInterval xs) is small) in
     rw (same, is) fit
 

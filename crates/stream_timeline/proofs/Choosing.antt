@@ -6,13 +6,13 @@ use Rattle.std.proofs.lemmas.List.{length-drop}
 use Rattle.std.proofs.lemmas.List.Elements.{All-from_recursion, recursion_from_All}
 use Rattle.std.proofs.lemmas.List.Sorted.{All-permutation, IsPermutation-sym, sum_by-IsPermutation}
 use Rattle.std.proofs.lemmas.List.Sums.{length-filter}
-use Rattle.stream_timeline.specs.declared.rows.candidate.Candidate.{Candidate}
+use Rattle.stream_timeline.specs.declared.rows.choosing.Candidate.{Candidate}
 use Rattle.stream_timeline.specs.declared.rows.choosing.Rows.{Rows}
-use Rattle.stream_timeline.specs.declared.told.moments.Moments.{Moments}
+use Rattle.stream_timeline.specs.declared.reading.time_range.TimeRange.{TimeRange}
 use Rattle.stream_timeline.specs.Intervals.{span_of}
-use Rattle.stream_timeline.specs.Rows.{AreRanked, AreRowsOf, IsPrintedBefore, candidates_of, gets_row, is_chosen, longest, together}
-use Rattle.stream_timeline.specs.Steps.{ToldStep}
-use Rattle.stream_timeline.proofs.Ranking.{chosen_at, is_at, none_behind}
+use Rattle.stream_timeline.specs.Rows.{AreRanked, AreRowsOf, IsPrintedBefore, candidates_of, gets_row, is_chosen, longest, total_length}
+use Rattle.stream_timeline.specs.Steps.{StepRead}
+use Rattle.stream_timeline.proofs.Ranking.{chosen_at, is_at, none_after}
 use Rattle.stream_timeline.proofs.Sums.{filtered_sum, weighed}
 
 -- ---- a front that passes, where nothing behind it does
@@ -20,15 +20,15 @@ use Rattle.stream_timeline.proofs.Sums.{filtered_sum, weighed}
 filter_front : (test : Candidate → Bool) (xs : List Candidate) (n : ℕ) → n ≤ length xs → ((k : ℕ) (d : Candidate) → k < n → test (get_or xs k d) ≡ true)
     → ((k : ℕ) (d : Candidate) → n ≤ k → k < length xs → test (get_or xs k d) ≡ false)
     → (filter test xs ≡ take n xs) × (filter (λ c. not (test c)) xs ≡ drop n xs)
-filter_front test [] zero l front behind = (refl, refl)
-filter_front test [] (suc n) l front behind = absurd (omega arith)
-filter_front test (x ∷ xs) zero l front behind =
-    let out : test x ≡ false = behind 0 x (omega arith) (omega arith) in
-    let rest = filter_front test xs zero (omega arith) (λ k d h. absurd (omega arith)) (λ k d h r. behind (suc k) d (omega arith) (omega arith)) in
+filter_front test [] zero l front after = (refl, refl)
+filter_front test [] (suc n) l front after = absurd (omega arith)
+filter_front test (x ∷ xs) zero l front after =
+    let out : test x ≡ false = after 0 x (omega arith) (omega arith) in
+    let rest = filter_front test xs zero (omega arith) (λ k d h. absurd (omega arith)) (λ k d h r. after (suc k) d (omega arith) (omega arith)) in
     rw out (rest.0, ap (λ cs. x ∷ cs) rest.1)
-filter_front test (x ∷ xs) (suc n) l front behind =
+filter_front test (x ∷ xs) (suc n) l front after =
     let passes : test x ≡ true = front 0 x (omega arith) in
-    let rest = filter_front test xs n (omega arith) (λ k d h. front (suc k) d (omega arith)) (λ k d h r. behind (suc k) d (omega arith) (omega arith)) in
+    let rest = filter_front test xs n (omega arith) (λ k d h. front (suc k) d (omega arith)) (λ k d h r. after (suc k) d (omega arith) (omega arith)) in
     rw passes (ap (λ cs. x ∷ cs) rest.0, rest.1)
 
 -- ---- what passes, in another order
@@ -81,14 +81,14 @@ same_longest test xs ys perm =
 pub record IsFront (limit : Option ℕ) (span : ℕ) (xs : List Candidate) (n : ℕ) : Type 0 where
   pub bound : n ≤ length xs
   pub before : (k : ℕ) (d : Candidate) → k < n → gets_row limit span k (get_or xs k d) ≡ true
-  pub behind : (d : Candidate) → n < length xs → gets_row limit span n (get_or xs n d) ≡ false
+  pub after : (d : Candidate) → n < length xs → gets_row limit span n (get_or xs n d) ≡ false
 
 none_from : (limit : Option ℕ) (span : ℕ) (xs : List Candidate) (n : ℕ) → AreRanked xs → IsFront limit span xs n
     → (k : ℕ) (d : Candidate) → n ≤ k → k < length xs → gets_row limit span k (get_or xs k d) ≡ false
 none_from limit span xs n ranked front k d l within =
     ⊎_elim
-    (λ (later : n < k). none_behind limit span xs n k d ranked later within (front.behind d (omega arith)))
-    (λ (not_later : k ≤ n). let same : n ≡ k = omega arith in subst (λ (j : ℕ). gets_row limit span j (get_or xs j d) ≡ false) same (front.behind d (omega arith)))
+    (λ (later : n < k). none_after limit span xs n k d ranked later within (front.after d (omega arith)))
+    (λ (not_later : k ≤ n). let same : n ≡ k = omega arith in subst (λ (j : ℕ). gets_row limit span j (get_or xs j d) ≡ false) same (front.after d (omega arith)))
     (cases_lt n k)
 
 front_is : (limit : Option ℕ) (span : ℕ) (all xs : List Candidate) (n : ℕ) → IsPermutation all xs → AreRanked xs → IsFront limit span xs n
@@ -99,10 +99,10 @@ front_is limit span all xs n perm ranked front =
     (λ k d l. chosen_at limit span all xs k d perm ranked (omega (arith, bound)) ∙ front.before k d l)
     (λ k d l within. chosen_at limit span all xs k d perm ranked within ∙ none_from limit span xs n ranked front k d l within)
 
-pub rows_are : (m : Moments) (steps : List ToldStep) (limit : Option ℕ) (xs : List Candidate) (n : ℕ) (rows : Rows)
+pub rows_are : (m : TimeRange) (steps : List StepRead) (limit : Option ℕ) (xs : List Candidate) (n : ℕ) (rows : Rows)
     → IsPermutation (candidates_of m steps) xs → AreRanked xs → IsFront limit (span_of m) xs n
     → ((p : ℕ) → count_by (λ shown. eqb shown p) rows.places.items ≡ count_by (is_at p) (take n xs)) → AllPairs (IsPrintedBefore steps) rows.places.items
-    → rows.left_out ≡ length xs - n → rows.longest ≡ longest (drop n xs) → rows.together ≡ together (drop n xs) → AreRowsOf m steps limit rows
+    → rows.left_out ≡ length xs - n → rows.longest ≡ longest (drop n xs) → rows.total_length ≡ total_length (drop n xs) → AreRowsOf m steps limit rows
 rows_are m steps limit xs n rows perm ranked front shown ordered number greatest sum =
     let all = candidates_of m steps in
     let is = front_is limit (span_of m) all xs n perm ranked front in
@@ -112,5 +112,5 @@ rows_are m steps limit xs n rows perm ranked front shown ordered number greatest
       ordered = ordered;
       number_left = number ∙ (sym (length-drop n xs) ∙ (ap length (sym is.1) ∙ same_length out all xs perm));
       longest_left = greatest ∙ (ap longest (sym is.1) ∙ same_longest out all xs perm);
-      together_left = sum ∙ (ap together (sym is.1) ∙ same_sum out (λ (c : Candidate). c.length) all xs perm);
+      total_length_left = sum ∙ (ap total_length (sym is.1) ∙ same_sum out (λ (c : Candidate). c.length) all xs perm);
     }

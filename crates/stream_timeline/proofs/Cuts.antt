@@ -11,7 +11,7 @@ abbrev pub Above : ℕ → List ℕ → Type 0
 Above m [] = Unit {0}
 Above m (x ∷ xs) = (m < x) × Above m xs
 
--- each is less than those behind it
+-- each is less than those that follow
 abbrev pub Ascends : List ℕ → Type 0
 Ascends [] = Unit {0}
 Ascends (x ∷ xs) = Above x xs × Ascends xs
@@ -38,8 +38,8 @@ has_first x xs = rw (eq-eqb x x refl) refl
 lacks_both : (x y : ℕ) (ys : List ℕ) → x < y → Above y ys → has x (y ∷ ys) ≡ false
 lacks_both x y ys l a = lacks x (y ∷ ys) (l, above_less x y ys (omega arith) a)
 
-behind_first : (m x : ℕ) (xs : List ℕ) → eqb m x ≡ false → has m (x ∷ xs) ≡ has m xs
-behind_first m x xs e = rw e refl
+after_first : (m x : ℕ) (xs : List ℕ) → eqb m x ≡ false → has m (x ∷ xs) ≡ has m xs
+after_first m x xs e = rw e refl
 
 same_rest : (x : ℕ) (xs ys : List ℕ) → Above x xs → Above x ys → ((m : ℕ) → has m (x ∷ xs) ≡ has m (x ∷ ys)) → (m : ℕ) → has m xs ≡ has m ys
 same_rest x xs ys a b e m =
@@ -47,7 +47,7 @@ same_rest x xs ys a b e m =
     (λ (yes : eqb m x ≡ true).
     let same : m ≡ x = eqb-true m x yes in
     rw same (lacks x xs a ∙ sym (lacks x ys b)))
-    (λ (no : eqb m x ≡ false). sym (behind_first m x xs no) ∙ (e m ∙ behind_first m x ys no))
+    (λ (no : eqb m x ≡ false). sym (after_first m x xs no) ∙ (e m ∙ after_first m x ys no))
     (cases_Bool (eqb m x))
 
 pub same_ascending : (xs ys : List ℕ) → Ascends xs → Ascends ys → ((m : ℕ) → has m xs ≡ has m ys) → xs ≡ ys

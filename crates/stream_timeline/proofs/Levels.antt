@@ -50,7 +50,7 @@ late_from begin end (s ∷ ss) (suc i) d order l late = late_from begin end ss i
 max_zero : (n : ℕ) → max n 0 ≡ n
 max_zero n = omega arith
 
--- the first that begins behind it, or the end
+-- the first stretch that begins later, or the end of the list
 pub level_late : (begin end : ℕ) (ss : List Stretch) (i n : ℕ) (d : Stretch) → AreInOrder ss → i < length ss → end ≤ (get_or ss i d).begin → max n (level_in begin end (drop i ss)) ≡ n
 level_late begin end ss i n d order l late = ap (max n) (late_from begin end ss i d order l late) ∙ max_zero n
 
@@ -62,13 +62,13 @@ pub past_more : (ss : List Stretch) (before now begin : ℕ) → ((k : ℕ) (d :
 past_more ss before now begin past more k d l =
     ⊎_elim (λ (early : k < before). past k d early) (λ (late : before ≤ k). more k d late l) (cases_lt k before)
 
-pub level_pushed : (ss : List Stretch) (cells span cell passed begin next end level : ℕ) (levels new : List ℕ)
+pub level_pushed : (ss : List Stretch) (cells span cell passed_over begin next end level : ℕ) (levels new : List ℕ)
     → begin ≡ cell_begin cells span cell → next ≡ cell_begin cells span (cell + 1) → end ≡ max next (begin + 1)
-    → passed ≤ length ss → ((k : ℕ) (d : Stretch) → k < passed → (get_or ss k d).end ≤ begin) → level ≡ level_in begin end (drop passed ss)
+    → passed_over ≤ length ss → ((k : ℕ) (d : Stretch) → k < passed_over → (get_or ss k d).end ≤ begin) → level ≡ level_in begin end (drop passed_over ss)
     → levels ≡ map (level_of ss cells span) (range_with_len 0 cell) → new ≡ levels ++ level ∷ []
     → new ≡ map (level_of ss cells span) (range_with_len 0 (cell + 1))
-level_pushed ss cells span cell passed begin next end level levels new at_begin at_next at_end within past is before more =
+level_pushed ss cells span cell passed_over begin next end level levels new at_begin at_next at_end within past is before more =
     let here : level ≡ level_of ss cells span cell =
-    is ∙ (past_left begin end ss passed within past
+    is ∙ (past_left begin end ss passed_over within past
     ∙ ap₂ (λ (b e : ℕ). level_in b e ss) at_begin (at_end ∙ ap₂ (λ (n b : ℕ). max n (b + 1)) at_next at_begin)) in
     more ∙ (ap₂ (λ (ls : List ℕ) (l : ℕ). ls ++ l ∷ []) before here ∙ sym (map-range_with_len_more (level_of ss cells span) 0 cell cell (omega arith)))

@@ -8,13 +8,13 @@ pub mod Cuts
 pub mod DetailLines
 pub mod FirstOpen
 pub mod FromReader
-pub mod Going
+pub mod ReadingLine
 pub mod Holding
-pub mod Kept
+pub mod SweptSoFar
 pub mod LastOne
 pub mod Levels
 pub mod Marking
-pub mod MomentAlone
+pub mod TimeOnly
 pub mod OpenAt
 pub mod PlaceBytes
 pub mod Places

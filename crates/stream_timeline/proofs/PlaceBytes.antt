@@ -11,7 +11,7 @@ module _ {K : Type 0} (f : K → ℕ) where
   abbrev weight : K × Vec ℕ Global → ℕ
   weight e = f e.0 + 8 * length e.1.items
 
-  -- an entry is taken out
+  -- an entry is removed
   pub removed_bytes : (test : K → Bool) (es : List (K × Vec ℕ Global)) (v : Vec ℕ Global) → lookup test es ≡ Some v
       → sum_by weight (remove_entry test es) + 8 * length v.items ≤ sum_by weight es
   removed_bytes test [] v h = absurd cc

@@ -19,14 +19,14 @@ places_push p n (y ∷ ys) x =
 
 -- ---- a step that passes as before
 
-pub places_kept : {A : Type 0} (p : A → Bool) (f : A → A) → ((x : A) → p (f x) ≡ p x) → (n k : ℕ) (xs : List A)
+pub places_retained : {A : Type 0} (p : A → Bool) (f : A → A) → ((x : A) → p (f x) ≡ p x) → (n k : ℕ) (xs : List A)
     → places_from n p (at_place k f xs) ≡ places_from n p xs
-places_kept p f same n k [] = refl
-places_kept p f same n zero (x ∷ xs) = rw (same x) refl
-places_kept p f same n (suc k) (x ∷ xs) =
+places_retained p f same n k [] = refl
+places_retained p f same n zero (x ∷ xs) = rw (same x) refl
+places_retained p f same n (suc k) (x ∷ xs) =
     ⊎_elim
-    (λ (yes : p x ≡ true). rw yes (ap (λ ms. n ∷ ms) (places_kept p f same (n + 1) k xs)))
-    (λ (out : p x ≡ false). rw out (places_kept p f same (n + 1) k xs))
+    (λ (yes : p x ≡ true). rw yes (ap (λ ms. n ∷ ms) (places_retained p f same (n + 1) k xs)))
+    (λ (out : p x ≡ false). rw out (places_retained p f same (n + 1) k xs))
     (cases_Bool (p x))
 
 pub places_mapped : {A : Type 0} (p : A → Bool) (f : A → A) → ((x : A) → p (f x) ≡ p x) → (n : ℕ) (xs : List A)

@@ -11,14 +11,14 @@ use Rattle.std.proofs.lemmas.List.{get_or-map, get_or_read, length-map, map_more
 use Rattle.std.proofs.lemmas.List.Elements.{All-take}
 use Rattle.std.proofs.lemmas.List.Sorted.{All-permutation, ranks_by, sorted_far, sum_by-IsPermutation}
 use Rattle.std.proofs.lemmas.List.Sums.{sum_by-cons}
-use Rattle.stream_timeline.specs.declared.rows.candidate.Candidate.{Candidate}
-use Rattle.stream_timeline.specs.declared.told.moments.Moments.{Moments}
+use Rattle.stream_timeline.specs.declared.rows.choosing.Candidate.{Candidate}
+use Rattle.stream_timeline.specs.declared.reading.time_range.TimeRange.{TimeRange}
 use Rattle.stream_timeline.specs.Rows.{IsPrintedBefore, candidates_from, candidates_of}
-use Rattle.stream_timeline.specs.Steps.{ToldStep}
+use Rattle.stream_timeline.specs.Steps.{StepRead}
 use Rattle.stream_timeline.proofs.Ranking.{is_at}
 
 -- when the step at a place began, and the place
-abbrev pub begin_at : List ToldStep → ToldStep → ℕ → ℤ × ℕ
+abbrev pub begin_at : List StepRead → StepRead → ℕ → ℤ × ℕ
 begin_at steps d place = ((get_or steps place d).begin, place)
 
 abbrev pub order : ℤ × ℕ → ℤ × ℕ → Ordering
@@ -41,7 +41,7 @@ place_no_later a p q out =
     let h : is_lt (nat_cmp p q) ≡ false = rw (tied_itself int_cmp_total a) at out in
     grind (arith, nat_tests)
 
-in_order : (steps : List ToldStep) (x y : ℤ × ℕ) → ((d : ToldStep) → x.0 ≡ (get_or steps x.1 d).begin) → ((d : ToldStep) → y.0 ≡ (get_or steps y.1 d).begin)
+in_order : (steps : List StepRead) (x y : ℤ × ℕ) → ((d : StepRead) → x.0 ≡ (get_or steps x.1 d).begin) → ((d : StepRead) → y.0 ≡ (get_or steps y.1 d).begin)
     → is_lt (order y x) ≡ false → IsPrintedBefore steps x.1 y.1
 in_order steps x y at_x at_y out = record {
   begins = λ d. rw (← at_x d, ← at_y d) (begins_no_later y.0 x.0 (nat_cmp y.1 x.1) out);
@@ -52,16 +52,16 @@ in_order steps x y at_x at_y out = record {
 
 -- ---- all of them
 
-abbrev AreBegins : List ToldStep → List (ℤ × ℕ) → Type 0
-AreBegins steps bs = (d : ToldStep) → All (λ (b : ℤ × ℕ). b.0 ≡ (get_or steps b.1 d).begin) bs
+abbrev AreBegins : List StepRead → List (ℤ × ℕ) → Type 0
+AreBegins steps bs = (d : StepRead) → All (λ (b : ℤ × ℕ). b.0 ≡ (get_or steps b.1 d).begin) bs
 
-begins_made : (steps : List ToldStep) (d : ToldStep) (cs : List Candidate) (k : ℕ) (e : ℤ × ℕ) → k < length (map (λ (c : Candidate). begin_at steps d c.place) cs)
+begins_made : (steps : List StepRead) (d : StepRead) (cs : List Candidate) (k : ℕ) (e : ℤ × ℕ) → k < length (map (λ (c : Candidate). begin_at steps d c.place) cs)
     → (get_or (map (λ (c : Candidate). begin_at steps d c.place) cs) k e).0 ≡ (get_or steps (get_or (map (λ (c : Candidate). begin_at steps d c.place) cs) k e).1 d).begin
 begins_made steps d [] k e l = absurd (omega arith)
 begins_made steps d (c ∷ cs) zero e l = refl
 begins_made steps d (c ∷ cs) (suc k) e l = begins_made steps d cs k e (omega arith)
 
-pub printed : (steps : List ToldStep) (cs : List Candidate) (bs es : List (ℤ × ℕ)) → ((d : ToldStep) → bs ≡ map (λ (c : Candidate). begin_at steps d c.place) cs)
+pub printed : (steps : List StepRead) (cs : List Candidate) (bs es : List (ℤ × ℕ)) → ((d : StepRead) → bs ≡ map (λ (c : Candidate). begin_at steps d c.place) cs)
     → IsPermutation bs es → IsSorted order es → AllPairs (IsPrintedBefore steps) (map (λ (b : ℤ × ℕ). b.1) es)
 printed steps cs bs es made perm sorted = λ i j e l k.
     let known : AreBegins steps es =
@@ -81,7 +81,7 @@ count_map p f (x ∷ xs) =
     sum_by-cons (λ y. cond (p y) 1 0) (f x) (map f xs)
     ∙ (ap (λ n. cond (p (f x)) 1 0 + n) (count_map p f xs) ∙ sym (sum_by-cons (λ y. cond (p (f y)) 1 0) x xs))
 
-pub shown_are : (steps : List ToldStep) (d : ToldStep) (cs : List Candidate) (bs es : List (ℤ × ℕ)) (p : ℕ) → bs ≡ map (λ (c : Candidate). begin_at steps d c.place) cs
+pub shown_are : (steps : List StepRead) (d : StepRead) (cs : List Candidate) (bs es : List (ℤ × ℕ)) (p : ℕ) → bs ≡ map (λ (c : Candidate). begin_at steps d c.place) cs
     → IsPermutation bs es → count_by (λ place. eqb place p) (map (λ (b : ℤ × ℕ). b.1) es) ≡ count_by (is_at p) cs
 shown_are steps d cs bs es p made perm =
     count_map (λ place. eqb place p) (λ (b : ℤ × ℕ). b.1) es
@@ -90,12 +90,12 @@ shown_are steps d cs bs es p made perm =
 
 -- ---- the places of candidates are those of steps
 
-places_below : (m : Moments) (n most : ℕ) (steps : List ToldStep) → n + length steps ≤ most → (k : ℕ) (d : Candidate) → k < length (candidates_from m n steps) → (get_or (candidates_from m n steps) k d).place < most
+places_below : (m : TimeRange) (n most : ℕ) (steps : List StepRead) → n + length steps ≤ most → (k : ℕ) (d : Candidate) → k < length (candidates_from m n steps) → (get_or (candidates_from m n steps) k d).place < most
 places_below m n most [] l k d h = absurd (omega arith)
 places_below m n most (s ∷ ss) l zero d h = omega arith
 places_below m n most (s ∷ ss) l (suc k) d h = places_below m (n + 1) most ss (omega arith) k d (omega arith)
 
-pub front_below : (m : Moments) (steps : List ToldStep) (xs : List Candidate) (n : ℕ) → IsPermutation (candidates_of m steps) xs
+pub front_below : (m : TimeRange) (steps : List StepRead) (xs : List Candidate) (n : ℕ) → IsPermutation (candidates_of m steps) xs
     → All (λ (c : Candidate). c.place < length steps) (take n xs)
 front_below m steps xs n perm =
     All-take (λ (c : Candidate). c.place < length steps) n xs
@@ -103,12 +103,12 @@ front_below m steps xs n perm =
 
 -- ---- one begin more
 
-pub begins_pushed : (steps : List ToldStep) (d : ToldStep) (cs : List Candidate) (i : ℕ) (e : Candidate) (bs new : List (ℤ × ℕ)) (x : ToldStep) (begin : ℤ) → i < length cs
+pub begins_pushed : (steps : List StepRead) (d : StepRead) (cs : List Candidate) (i : ℕ) (e : Candidate) (bs new : List (ℤ × ℕ)) (x : StepRead) (begin : ℤ) → i < length cs
     → (get_or cs i e).place < length steps → x ≡ get_or steps (get_or cs i e).place x → begin ≡ x.begin
     → bs ≡ map (λ (c : Candidate). begin_at steps d c.place) (take i cs) → new ≡ bs ++ (begin, (get_or cs i e).place) ∷ []
     → new ≡ map (λ (c : Candidate). begin_at steps d c.place) (take (i + 1) cs)
 begins_pushed steps d cs i e bs new x begin l within is at before more =
     let p = (get_or cs i e).place in
-    let same : begin ≡ (get_or steps p d).begin = at ∙ ap (λ (s : ToldStep). s.begin) (get_or_read steps p x within is d) in
+    let same : begin ≡ (get_or steps p d).begin = at ∙ ap (λ (s : StepRead). s.begin) (get_or_read steps p x within is d) in
     let pair : ℤ → ℤ × ℕ = λ b. (b, p) in
     more ∙ (ap₂ (λ (xs : List (ℤ × ℕ)) (b : ℤ). xs ++ pair b ∷ []) before same ∙ sym (map_more (λ (c : Candidate). begin_at steps d c.place) cs i e l))

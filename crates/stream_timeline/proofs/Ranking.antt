@@ -8,10 +8,10 @@ use Rattle.std.proofs.lemmas.Bool.Decides.{nat_tests}
 use Rattle.std.proofs.lemmas.List.Elements.{recursion_from_All}
 use Rattle.std.proofs.lemmas.List.Sorted.{sum_by-IsPermutation}
 use Rattle.std.proofs.lemmas.List.Sums.{get_or-le-sum_by, sum_by-cons}
-use Rattle.stream_timeline.specs.declared.rows.candidate.Candidate.{Candidate}
-use Rattle.stream_timeline.specs.declared.told.moments.Moments.{Moments}
+use Rattle.stream_timeline.specs.declared.rows.choosing.Candidate.{Candidate}
+use Rattle.stream_timeline.specs.declared.reading.time_range.TimeRange.{TimeRange}
 use Rattle.stream_timeline.specs.Rows.{AreRanked, candidate_of, candidates_from, candidates_of, comes_before, gets_row, is_chosen, rank_of, same_bool}
-use Rattle.stream_timeline.specs.Steps.{ToldStep}
+use Rattle.stream_timeline.specs.Steps.{StepRead}
 
 -- ---- what the sort compares
 
@@ -84,7 +84,7 @@ two_there p (x ∷ xs) (suc i) (suc j) d l k a b =
     let rest = two_there p xs i j d (omega arith) (omega arith) a b in
     omega (arith, rest, sum_by-cons (λ x. one_if (p x)) x xs)
 
-none_from : (m : Moments) (n p : ℕ) (steps : List ToldStep) → p < n → count_by (is_at p) (candidates_from m n steps) ≡ 0
+none_from : (m : TimeRange) (n p : ℕ) (steps : List StepRead) → p < n → count_by (is_at p) (candidates_from m n steps) ≡ 0
 none_from m n p [] l = refl
 none_from m n p (s ∷ ss) l =
     let rest = none_from m (n + 1) p ss (omega arith) in
@@ -92,7 +92,7 @@ none_from m n p (s ∷ ss) l =
     let zero_here : one_if (eqb n p) ≡ 0 = rw here refl in
     omega (arith, rest, zero_here, sum_by-cons (λ (x : Candidate). one_if (is_at p x)) (candidate_of m n s) (candidates_from m (n + 1) ss))
 
-few_from : (m : Moments) (n p : ℕ) (steps : List ToldStep) → count_by (is_at p) (candidates_from m n steps) ≤ 1
+few_from : (m : TimeRange) (n p : ℕ) (steps : List StepRead) → count_by (is_at p) (candidates_from m n steps) ≤ 1
 few_from m n p [] = omega arith
 few_from m n p (s ∷ ss) =
     let all = sum_by-cons (λ (x : Candidate). one_if (is_at p x)) (candidate_of m n s) (candidates_from m (n + 1) ss) in
@@ -110,7 +110,7 @@ few_from m n p (s ∷ ss) =
 
 -- ---- sorted, they are ranked
 
-pub places_differ : (m : Moments) (steps : List ToldStep) (xs : List Candidate) → IsPermutation (candidates_of m steps) xs
+pub places_differ : (m : TimeRange) (steps : List StepRead) (xs : List Candidate) → IsPermutation (candidates_of m steps) xs
     → (i j : ℕ) (d : Candidate) → i < j → j < length xs → (get_or xs i d).place ≢ (get_or xs j d).place
 places_differ m steps xs perm i j d l k same =
     let p = (get_or xs j d).place in
@@ -119,7 +119,7 @@ places_differ m steps xs perm i j d l k same =
     let many = two_there (is_at p) xs i j d l k (eq-eqb _ _ same) (eq-eqb p p refl) in
     omega (arith, few, count, many)
 
-pub ranked_from : (m : Moments) (steps : List ToldStep) (xs : List Candidate) → IsPermutation (candidates_of m steps) xs
+pub ranked_from : (m : TimeRange) (steps : List StepRead) (xs : List Candidate) → IsPermutation (candidates_of m steps) xs
     → ((i j : ℕ) (d : Candidate) → i ≤ j → j < length xs → comes_before (get_or xs j d) (get_or xs i d) ≡ false) → AreRanked xs
 ranked_from m steps xs perm sorted = λ i j d l k.
     either_before (get_or xs i d) (get_or xs j d) (places_differ m steps xs perm i j d l k) (sorted i j d (omega arith) k)
@@ -169,17 +169,17 @@ chosen_at limit span all xs k d perm ranked l =
 
 -- ---- behind one that gets no row none gets one
 
-none_behind_by : (m n : Bool) (k l p q : ℕ) (span i j limit : ℕ) → before_by m n k l p q ≡ true → i ≤ j
+none_after_by : (m n : Bool) (k l p q : ℕ) (span i j limit : ℕ) → before_by m n k l p q ≡ true → i ≤ j
     → (ltb i limit && (ltb i 10 || (m || leb span (k * 200)))) ≡ false → (ltb j limit && (ltb j 10 || (n || leb span (l * 200)))) ≡ false
-none_behind_by true true k l p q span i j limit before le out = grind (arith, nat_tests)
-none_behind_by true false k l p q span i j limit before le out = grind (arith, nat_tests)
-none_behind_by false true k l p q span i j limit before le out = absurd cc
-none_behind_by false false k l p q span i j limit before le out = grind (arith, nat_tests)
+none_after_by true true k l p q span i j limit before le out = grind (arith, nat_tests)
+none_after_by true false k l p q span i j limit before le out = grind (arith, nat_tests)
+none_after_by false true k l p q span i j limit before le out = absurd cc
+none_after_by false false k l p q span i j limit before le out = grind (arith, nat_tests)
 
-pub none_behind : (limit : Option ℕ) (span : ℕ) (xs : List Candidate) (i j : ℕ) (d : Candidate) → AreRanked xs → i < j → j < length xs
+pub none_after : (limit : Option ℕ) (span : ℕ) (xs : List Candidate) (i j : ℕ) (d : Candidate) → AreRanked xs → i < j → j < length xs
     → gets_row limit span i (get_or xs i d) ≡ false → gets_row limit span j (get_or xs j d) ≡ false
-none_behind None span xs i j d ranked l k out = absurd cc
-none_behind (Some limit) span xs i j d ranked l k out =
+none_after None span xs i j d ranked l k out = absurd cc
+none_after (Some limit) span xs i j d ranked l k out =
     let a = get_or xs i d in
     let b = get_or xs j d in
-    none_behind_by a.marked b.marked a.length b.length a.place b.place span i j limit (ranked i j d l k) (omega arith) out
+    none_after_by a.marked b.marked a.length b.length a.place b.place span i j limit (ranked i j d l k) (omega arith) out

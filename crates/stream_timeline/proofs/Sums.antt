@@ -61,10 +61,10 @@ under_way_sum w a b (i ∷ is) l o p =
 -- ---- edges
 
 abbrev pub is_begin_by : ℕ → Edge → Bool
-is_begin_by a e = not e.is_end && leb e.moment a
+is_begin_by a e = not e.is_end && leb e.time a
 
 abbrev pub is_end_by : ℕ → Edge → Bool
-is_end_by a e = e.is_end && leb e.moment a
+is_end_by a e = e.is_end && leb e.time a
 
 pub begins_sum : (w : ℕ → ℕ) (a : ℕ) (is : List Interval)
     → sum_by (weighed (is_begin_by a) (edge_weight w)) (edges_of is) ≡ sum_by (weighed (λ (i : Interval). leb i.begin a) (interval_weight w)) is
@@ -88,11 +88,11 @@ ends_sum w a (i ∷ is) =
 
 abbrev pub AllBy : ℕ → List Edge → Type 0
 AllBy a [] = Unit {0}
-AllBy a (e ∷ es) = (e.moment ≤ a) × AllBy a es
+AllBy a (e ∷ es) = (e.time ≤ a) × AllBy a es
 
-abbrev pub AllBehind : ℕ → List Edge → Type 0
-AllBehind a [] = Unit {0}
-AllBehind a (e ∷ es) = (a < e.moment) × AllBehind a es
+abbrev pub AllAfter : ℕ → List Edge → Type 0
+AllAfter a [] = Unit {0}
+AllAfter a (e ∷ es) = (a < e.time) × AllAfter a es
 
 and_true : (b : Bool) → (b && true) ≡ b
 and_true true = refl
@@ -103,24 +103,24 @@ and_false true = refl
 and_false false = refl
 
 front_sum : (kind : Edge → Bool) (w : Edge → ℕ) (a : ℕ) (es : List Edge) → AllBy a es
-    → sum_by (weighed (λ e. kind e && leb e.moment a) w) es ≡ sum_by (weighed kind w) es
+    → sum_by (weighed (λ e. kind e && leb e.time a) w) es ≡ sum_by (weighed kind w) es
 front_sum kind w a [] h = refl
 front_sum kind w a (e ∷ es) h =
-    rw (sum_by-cons (weighed (λ e. kind e && leb e.moment a) w) e es, sum_by-cons (weighed kind w) e es)
-    (rw (le-leb e.moment a h.0, and_true (kind e), front_sum kind w a es h.1) refl)
+    rw (sum_by-cons (weighed (λ e. kind e && leb e.time a) w) e es, sum_by-cons (weighed kind w) e es)
+    (rw (le-leb e.time a h.0, and_true (kind e), front_sum kind w a es h.1) refl)
 
-rest_sum : (kind : Edge → Bool) (w : Edge → ℕ) (a : ℕ) (es : List Edge) → AllBehind a es
-    → sum_by (weighed (λ e. kind e && leb e.moment a) w) es ≡ 0
+rest_sum : (kind : Edge → Bool) (w : Edge → ℕ) (a : ℕ) (es : List Edge) → AllAfter a es
+    → sum_by (weighed (λ e. kind e && leb e.time a) w) es ≡ 0
 rest_sum kind w a [] h = refl
 rest_sum kind w a (e ∷ es) h =
-    rw (sum_by-cons (weighed (λ e. kind e && leb e.moment a) w) e es)
-    (rw (lt-leb e.moment a h.0, and_false (kind e), rest_sum kind w a es h.1) refl)
+    rw (sum_by-cons (weighed (λ e. kind e && leb e.time a) w) e es)
+    (rw (lt-leb e.time a h.0, and_false (kind e), rest_sum kind w a es h.1) refl)
 
-pub split_sum : (kind : Edge → Bool) (w : Edge → ℕ) (a : ℕ) (front rest : List Edge) → AllBy a front → AllBehind a rest
-    → sum_by (weighed (λ e. kind e && leb e.moment a) w) (front ++ rest) ≡ sum_by (weighed kind w) front
-split_sum kind w a front rest by behind =
-    sum_by-append (weighed (λ e. kind e && leb e.moment a) w) front rest
-    ∙ (rw (front_sum kind w a front by, rest_sum kind w a rest behind) (omega arith))
+pub split_sum : (kind : Edge → Bool) (w : Edge → ℕ) (a : ℕ) (front rest : List Edge) → AllBy a front → AllAfter a rest
+    → sum_by (weighed (λ e. kind e && leb e.time a) w) (front ++ rest) ≡ sum_by (weighed kind w) front
+split_sum kind w a front rest by after =
+    sum_by-append (weighed (λ e. kind e && leb e.time a) w) front rest
+    ∙ (rw (front_sum kind w a front by, rest_sum kind w a rest after) (omega arith))
 
 -- ---- the only one
 

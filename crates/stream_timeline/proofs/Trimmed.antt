@@ -1,4 +1,4 @@
--- What a line says is the same when its tree is trimmed.
+-- A line states the same when its tree is trimmed.
 use Rattle.std.proofs.Common.{◌≡◌, ℕ, ℤ, List, [], codes, Bool, true, false, Option, Some, None, refl, sym, ap, ◌∙◌}
 use Rattle.std.specs.Prelude.{option_map, unwrap_or}
 use Rattle.std.specs.Option.{option_map_or}
@@ -7,12 +7,12 @@ use Rattle.serde_json.specs.Find.{as_number, as_u64, get}
 use Rattle.apply_json.specs.Tree.{◌>>=◌, member_of, text_of, unless_null}
 use Rattle.apply_json_tree.specs.Trimmed.{IsTrimmedTree, trimmed}
 use Rattle.apply_json_tree.proofs.Trimmed.Lookups.{as_number_trimmed, get_trimmed, text_trimmed}
-use Rattle.stream_timeline.specs.declared.told.line_shape.LineShape.{LineShape}
-use Rattle.stream_timeline.specs.declared.told.line_shape.LineShape.TheVariants.{Scalar, Line, Hook, Resource, Changes, Diagnostic, Range, Start}
+use Rattle.stream_timeline.specs.declared.reading.line_shape.LineShape.{LineShape}
+use Rattle.stream_timeline.specs.declared.reading.line_shape.LineShape.TheVariants.{Scalar, Line, Hook, Resource, Changes, Diagnostic, Range, Start}
 use Rattle.stream_timeline.specs.Details.{count_of, diagnostic_of, file_of, line_of, text_or_empty}
-use Rattle.stream_timeline.specs.Messages.{Message, Said, address_of, begin_of, diagnostic_said, diagnostic_with, end_of, general_said, hook_text, lacking, message_at, message_of, moment_of, no_totals_said, other_step_said, provisioner_begin_of, provisioner_end_of, provisioner_said, refresh_begin_of, refresh_end_of, said_of, summary, summary_in, summary_of, totals_in, tree_message}
+use Rattle.stream_timeline.specs.Messages.{Message, Content, address_of, begin_of, diagnostic_content, diagnostic_with, end_of, general_content, hook_text, unusable, message_at, message_of, time_of, no_totals, other_step_content, provisioner_begin_of, provisioner_end_of, provisioner_content, refresh_begin_of, refresh_end_of, content_of, summary, summary_in, summary_of, totals_in, tree_message}
 use Rattle.stream_timeline.specs.Selection.{line_selection, member_shape}
-use Rattle.stream_timeline.specs.Telling.{Telling, with_message_or_passed, with_tree}
+use Rattle.stream_timeline.specs.TimelineRead.{TimelineRead, with_message_or_passed_over, with_tree}
 
 -- ---- members
 
@@ -115,9 +115,9 @@ same_diagnostic d =
 same_with : (severity : List ℕ) (d : Data) → diagnostic_with severity (trimmed line_selection Diagnostic d) ≡ diagnostic_with severity d
 same_with severity d = rw (same_diagnostic d, text_same Diagnostic (codes "address") d refl) refl
 
-same_diagnostic_said : (d : Data) → diagnostic_said (trimmed line_selection Line d) ≡ diagnostic_said d
-same_diagnostic_said d =
-    map_same Line Diagnostic (codes "diagnostic") (λ members. diagnostic_with (text_or_empty (codes "severity") members) members) lacking d refl
+same_diagnostic_content : (d : Data) → diagnostic_content (trimmed line_selection Line d) ≡ diagnostic_content d
+same_diagnostic_content d =
+    map_same Line Diagnostic (codes "diagnostic") (λ members. diagnostic_with (text_or_empty (codes "severity") members) members) unusable d refl
     (λ members. rw (empty_same Diagnostic (codes "severity") members refl) (same_with (text_or_empty (codes "severity") members) members))
 
 -- ---- summaries
@@ -130,37 +130,37 @@ same_summary_in : (d : Data) → summary_in (trimmed line_selection Changes d) �
 same_summary_in d = rw (empty_same Changes (codes "operation") d refl, same_totals d) refl
 
 same_summary : (d : Data) → summary_of (trimmed line_selection Line d) ≡ summary_of d
-same_summary d = map_same Line Changes (codes "changes") summary_in (summary no_totals_said) d refl same_summary_in
+same_summary d = map_same Line Changes (codes "changes") summary_in (summary no_totals) d refl same_summary_in
 
 -- ---- messages
 
-same_general : (name : List ℕ) (d : Data) → general_said name (trimmed line_selection Line d) ≡ general_said name d
-same_general name d = rw (same_diagnostic_said d, empty_same Line (codes "terraform") d refl, same_summary d) refl
+same_general : (name : List ℕ) (d : Data) → general_content name (trimmed line_selection Line d) ≡ general_content name d
+same_general name d = rw (same_diagnostic_content d, empty_same Line (codes "terraform") d refl, same_summary d) refl
 
-same_provisioner : (name : List ℕ) (d : Data) → provisioner_said name (trimmed line_selection Line d) ≡ provisioner_said name d
+same_provisioner : (name : List ℕ) (d : Data) → provisioner_content name (trimmed line_selection Line d) ≡ provisioner_content name d
 same_provisioner name d = rw (same_provisioner_begin d, same_provisioner_end false d, same_provisioner_end true d, same_general name d) refl
 
-same_other : (name : List ℕ) (d : Data) → other_step_said name (trimmed line_selection Line d) ≡ other_step_said name d
+same_other : (name : List ℕ) (d : Data) → other_step_content name (trimmed line_selection Line d) ≡ other_step_content name d
 same_other name d = rw (same_refresh_begin d, same_refresh_end d, same_provisioner name d) refl
 
-same_said : (name : List ℕ) (d : Data) → said_of name (trimmed line_selection Line d) ≡ said_of name d
-same_said name d = rw (same_begin d, same_end false d, same_end true d, same_other name d) refl
+same_content : (name : List ℕ) (d : Data) → content_of name (trimmed line_selection Line d) ≡ content_of name d
+same_content name d = rw (same_begin d, same_end false d, same_end true d, same_other name d) refl
 
-same_moment : (d : Data) → moment_of (trimmed line_selection Line d) ≡ moment_of d
-same_moment d = rw (text_same Line (codes "@timestamp") d refl) refl
+same_time : (d : Data) → time_of (trimmed line_selection Line d) ≡ time_of d
+same_time d = rw (text_same Line (codes "@timestamp") d refl) refl
 
-same_at : (name : List ℕ) (d : Data) (o : Option ℤ) → (o >>= λ moment. Some (message_at name (trimmed line_selection Line d) moment)) ≡ (o >>= λ moment. Some (message_at name d moment))
+same_at : (name : List ℕ) (d : Data) (o : Option ℤ) → (o >>= λ time. Some (message_at name (trimmed line_selection Line d) time)) ≡ (o >>= λ time. Some (message_at name d time))
 same_at name d None = refl
-same_at name d (Some moment) = ap (λ (said : Said). let m : Message = record { moment = moment; said = said } in Some m) (same_said name d)
+same_at name d (Some time) = ap (λ (content : Content). let m : Message = record { time = time; content = content } in Some m) (same_content name d)
 
 same_message : (d : Data) → tree_message (trimmed line_selection Line d) ≡ tree_message d
-same_message d = rw (text_same Line (codes "type") d refl, same_moment d) (each (text_of (codes "type") d)) where
-  each : (o : Option (List ℕ)) → (o >>= λ name. (moment_of d >>= λ moment. Some (message_at name (trimmed line_selection Line d) moment))) ≡ (o >>= λ name. (moment_of d >>= λ moment. Some (message_at name d moment)))
+same_message d = rw (text_same Line (codes "type") d refl, same_time d) (each (text_of (codes "type") d)) where
+  each : (o : Option (List ℕ)) → (o >>= λ name. (time_of d >>= λ time. Some (message_at name (trimmed line_selection Line d) time))) ≡ (o >>= λ name. (time_of d >>= λ time. Some (message_at name d time)))
   each None = refl
-  each (Some name) = same_at name d (moment_of d)
+  each (Some name) = same_at name d (time_of d)
 
--- what a line that is this tree, trimmed, tells
-pub of_trimmed : (line : List ℕ) (tree : Data) (t : Telling) → IsTrimmedTree line_selection Line line tree → with_tree tree t ≡ with_message_or_passed (message_of line) t
+-- the message of a line that has this tree, trimmed
+pub of_trimmed : (line : List ℕ) (tree : Data) (t : TimelineRead) → IsTrimmedTree line_selection Line line tree → with_tree tree t ≡ with_message_or_passed_over (message_of line) t
 of_trimmed line tree t h =
-    ap (λ (o : Option Message). with_message_or_passed o t)
+    ap (λ (o : Option Message). with_message_or_passed_over o t)
     (ap tree_message h.2 ∙ (same_message h.0 ∙ ap (λ (o : Option Data). o >>= tree_message) (sym h.1)))

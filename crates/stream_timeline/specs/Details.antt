@@ -1,4 +1,4 @@
--- What is kept of the texts of diagnostics.
+-- What is stored of the texts of diagnostics.
 use Rattle.std.specs.Prelude.{ℕ, ◌+◌, ◌-◌, ◌==◌, ◌||◌, nat_le, List, [], ◌++◌, codes, Bool, if◌then◌else◌, length, map, take, drop, Option, unwrap_or}
 use Rattle.std.specs.List.{prefix_len, suffix_len}
 use Rattle.std.specs.Option.{option_map}
@@ -7,29 +7,30 @@ use Rattle.serde_json.specs.Find.{as_number, as_u64}
 use Rattle.apply_json.specs.Tree.{◌>>=◌, member_of, text_of}
 use Rattle.stream_lines.specs.Cut.{cut_lines}
 
--- how many bytes of a long text are kept, from its begin and from its end
+-- how many bytes of a long text are stored, from its front and from its back
 abbrev pub front_bytes : ℕ
 front_bytes = 8192
 
 abbrev pub back_bytes : ℕ
 back_bytes = 12288
 
--- how many lines of a detail are kept
+-- how many lines of a detail are stored
 abbrev pub detail_lines : ℕ
 detail_lines = 10
 
--- all of a text that is not long, else its front
+-- a short text, or the front of a long one
 abbrev pub front_part : List ℕ → List ℕ
 front_part text = if nat_le (length text) (front_bytes + back_bytes) then text else take front_bytes text
 
--- the end of a text that is long
+-- the back of a long text
 abbrev pub back_part : List ℕ → List ℕ
 back_part text = if nat_le (length text) (front_bytes + back_bytes) then [] else drop (length text - back_bytes) text
 
--- A text as it is kept. Fitted to 1,000 columns it is the same: its first 400 columns take at most 8,000 bytes and its
--- last 602 at most 12,040, where at most four characters without width stand behind one another.
-abbrev pub kept : List ℕ → List ℕ
-kept text = front_part text ++ back_part text
+-- A text as it is stored. Fitted to 1,000 columns, it looks like the whole text, unless more than
+-- four characters without width follow one another. Its first 400 columns take at most 8,000 bytes,
+-- and its last 602 at most 12,040.
+abbrev pub stored : List ℕ → List ℕ
+stored text = front_part text ++ back_part text
 
 -- a blank, a tab or a carriage return
 abbrev pub is_blank : ℕ → Bool
@@ -44,46 +45,46 @@ without_front test text = drop (prefix_len test text) text
 abbrev pub without_end : (ℕ → Bool) → List ℕ → List ℕ
 without_end test text = take (length text - suffix_len test text) text
 
--- a line of a detail, without what is blank at its ends
+-- a line of a detail without the blank bytes at its ends
 abbrev pub trimmed_line : List ℕ → List ℕ
 trimmed_line line = without_end is_blank (without_front is_blank line)
 
--- the lines of a detail, without those at its end that are empty or blank
+-- the lines of a detail, without empty and blank lines at its end
 abbrev pub lines_of_detail : List ℕ → List (List ℕ)
 lines_of_detail detail = cut_lines (without_end is_blank_or_feed detail)
 
-pub record ToldDiagnostic : Type 0 where
+pub record DiagnosticRead : Type 0 where
   pub summary : List ℕ
   pub address : Option (List ℕ)
   pub file : Option (List ℕ)
   pub line : Option ℕ
   pub detail : List (List ℕ)
-  -- how many lines of the detail are left out
+  -- how many lines of the detail are not stored
   pub more : ℕ
 
--- a lacking text is the empty one
+-- a text member; empty if it is missing
 abbrev pub text_or_empty : (name : List ℕ) → Data → List ℕ
 text_or_empty name d = unwrap_or (text_of name d) []
 
--- a whole number from 0 on, of 64 bits
+-- a member that is a whole number of 64 bits and not negative
 abbrev pub count_of : (name : List ℕ) → Data → Option ℕ
 count_of name d = member_of name d >>= as_number >>= as_u64
 
--- the file that it is about, and the line of it
+-- the file that a diagnostic is about, and the line in it
 abbrev pub file_of : Data → Option (List ℕ)
 file_of d = member_of (codes "range") d >>= text_of (codes "filename")
 
 abbrev pub line_of : Data → Option ℕ
 line_of d = (member_of (codes "range") d >>= member_of (codes "start")) >>= count_of (codes "line")
 
--- what is kept of the object `diagnostic`
-abbrev pub diagnostic_of : Data → ToldDiagnostic
+-- what is stored of the object `diagnostic`
+abbrev pub diagnostic_of : Data → DiagnosticRead
 diagnostic_of d = record {
-  summary = kept (text_or_empty (codes "summary") d);
-  address = option_map kept (text_of (codes "address") d);
-  file = option_map kept (file_of d);
+  summary = stored (text_or_empty (codes "summary") d);
+  address = option_map stored (text_of (codes "address") d);
+  file = option_map stored (file_of d);
   line = line_of d;
-  detail = map (λ line. kept (trimmed_line line))
+  detail = map (λ line. stored (trimmed_line line))
       (take detail_lines (lines_of_detail (text_or_empty (codes "detail") d)));
   more = length (lines_of_detail (text_or_empty (codes "detail") d)) - detail_lines;
 }

@@ -1,10 +1,10 @@
--- Why a stream is not told to its end.
+-- Why a stream has no time line.
 use Rattle.stream_lines.specs.declared.line_fault.LineFault.{LineFault}
 use Rattle.stream_lines.specs.declared.line_fault.LineFault.TheVariants as of
-use Rattle.stream_timeline.specs.declared.told.view_fault.ViewFault.{ViewFault}
-use Rattle.stream_timeline.specs.declared.told.view_fault.ViewFault.TheVariants as fault
+use Rattle.stream_timeline.specs.declared.reading.timeline_fault.TimelineFault.{TimelineFault}
+use Rattle.stream_timeline.specs.declared.reading.timeline_fault.TimelineFault.TheVariants as fault
 
--- why no line was read is why nothing more is told
-abbrev pub as_view_fault : LineFault → ViewFault
-as_view_fault (of.Unread failed) = fault.Unread failed
-as_view_fault of.Memory = fault.Memory
+-- the fault for a line that could not be read
+abbrev pub as_timeline_fault : LineFault → TimelineFault
+as_timeline_fault (of.Unread failed) = fault.Unread failed
+as_timeline_fault of.Memory = fault.Memory

@@ -1,39 +1,39 @@
--- When steps were under way, in microseconds since the first moment of the stream.
+-- The intervals in which steps run, in microseconds since the start of the stream.
 use Rattle.std.specs.Prelude.{ℕ, ◌+◌, ℤ, List, [], ◌∷◌, Bool, ◌&&◌, not, if◌then◌else◌, is_none, unwrap_or}
 use Rattle.std.specs.Int.{int_gap, int_max}
 use Rattle.stream_timeline.specs.declared.numbers.interval.Interval.{Interval}
-use Rattle.stream_timeline.specs.declared.told.moments.Moments.{Moments}
-use Rattle.stream_timeline.specs.Steps.{ToldStep}
+use Rattle.stream_timeline.specs.declared.reading.time_range.TimeRange.{TimeRange}
+use Rattle.stream_timeline.specs.Steps.{StepRead}
 
--- its end, or the last moment of the stream where none is told; never before its begin
-abbrev pub until_of : Moments → ToldStep → ℤ
-until_of moments step = int_max step.begin (unwrap_or step.end moments.last)
+-- the end of a step, or the last time of the stream if it has none; never before its begin
+abbrev pub until_of : TimeRange → StepRead → ℤ
+until_of time_range step = int_max step.begin (unwrap_or step.end time_range.last)
 
--- from its begin until then
-abbrev pub length_of : Moments → ToldStep → ℕ
-length_of moments step = int_gap step.begin (until_of moments step)
+-- the time from the begin of a step to `until_of`
+abbrev pub length_of : TimeRange → StepRead → ℕ
+length_of time_range step = int_gap step.begin (until_of time_range step)
 
--- from the first moment of the stream to the last
-abbrev pub span_of : Moments → ℕ
-span_of moments = int_gap moments.first moments.last
+-- the time from the first timestamp of the stream to the last
+abbrev pub span_of : TimeRange → ℕ
+span_of time_range = int_gap time_range.first time_range.last
 
--- nobody knows when a step failed whose end is not told
-abbrev pub is_counted : ToldStep → Bool
+-- Nobody knows when a step failed that has no end, so it is not counted.
+abbrev pub is_counted : StepRead → Bool
 is_counted step = not (step.failed && is_none step.end)
 
-abbrev pub interval_of : Moments → (place : ℕ) → ToldStep → Interval
-interval_of moments place step = record {
+abbrev pub interval_of : TimeRange → (place : ℕ) → StepRead → Interval
+interval_of time_range place step = record {
   place = place;
-  begin = int_gap moments.first step.begin;
-  end = int_gap moments.first (until_of moments step);
+  begin = int_gap time_range.first step.begin;
+  end = int_gap time_range.first (until_of time_range step);
 }
 
--- those of the steps that count, whose places go on from a number
-abbrev pub intervals_from : Moments → ℕ → List ToldStep → List Interval
-intervals_from moments n [] = []
-intervals_from moments n (step ∷ steps) =
-    if is_counted step then interval_of moments n step ∷ intervals_from moments (n + 1) steps
-    else intervals_from moments (n + 1) steps
+-- the intervals of the counted steps, with places that count from `n`
+abbrev pub intervals_from : TimeRange → ℕ → List StepRead → List Interval
+intervals_from time_range n [] = []
+intervals_from time_range n (step ∷ steps) =
+    if is_counted step then interval_of time_range n step ∷ intervals_from time_range (n + 1) steps
+    else intervals_from time_range (n + 1) steps
 
-abbrev pub intervals_of : Moments → List ToldStep → List Interval
-intervals_of moments steps = intervals_from moments 0 steps
+abbrev pub intervals_of : TimeRange → List StepRead → List Interval
+intervals_of time_range steps = intervals_from time_range 0 steps

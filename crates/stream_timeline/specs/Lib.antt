@@ -7,7 +7,7 @@ pub mod LineSlots
 pub mod Lines
 pub mod Memory
 pub mod Messages
-pub mod Moments
+pub mod TimeRange
 pub mod Numbers
 pub mod OpenPlaces
 pub mod Rows
@@ -15,6 +15,6 @@ pub mod Selection
 pub mod Steps
 pub mod Stretches
 pub mod Sweeping
-pub mod Telling
-pub mod Viewing
-pub mod Views
+pub mod TimelineRead
+pub mod Building
+pub mod ContentViews

@@ -1,25 +1,26 @@
--- What reading a whole stream gives.
+-- The result of reading a whole stream.
 use Rattle.std.specs.Prelude.{◌≡◌, ◌<◌, ◌≤◌, ℕ, All, List, length, take, ⊤, None, Result, Ok, Err}
 use Rattle.stream_lines.specs.Cut.{cut_lines, line_at}
 use Rattle.stream_lines.specs.Limits.{max_bytes}
-use Rattle.stream_timeline.specs.declared.told.view_fault.ViewFault.{ViewFault}
-use Rattle.stream_timeline.specs.declared.told.view_fault.ViewFault.TheVariants as fault
-use Rattle.stream_timeline.specs.Telling.{Telling, max_lines, max_steps, told_of}
+use Rattle.stream_timeline.specs.declared.reading.timeline_fault.TimelineFault.{TimelineFault}
+use Rattle.stream_timeline.specs.declared.reading.timeline_fault.TimelineFault.TheVariants as fault
+use Rattle.stream_timeline.specs.TimelineRead.{TimelineRead, max_lines, max_steps, timeline_of}
 
--- it is what the lines tell, of which none is longer than one may be, and they are no more, and tell no more steps and
--- provisioners, than there may be
-pub record AreTold (lines : List (List ℕ)) (told : Telling) : Type 0 where
-  pub is : told ≡ told_of lines
-  pub begun : told.begun ≤ max_steps
+-- The time line is that of these lines. No line is longer than the limit, and the lines, steps and
+-- provisioners are not more than theirs.
+pub record AreRead (lines : List (List ℕ)) (timeline : TimelineRead) : Type 0 where
+  pub is : timeline ≡ timeline_of lines
+  pub begun : timeline.begun ≤ max_steps
   pub number : length lines ≤ max_lines
   pub lengths : All (λ line. length line ≤ max_bytes) lines
 
--- all lines are told, or why there is nothing to tell; a read that fails and want of memory aside
-abbrev pub IsToldOf : List ℕ → Result Telling ViewFault → Type 0
-IsToldOf bytes (Ok told) = AreTold (cut_lines bytes) told
-IsToldOf bytes (Err (fault.TooLong number)) = max_bytes < length (line_at number bytes)
-IsToldOf bytes (Err fault.TooManyLines) = max_lines < length (cut_lines bytes)
-IsToldOf bytes (Err fault.TooManySteps) = (count : ℕ) × (max_steps < (told_of (take count (cut_lines bytes))).begun)
-IsToldOf bytes (Err fault.NoMessage) = (told_of (cut_lines bytes)).moments ≡ None
-IsToldOf bytes (Err (fault.Unread failed)) = ⊤
-IsToldOf bytes (Err fault.Memory) = ⊤
+-- The result of reading these bytes: the time line of all lines, or why there is none. A failed
+-- read and refused memory are left open.
+abbrev pub IsReadOf : List ℕ → Result TimelineRead TimelineFault → Type 0
+IsReadOf bytes (Ok timeline) = AreRead (cut_lines bytes) timeline
+IsReadOf bytes (Err (fault.TooLong number)) = max_bytes < length (line_at number bytes)
+IsReadOf bytes (Err fault.TooManyLines) = max_lines < length (cut_lines bytes)
+IsReadOf bytes (Err fault.TooManySteps) = (count : ℕ) × (max_steps < (timeline_of (take count (cut_lines bytes))).begun)
+IsReadOf bytes (Err fault.NoMessage) = (timeline_of (cut_lines bytes)).time_range ≡ None
+IsReadOf bytes (Err (fault.Unread failed)) = ⊤
+IsReadOf bytes (Err fault.Memory) = ⊤

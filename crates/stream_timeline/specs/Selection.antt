@@ -1,9 +1,9 @@
--- What of a line is looked at, for private clauses.
+-- Which members of a line are read, for private clauses.
 use Rattle.std.specs.Prelude.{ℕ, List, Bool, ◌||◌, codes, if◌then◌else◌, Option, Some, None}
 use Rattle.std.specs.Str.{bytes_eq}
 use Rattle.apply_json_tree.specs.Trimmed.{Selection}
-use Rattle.stream_timeline.specs.declared.told.line_shape.LineShape.{LineShape}
-use Rattle.stream_timeline.specs.declared.told.line_shape.LineShape.TheVariants.{Scalar, Line, Hook, Resource, Changes, Diagnostic, Range, Start}
+use Rattle.stream_timeline.specs.declared.reading.line_shape.LineShape.{LineShape}
+use Rattle.stream_timeline.specs.declared.reading.line_shape.LineShape.TheVariants.{Scalar, Line, Hook, Resource, Changes, Diagnostic, Range, Start}
 
 abbrev pub scalar_where : Bool → Option LineShape
 scalar_where is_known = if is_known then Some Scalar else None
@@ -18,7 +18,7 @@ is_scalar_of_diagnostic name =
     bytes_eq name (codes "severity") || (bytes_eq name (codes "summary") || (bytes_eq name (codes "detail")
     || bytes_eq name (codes "address")))
 
--- the shape of the member of that name; none where nobody looks at it
+-- the shape of the member with this name; `None` if it is not read
 abbrev pub member_shape : LineShape → List ℕ → Option LineShape
 member_shape Line name =
     if bytes_eq name (codes "hook") then Some Hook
@@ -38,6 +38,6 @@ member_shape Range name =
 member_shape Start name = scalar_where (bytes_eq name (codes "line"))
 member_shape Scalar name = None
 
--- of no array an item is looked at
+-- no item of an array is read
 abbrev pub line_selection : Selection LineShape
 line_selection = record { member_shape = member_shape; item_shape = λ shape. Scalar; item_limit = λ shape. Some 0 }

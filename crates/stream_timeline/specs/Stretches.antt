@@ -1,20 +1,20 @@
--- The stretches between the moments at which steps begin and end, and how many steps are under way in each.
+-- The stretches between neighbouring begins and ends of steps, and how many steps run in each.
 use Rattle.std.specs.Prelude.{ℕ, ◌<◌, ◌≤◌, ◌^◌, ◌==◌, nat_lt, nat_le, List, [], ◌∷◌, Bool, ◌&&◌, if◌then◌else◌, Option, Some, None}
 use Rattle.std.specs.List.{count_by, filter}
 use Rattle.std.specs.List.Sorted.{IsNonDecreasingBy}
 use Rattle.stream_timeline.specs.declared.numbers.interval.Interval.{Interval}
 use Rattle.stream_timeline.specs.declared.numbers.stretch.Stretch.{Stretch}
 
--- it ends no sooner than it begins
+-- the interval ends no sooner than it begins
 abbrev pub IsOrdered : Interval → Type 0
 IsOrdered i = i.begin ≤ i.end
 
--- its numbers have 64 bits
+-- the numbers of the interval fit into 64 bits
 pub record IsSmallInterval (i : Interval) : Type 0 where
   pub place : i.place < 2 ^ 64
   pub end : i.end < 2 ^ 64
 
--- a number among others that ascend, where it is not among them
+-- a number put into an ascending list, unless the list has it
 abbrev pub put : ℕ → List ℕ → List ℕ
 put m [] = m ∷ []
 put m (c ∷ cs) = if nat_lt m c then m ∷ (c ∷ cs) else if m == c then c ∷ cs else c ∷ put m cs
@@ -24,11 +24,11 @@ abbrev pub cuts : List Interval → List ℕ
 cuts [] = []
 cuts (i ∷ is) = put i.begin (put i.end (cuts is))
 
--- it has begun where the stretch from a to b begins, and ends no sooner than that ends
+-- the interval covers the stretch from `a` to `b`
 abbrev pub is_under_way : (a b : ℕ) → Interval → Bool
 is_under_way a b i = nat_le i.begin a && nat_le b i.end
 
--- the place of the only one; none where there is not just one
+-- the place of the interval, if there is exactly one
 abbrev pub only_place : List Interval → Option ℕ
 only_place [] = None
 only_place (i ∷ []) = Some i.place
@@ -42,7 +42,7 @@ stretch_of is a b = record {
   alone = only_place (filter (is_under_way a b) is);
 }
 
--- one between each two neighbouring cuts
+-- the stretches between neighbouring cuts
 abbrev pub stretches_between : List Interval → List ℕ → List Stretch
 stretches_between is [] = []
 stretches_between is (a ∷ []) = []
@@ -51,6 +51,6 @@ stretches_between is (a ∷ (b ∷ cs)) = stretch_of is a b ∷ stretches_betwee
 abbrev pub stretches_of : List Interval → List Stretch
 stretches_of is = stretches_between is (cuts is)
 
--- none begins sooner than those before it
+-- no stretch begins before one that it follows
 abbrev pub AreInOrder : List Stretch → Type 0
 AreInOrder stretches = IsNonDecreasingBy (λ (s : Stretch). s.begin) stretches

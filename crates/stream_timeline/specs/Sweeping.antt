@@ -1,17 +1,18 @@
--- What a sweep over begins and ends keeps, for private clauses.
+-- The state of a sweep over begins and ends, for private clauses.
 use Rattle.std.specs.Prelude.{◌≡◌, ◌<◌, ◌≤◌, ◌^◌, ℕ, ◌+◌, ◌-◌, ◌==◌, nat_lt, List, [], ◌∷◌, if◌then◌else◌, Option, Some, None}
 use Rattle.stream_timeline.specs.declared.numbers.edge.Edge.{Edge}
 use Rattle.stream_timeline.specs.declared.numbers.running.Running.{Running}
 use Rattle.stream_timeline.specs.declared.numbers.stretch.Stretch.{Stretch}
 
--- one more fits
+-- the counts and sums have room for one more edge
 pub record IsSmall (running : Running) : Type 0 where
   pub begun : running.begun < 2 ^ 63
   pub ended : running.ended < 2 ^ 63
   pub begun_places : running.begun_places < 2 ^ 127
   pub ended_places : running.ended_places < 2 ^ 127
 
--- no more have ended than have begun, and the place of the only one is a place
+-- No more intervals have ended than begun. If exactly one runs, the difference of the sums is a
+-- place of 64 bits.
 pub record IsReady (running : Running) : Type 0 where
   pub number : running.ended ≤ running.begun
   pub places : running.ended_places ≤ running.begun_places
@@ -34,7 +35,7 @@ running_stretch running a b = record {
   alone = if running.begun - running.ended == 1 then Some (running.begun_places - running.ended_places) else None;
 }
 
--- where the next edge comes later, the stretch up to it
-abbrev pub pushed : Running → (last : Option ℕ) → (moment : ℕ) → List Stretch
-pushed running None moment = []
-pushed running (Some at) moment = if nat_lt at moment then running_stretch running at moment ∷ [] else []
+-- the stretch up to the next edge, if that comes later than the last one
+abbrev pub pushed : Running → (last : Option ℕ) → (time : ℕ) → List Stretch
+pushed running None time = []
+pushed running (Some at) time = if nat_lt at time then running_stretch running at time ∷ [] else []

@@ -1,4 +1,4 @@
-//! Where on a line the moments of a stream stand.
+//! The layout of bars: places on an axis, and how many steps ran at once in each cell.
 
 pub(crate) mod halves;
 pub(crate) mod levels;

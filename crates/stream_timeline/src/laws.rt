@@ -1,14 +1,14 @@
-//! A law of what a viewer keeps, which sees within it; `laws_timeline` has those of what is told, of numbers and of rows. The
-//! function does nothing; its contract is the law.
+//! A law about the memory of `TimelineBuilder`, whose fields only this crate sees. `laws_timeline`
+//! has the other laws. The function does nothing; its contract is the law.
 
 ghost use Rattle.std.specs.Prelude.{◌≤◌};
-ghost use Rattle.stream_timeline.specs.Memory.{kept_bytes, viewer_bytes};
-ghost use Rattle.stream_timeline.specs.Telling.{Telling};
-ghost use Rattle.stream_timeline.specs.Viewing.{HasTold};
-ghost use Rattle.stream_timeline.specs.declared.told.viewer.Viewer.{Viewer as viewer};
+ghost use Rattle.stream_timeline.specs.Memory.{stored_bytes, builder_bytes};
+ghost use Rattle.stream_timeline.specs.TimelineRead.{TimelineRead};
+ghost use Rattle.stream_timeline.specs.Building.{HasRead};
+ghost use Rattle.stream_timeline.specs.declared.reading.builder.TimelineBuilder.{TimelineBuilder as builder};
 
-/// What a viewer keeps, aside from what its vectors and maps hold in reserve and from the line at hand, takes no more
-/// bytes than what is defined of what its lines tell.
-pub fn a_viewer_keeps_what_is_defined()
-    ensures { (viewer : viewer) (told : Telling) → HasTold viewer told → viewer_bytes viewer ≤ kept_bytes told }
+/// A builder stores no more bytes than `stored_bytes` allows for the lines that it has read. The
+/// reserve of vectors and maps and the current line are not counted.
+pub fn a_builder_stores_what_is_defined()
+    ensures { (builder : builder) (timeline : TimelineRead) → HasRead builder timeline → builder_bytes builder ≤ stored_bytes timeline }
 {}

@@ -1,4 +1,4 @@
-//! How much was done, and how much of it beside one another.
+//! The figures of a stream: how much work was done, and how much of it at once.
 
 pub(crate) mod edge;
 pub(crate) mod interval;

@@ -1,4 +1,3 @@
 //! Which steps get a row.
 
-pub(crate) mod candidate;
 pub(crate) mod choosing;

@@ -1,16 +1,19 @@
-//! What no clause says, and no picture shows: that calls succeed with ample memory, with an answer of each that was worked out
-//! by hand; the texts of faults; and a reader that fails. What streams tell, and the numbers, rows and bars of that, are rows
-//! of `examples/views`, over the built program.
+//! Tests of what neither the contracts nor the stored pictures cover: calls succeed with ample
+//! memory and give results worked out by hand; the texts of faults; a reader that fails.
+//! `examples/views` covers the time lines, figures, rows and bars of whole streams, with the built
+//! program.
 
 use std::alloc::Global;
 use std::io::{self, BufReader, ErrorKind, Read};
 use std::process::Abort;
 use stream_timeline::{
-    Told, ViewFault, Viewer, halves_of, levels_of, numbers_of, place_on, read, rows_of,
+    Timeline, TimelineBuilder, TimelineFault, halves_of, levels_of, numbers_of, place_on, read,
+    rows_of,
 };
 
-/// Behind a blank line and two that are no messages: two creates beside one another for two of eight seconds, a provisioner
-/// in the first, an error, a warning, and the summaries of a plan and of an apply. The last line has no line feed.
+/// A stream with a blank line and two lines that are no messages. Two creates run at once for two
+/// of eight seconds, the first with a provisioner. An error, a warning, and the summaries of a plan
+/// and of an apply follow. The last line has no line feed.
 const STREAM: &str = r#"
 {}
 no message
@@ -26,83 +29,86 @@ no message
 {"@timestamp":"2024-05-01T12:00:08Z","type":"change_summary","changes":{"operation":"apply","add":1,"change":-1,"remove":2,"import":3}}
 {"@timestamp":"2024-05-01T12:00:10Z","type":"outputs"}"#;
 
-/// What the stream tells.
-fn told_of(rt: &impl Abort, alloc: Global) -> Told {
+/// The time line of the stream.
+fn timeline_of(rt: &impl Abort, alloc: Global) -> Timeline {
     read(alloc, &mut STREAM.as_bytes()).expect(rt, "a message")
 }
 
 #[test]
 fn lines(rt: HostRuntime) {
-    let told = told_of(&rt, rt.alloc());
-    assert!(rt; told.lines() == 14 && told.passed() == 2);
-    assert!(rt; told.version() == Some("1.11.4"));
-    let moments = told.moments().expect(&rt, "moments");
-    assert!(rt; moments.span() == 10_000_000);
+    let timeline = timeline_of(&rt, rt.alloc());
+    assert!(rt; timeline.lines() == 14 && timeline.passed_over() == 2);
+    assert!(rt; timeline.version() == Some("1.11.4"));
+    let time_range = timeline.time_range().expect(&rt, "moments");
+    assert!(rt; time_range.span() == 10_000_000);
 }
 
 #[test]
 fn summaries(rt: HostRuntime) {
-    let told = told_of(&rt, rt.alloc());
-    let totals = told.totals().expect(&rt, "totals");
-    assert!(rt; told.has_plan_summary());
+    let timeline = timeline_of(&rt, rt.alloc());
+    let totals = timeline.totals().expect(&rt, "totals");
+    assert!(rt; timeline.has_plan_summary());
     assert!(rt; totals.added == Some(1) && totals.changed == None);
     assert!(rt; totals.removed == Some(2) && totals.imported == Some(3));
 }
 
 #[test]
 fn steps(rt: HostRuntime) {
-    let told = told_of(&rt, rt.alloc());
-    let first = told.steps().first().expect(&rt, "a step");
+    let timeline = timeline_of(&rt, rt.alloc());
+    let first = timeline.steps().first().expect(&rt, "a step");
     assert!(rt; first.line() == 6 && first.address() == "a" && first.action() == "create");
     assert!(rt; first.end() == first.begin().checked_add(6_000_000) && !first.has_failed());
     assert!(rt; first.provisioners().len() == 1);
 }
 
-/// The first lines of a detail are kept without blanks at their ends, and empty lines at its end are not.
+/// The lines of a detail are stored without blanks at their ends, and without empty lines at its
+/// end.
 #[test]
 fn diagnostics(rt: HostRuntime) {
-    let told = told_of(&rt, rt.alloc());
-    assert!(rt; told.errors().count() == 1 && told.warnings().count() == 1);
-    let error = told.errors().kept().first().expect(&rt, "an error");
+    let timeline = timeline_of(&rt, rt.alloc());
+    assert!(rt; timeline.errors().count() == 1 && timeline.warnings().count() == 1);
+    let error = timeline.errors().stored().first().expect(&rt, "an error");
     assert!(rt; error.summary() == b"boom".as_slice() && error.address() == Some(b"a".as_slice()));
     assert!(rt; error.file() == Some(b"main.tf".as_slice()) && error.line() == Some(7));
     assert!(rt; error.detail().len() == 3 && error.more_lines() == 0);
 }
 
-/// A viewer that takes the same lines tells the same number of them.
+/// A builder that reads the same lines counts as many.
 #[test]
-fn viewer(rt: HostRuntime) {
+fn builder(rt: HostRuntime) {
     let alloc = rt.alloc();
-    let mut viewer = Viewer::new(alloc);
+    let mut builder = TimelineBuilder::new(alloc);
     for line in STREAM.lines() {
-        assert!(rt; !viewer.is_full());
-        viewer.line(alloc, line.as_bytes()).expect(&rt, "a line");
+        assert!(rt; !builder.is_full());
+        builder.line(alloc, line.as_bytes()).expect(&rt, "a line");
     }
-    let told = viewer.end().expect(&rt, "a message");
-    assert!(rt; told.lines() == 14 && told.passed() == 2 && told.steps().len() == 2);
+    let timeline = builder.end().expect(&rt, "a message");
+    assert!(rt;
+        timeline.lines() == 14 && timeline.passed_over() == 2 && timeline.steps().len() == 2
+    );
 }
 
 #[test]
 fn numbers(rt: HostRuntime) {
     let alloc = rt.alloc();
-    let told = told_of(&rt, alloc);
-    let moments = told.moments().expect(&rt, "moments");
-    let numbers = numbers_of(alloc, moments, told.steps()).expect(&rt, "memory");
+    let timeline = timeline_of(&rt, alloc);
+    let time_range = timeline.time_range().expect(&rt, "moments");
+    let numbers = numbers_of(alloc, time_range, timeline.steps()).expect(&rt, "memory");
     assert!(rt; numbers.busy == 8_000_000 && numbers.peak == 2);
     assert!(rt; numbers.work == 10_000_000 && numbers.created == 1);
     assert!(rt; numbers.alone.as_slice() == [4_000_000, 2_000_000].as_slice());
-    let levels = levels_of(alloc, &numbers.stretches, moments.span(), 5).expect(&rt, "memory");
+    let levels = levels_of(alloc, &numbers.stretches, time_range.span(), 5).expect(&rt, "memory");
     assert!(rt; levels.as_slice() == [1, 1, 2, 1, 0].as_slice());
 }
 
-/// Of the two steps the one that failed gets the only row; of the other one the length is said.
+/// The failed one of two steps gets the only row. The length of the other is reported.
 #[test]
 fn rows(rt: HostRuntime) {
-    let told = told_of(&rt, rt.alloc());
-    let moments = told.moments().expect(&rt, "moments");
-    let rows = rows_of(rt.alloc(), moments, told.steps(), Some(1)).expect(&rt, "memory");
+    let timeline = timeline_of(&rt, rt.alloc());
+    let time_range = timeline.time_range().expect(&rt, "moments");
+    let rows = rows_of(rt.alloc(), time_range, timeline.steps(), Some(1)).expect(&rt, "memory");
     assert!(rt; rows.places.as_slice() == [1].as_slice() && rows.left_out == 1);
-    assert!(rt; rows.longest == 6_000_000 && rows.together == 6_000_000);
+    assert!(rt; rows.longest == 6_000_000 && rows.total_length == 6_000_000);
 }
 
 #[test]
@@ -117,7 +123,7 @@ fn bars(rt: HostRuntime) {
     assert!(rt; place_on(400, 3, 1) == 133);
 }
 
-/// A reader that gives its bytes one by one, and fails behind them.
+/// A reader that gives its bytes one by one, and then fails.
 #[derive(Drop)]
 struct Broken<'a> {
     bytes: &'a [u8],
@@ -143,44 +149,44 @@ fn a_read_fails(rt: HostRuntime) {
     };
     let mut reader = BufReader::new(rt.alloc(), broken).expect(&rt, "memory");
     let fault = read(rt.alloc(), &mut reader).err().expect(&rt, "a fault");
-    says(&rt, rt.alloc(), fault, "the stream could not be read");
+    reports(&rt, rt.alloc(), fault, "the stream could not be read");
 }
 
-/// Fails where a fault says something else.
-fn says(rt: &impl Abort, alloc: Global, fault: ViewFault, wanted: &str) {
-    let said = format!(in alloc; "{fault}").expect(rt, "memory");
-    assert!(rt; said.as_str() == wanted);
+/// Fails if the fault has another text.
+fn reports(rt: &impl Abort, alloc: Global, fault: TimelineFault, wanted: &str) {
+    let content = format!(in alloc; "{fault}").expect(rt, "memory");
+    assert!(rt; content.as_str() == wanted);
 }
 
 #[test]
 fn faults(rt: HostRuntime) {
     let alloc = rt.alloc();
     let none = read(alloc, &mut "{}\n\n \t\r\n".as_bytes()).err();
-    assert!(rt; none == Some(ViewFault::NoMessage));
+    assert!(rt; none == Some(TimelineFault::NoMessage));
     assert!(rt; read(alloc, &mut "".as_bytes()).err() == none);
-    says(
+    reports(
         &rt,
         alloc,
-        ViewFault::TooLong(7),
+        TimelineFault::TooLong(7),
         "line 7 is longer than 67108864 bytes",
     );
-    says(
+    reports(
         &rt,
         alloc,
-        ViewFault::TooManyLines,
+        TimelineFault::TooManyLines,
         "the stream has more than 4294967296 lines",
     );
-    says(
+    reports(
         &rt,
         alloc,
-        ViewFault::TooManySteps,
+        TimelineFault::TooManySteps,
         "the stream has more than 100000 steps",
     );
-    says(
+    reports(
         &rt,
         alloc,
-        ViewFault::NoMessage,
+        TimelineFault::NoMessage,
         "there is no message in the stream",
     );
-    says(&rt, alloc, ViewFault::Memory, "out of memory");
+    reports(&rt, alloc, TimelineFault::Memory, "out of memory");
 }

@@ -1,4 +1,4 @@
--- The exit status of what is not followed.
+-- The exit status of refused arguments and of help.
 use Rattle.std.specs.Prelude.{ℕ}
 use Rattle.stream_tool.specs.declared.usage.Usage.{Usage}
 use Rattle.stream_tool.specs.declared.usage.Usage.TheVariants as usage

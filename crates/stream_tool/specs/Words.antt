@@ -1,4 +1,4 @@
--- What the words behind a command say of its file, and why they are refused.
+-- The arguments that tools share, and why arguments are refused.
 use Rattle.std.specs.Prelude.{◌≡◌, ◌⊎◌, ⊤, ℕ, List, if◌then◌else◌, Option, Some, None, codes}
 use Rattle.std.specs.Io.KnownBytes.{Keeps}
 use Rattle.std.specs.Str.{bytes_eq}
@@ -12,49 +12,50 @@ use Rattle.clap.specs.declared.error.kind.ErrorKind.TheVariants.{DisplayHelp, Ou
 use Rattle.stream_tool.specs.declared.usage.Usage.{Usage}
 use Rattle.stream_tool.specs.declared.usage.Usage.TheVariants as usage
 
--- `--NAME`, which is given or not
+-- `--NAME`, an option without a value
 abbrev pub flag_rule : (name : Text) → Rule
 flag_rule name = record (new_rule name) { long = Some name; action = Some SetTrue }
 
--- `FILE`
+-- the argument `FILE`
 abbrev pub file_rule : Rule
 file_rule = record (new_rule (codes "file")) { value_names = 1 }
 
--- the name of a file; `-` names none
+-- the name of the file; `-` names none
 abbrev pub unless_dash : Option Text → Option Text
 unless_dash None = None
 unless_dash (Some name) = if bytes_eq name (codes "-") then None else Some name
 
--- what is answered to an error of that kind: help where help was asked for
+-- the answer to an error of the parser: help if and only if help was asked for
 abbrev pub Answers : ErrorKind → Usage → Type 0
 Answers kind (usage.Help text) = kind ≡ DisplayHelp
 Answers kind (usage.Words text) = (kind ≡ OutOfMemory → ⊥) × (kind ≡ DisplayHelp → ⊥)
 Answers kind usage.Memory = ⊤
 
--- the words are a call for help
+-- the arguments ask for help
 abbrev pub AskForHelp : App → List Text → Type 0
 AskForHelp app words = IsAmong DisplayHelp (fault_of app words)
 
--- they are none of the command's options
-abbrev pub WereNotTaken : App → List Text → Type 0
-WereNotTaken app words = (kind : ErrorKind) × (kind ≡ DisplayHelp → ⊥) × IsAmong kind (fault_of app words)
+-- the arguments do not fit the options of the command
+abbrev pub WereNotAccepted : App → List Text → Type 0
+WereNotAccepted app words = (kind : ErrorKind) × (kind ≡ DisplayHelp → ⊥) × IsAmong kind (fault_of app words)
 
--- they are a call for help, or none of the options, or memory was refused
+-- why the arguments are refused: they ask for help, they do not fit, or memory was refused
 abbrev pub WereRefused : App → List Text → Usage → Type 0
 WereRefused app words (usage.Help text) = AskForHelp app words
-WereRefused app words (usage.Words text) = WereNotTaken app words
+WereRefused app words (usage.Words text) = WereNotAccepted app words
 WereRefused app words usage.Memory = ⊤
 
--- what a reader has to give: the input where no file is named, and else a file that was opened, never the input
+-- The bytes that the tool reads: those of the input where no file is named, else those of an opened
+-- file.
 abbrev pub IsGivenBy : {A File : Type 0} → (remaining : File → Option (List ℕ)) → (input : Option (List ℕ)) → (name : Option A)
     → (given : Option (List ℕ)) → Type 0
 IsGivenBy remaining input None given = given ≡ input
 IsGivenBy {File = File} remaining input (Some name) given = (file : File) × (given ≡ remaining file)
 
--- No stream was looked at: help was asked for, with status 0; the words were refused, or the file that they name could not be
--- opened, with status 2 and the output as it was; or memory was refused, with status 3.
+-- No stream was read. Status 0: help was asked for. Status 2: the arguments were refused, or their
+-- file could not be opened; the output is unchanged. Status 3: memory was refused.
 abbrev pub WasNotFollowed : App → (NameAFile : Type 0) → (words : List Text) → (before after : Option (List ℕ)) → (status : ℕ) → Type 0
 WasNotFollowed app NameAFile words before after status =
     ((status ≡ 0) × AskForHelp app words)
-    ⊎ ((status ≡ 2) × Keeps before after × (WereNotTaken app words ⊎ NameAFile))
+    ⊎ ((status ≡ 2) × Keeps before after × (WereNotAccepted app words ⊎ NameAFile))
     ⊎ ((status ≡ 3) × Keeps before after)

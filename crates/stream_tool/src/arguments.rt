@@ -1,4 +1,4 @@
-//! The file of a command.
+//! The argument `FILE`.
 
 ghost use Rattle.std.specs.Prelude.{◌≡◌, false, IfOk, codes, option_map, string_bytes};
 ghost use Rattle.clap.specs.Matches.{found_of};
@@ -8,7 +8,7 @@ ghost use Rattle.stream_tool.specs.Words.{file_rule, unless_dash};
 use clap::{Arg, ArgMatches};
 use std::alloc::{AllocError, Global};
 
-/// `FILE`, which names the stream of a command.
+/// Defines the argument `FILE`, which names the stream.
 pub fn file<'a>(alloc: Global) -> Arg<'a>
     ensures { (rule_of result ≡ file_rule) × (result.global ≡ false) }
 {
@@ -17,7 +17,8 @@ pub fn file<'a>(alloc: Global) -> Arg<'a>
         .help("The file with the stream; `-` is standard input")
 }
 
-/// The file of the stream, where one is named; `-` names standard input. `Err` where memory is refused.
+/// Returns the name of the file. `-` and a missing argument stand for standard input (`None`).
+/// `Err` where memory is refused.
 pub fn file_of(alloc: Global, matches: &ArgMatches<'_>) -> Result<Option<String>, AllocError>
     ensures { IfOk result (λ file. option_map string_bytes file ≡ unless_dash (first_of (codes "file") (rows_of (found_of matches.now)))) }
 {

@@ -2,14 +2,14 @@
 
 use std::{fmt, io};
 
-/// A file that could not be opened or read, and why.
+/// A message about a file that could not be opened or read.
 #[derive(Clone, Copy)]
 pub struct FileFault<'a> {
-    /// Its name, as it is shown.
+    /// The name of the file, with control characters escaped.
     pub name: &'a str,
-    /// What could not be done.
+    /// What could not be done, as a participle: `opened` or `read`.
     pub done: &'a str,
-    /// Why, where that is known.
+    /// The error of the system, where there is one.
     pub error: Option<&'a io::Error>,
 }
 

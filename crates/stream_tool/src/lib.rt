@@ -2,19 +2,19 @@
 #![tactic(auto)]
 
 mod arguments;
+mod draining;
 mod file_fault;
 mod options;
 mod parsing;
-mod reading_on;
 mod refusals;
 mod reporting;
 mod status;
 mod usage;
 
 pub use arguments::{file, file_of};
+pub use draining::flush_and_drain;
 pub use options::{flag, is_given, with_option};
 pub use parsing::matches_of;
-pub use reading_on::read_on;
 pub use refusals::{answer_usage, refuse_file, refuse_memory, refuse_unread};
 pub use reporting::report;
 pub use status::{FAILED, REFUSED};

@@ -1,4 +1,4 @@
-//! The options of a command.
+//! Options of a command.
 
 ghost use Rattle.std.specs.Prelude.{◌≡◌, Some, false, true, IfOk, codes};
 ghost use Rattle.clap.specs.Matches.{found_of};
@@ -9,7 +9,10 @@ ghost use Rattle.stream_tool.specs.Words.{flag_rule};
 use clap::{Arg, ArgAction, ArgMatches, Command};
 use std::alloc::{AllocError, Global};
 
-/// The command, where there is one, with an option more. A list of options by this has one way out, and not one for each.
+/// Adds an option to the command. Taking a `Result` lets a list of options
+/// return once, and not once for each option.
+///
+/// `Err` where memory is refused, or was refused before.
 pub fn with_option<'a>(
     command: Result<Command<'a>, AllocError>,
     option: Arg<'a>,
@@ -24,7 +27,7 @@ pub fn with_option<'a>(
     }
 }
 
-/// `--NAME`, which is given or not, and what is said of it.
+/// Defines `--NAME`, an option without a value, with its help text.
 pub fn flag<'a>(alloc: Global, name: &'a str, help: &'a str) -> Arg<'a>
     ensures { (rule_of result ≡ flag_rule name.entry.now) × (result.global ≡ false) }
 {
@@ -34,7 +37,7 @@ pub fn flag<'a>(alloc: Global, name: &'a str, help: &'a str) -> Arg<'a>
         .help(help)
 }
 
-/// Whether the flag of that name is given.
+/// Whether the option `--NAME` is given.
 pub fn is_given(matches: &ArgMatches<'_>, name: &str) -> bool
     ensures yes { one_of name.now (rows_of (found_of matches.now)) ≡ Some (codes "true") → result ≡ true }
     ensures no { one_of name.now (rows_of (found_of matches.now)) ≡ Some (codes "false") → result ≡ false }

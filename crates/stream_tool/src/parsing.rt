@@ -1,4 +1,4 @@
-//! From words to matches.
+//! Parses arguments.
 
 ghost use Rattle.std.specs.Prelude.{◌≡◌, [], true, IfErr, IfOk, map, string_bytes};
 ghost use Rattle.clap.specs.Faults.{fault_of, is_simple_and_free};
@@ -13,14 +13,16 @@ use clap::error::ErrorKind;
 use clap::{ArgMatches, Command};
 use std::alloc::{AllocError, Global};
 
-/// What the words say, by the options of the command. `Err` with `Usage::Help` where they ask for help, with `Usage::Words`
-/// where they are none of the command, and with `Usage::Memory` where memory is refused.
+/// Parses the arguments by the options of the command.
+///
+/// `Err` with `Usage::Help` where they ask for help, with `Usage::Words` where they do not fit, and
+/// with `Usage::Memory` where memory is refused.
 pub fn matches_of<'a>(
     alloc: Global,
     command: Command<'a>,
     words: &'a [String],
 ) -> Result<ArgMatches<'a>, Usage>
-    ensures said { (app : App) → app_of command.entry ≡ app → is_simple app ≡ true → is_simple_and_free app ≡ true
+    ensures stated { (app : App) → app_of command.entry ≡ app → is_simple app ≡ true → is_simple_and_free app ≡ true
         → IfOk result (λ matches. (fault_of app (map string_bytes words.entry.now) ≡ [])
         × (rows_of (found_of matches) ≡ matches_of app (map string_bytes words.entry.now))) }
     ensures refused { (app : App) → app_of command.entry ≡ app → is_simple_and_free app ≡ true
@@ -32,7 +34,7 @@ pub fn matches_of<'a>(
     }
 }
 
-/// What is answered where the parser gives no matches.
+/// Turns an error of the parser into an answer. `Err` where memory is refused.
 fn usage_of(alloc: Global, error: &clap::Error) -> Result<Usage, AllocError>
     ensures { IfOk result (Answers (kind_of error.now)) }
 {

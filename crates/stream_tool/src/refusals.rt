@@ -1,4 +1,4 @@
-//! Why a command was not followed.
+//! Reports why a command ends early.
 
 ghost use Rattle.std.specs.Prelude.{◌≡◌, ◌≤◌, ◌⊎◌};
 ghost use Rattle.std.specs.Io.KnownBytes.{Keeps};
@@ -12,10 +12,10 @@ use std::alloc::Global;
 use std::io;
 use std::io::Write;
 use stream_lines::{FailedRead, LineFault};
-use term_text::shown;
+use term_text::escape_controls;
 
-/// Says why the words are not followed, and answers the exit status: 0 for help, which is printed on `out`, 3 where
-/// memory was refused, else 2.
+/// Prints help on `out`, or reports on `faults` why the arguments are refused. Returns the exit
+/// status: 0 for help, 3 where memory was refused, else 2.
 pub fn answer_usage<W: Write, E: Write>(usage: &Usage, out: &mut W, faults: &mut E) -> u8
     ensures status { result ≡ usage_status_of usage.now }
     ensures quiet { result ≡ 0 → Keeps (E.contents faults.old) (E.contents faults.new) }
@@ -35,7 +35,8 @@ pub fn answer_usage<W: Write, E: Write>(usage: &Usage, out: &mut W, faults: &mut
     }
 }
 
-/// Says that the file of that name could not be read, and answers the exit status: 3 where memory was refused for that, else 2.
+/// Reports that the file could not be read. Returns the exit status: 2, or 3 where memory was
+/// refused for the message.
 pub fn refuse_unread<E: Write>(alloc: Global, faults: &mut E, name: &str, failed: FailedRead) -> u8
     ensures { (result ≡ 2) ⊎ (result ≡ 3) }
 {
@@ -48,8 +49,9 @@ pub fn refuse_unread<E: Write>(alloc: Global, faults: &mut E, name: &str, failed
     }
 }
 
-/// Says that the file of that name could not be opened or read, and why, and answers the exit status: 3 where memory was
-/// refused for that, else 2. Its name is what was typed, but shown so that it steers no terminal.
+/// Reports that the file could not be opened or read, with the error of the system. Control
+/// characters in its name are escaped. Returns the exit status: 2, or 3 where memory was refused
+/// for the message.
 pub fn refuse_file<E: Write>(
     alloc: Global,
     faults: &mut E,
@@ -59,7 +61,7 @@ pub fn refuse_file<E: Write>(
 ) -> u8
     ensures { (result ≡ 2) ⊎ (result ≡ 3) }
 {
-    let Ok(name) = shown(alloc, name.as_bytes()) else {
+    let Ok(name) = escape_controls(alloc, name.as_bytes()) else {
         return refuse_memory(faults);
     };
     report(
@@ -73,7 +75,7 @@ pub fn refuse_file<E: Write>(
     REFUSED
 }
 
-/// Says that memory was refused, and answers the exit status.
+/// Reports that memory was refused, and returns the exit status 3.
 pub fn refuse_memory<E: Write>(faults: &mut E) -> u8
     ensures { result ≡ 3 }
 {

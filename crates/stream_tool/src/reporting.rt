@@ -1,16 +1,16 @@
-//! What is said to people.
+//! Messages for people, on standard error.
 
 use std::fmt::Display;
 use std::io::{Cursor, Write};
 
-/// How many bytes of a line for people go out in one write without memory of the heap.
+/// The longest message that goes out in one write, in bytes.
 const LINE_ROOM: usize = 1_024;
 
-/// Says what went wrong, on a line of its own behind `applystream: `. A text that cannot be written is dropped, since there
-/// is nowhere left to say so.
+/// Writes `applystream: `, the message and a line feed to `faults`. A failed write is ignored,
+/// since no other place is left for messages.
 ///
-/// The line goes out in one write, so that it stays whole beside other writers, and takes no memory of the heap. One
-/// longer than 1,024 bytes, which only the long name of a file makes, goes out in pieces.
+/// The line takes no heap memory and goes out in one write, so it stays whole next to other
+/// writers. Only a long file name makes a line of more than 1,024 bytes, which goes out in parts.
 pub fn report<E: Write, D: Display + Drop>(faults: &mut E, fault: D) {
     let mut line = Cursor::new([0u8; LINE_ROOM]);
     let _ = match writeln!(line, "applystream: {fault}") {

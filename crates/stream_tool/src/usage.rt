@@ -1,16 +1,16 @@
-//! What the words get where they are not followed.
+//! Why arguments give no settings.
 
 ghost use Rattle.std.specs.Prelude.{◌≡◌};
 ghost use Rattle.stream_tool.specs.declared.usage.Usage.TheVariants.{Memory};
 
 use std::alloc::{AllocError, AllocFailed};
 
-/// Why the words behind a command say no settings.
+/// Why arguments give no settings.
 #[derive(Debug, Drop)]
 pub enum Usage {
-    /// They ask for help, which is this text.
+    /// They ask for help. The text is the help.
     Help(String),
-    /// They are none of the command. The text says why, and how the words go.
+    /// They do not fit the command. The text says why, and shows the usage.
     Words(String),
     /// Memory was refused.
     Memory,

@@ -1,15 +1,15 @@
--- What was drawn, by what was told and how it was asked for.
+-- What was drawn, by the time line and the settings.
 use Rattle.std.proofs.Common.{◌≡◌, ◌≢◌, ℕ, Bool, List, Option, None, Some, Result, Ok, Err, refl, subst, sym}
 use Rattle.std.specs.Prelude.{IfSome, OnOk}
-use Rattle.stream_timeline.specs.Lines.{IsToldOf}
-use Rattle.stream_timeline.specs.Telling.{Telling}
-use Rattle.stream_timeline.specs.declared.told.view_fault.ViewFault.{ViewFault}
+use Rattle.stream_timeline.specs.Lines.{IsReadOf}
+use Rattle.stream_timeline.specs.TimelineRead.{TimelineRead}
+use Rattle.stream_timeline.specs.declared.reading.timeline_fault.TimelineFault.{TimelineFault}
 use Rattle.stream_view.specs.Markup.{SvgWritten}
 use Rattle.stream_view.specs.Texts.{TextWritten}
 use Rattle.stream_view.specs.Viewed.{IsDrawn, IsDrawnOf, IsOfStream, PictureWritten, is_on}
 use Rattle.stream_view.specs.declared.command.colour.Colour.{Colour}
-use Rattle.stream_view.specs.declared.command.form.Form.{Form}
-use Rattle.stream_view.specs.declared.command.form.Form.TheVariants as form
+use Rattle.stream_view.specs.declared.command.settings.Form.{Form}
+use Rattle.stream_view.specs.declared.command.settings.Form.TheVariants as form
 use Rattle.stream_view.specs.declared.command.picture_fault.PictureFault.{PictureFault}
 use Rattle.stream_view.specs.declared.command.picture_fault.PictureFault.TheVariants as fault
 use Rattle.stream_view.specs.declared.draw_fault.DrawFault.{DrawFault}
@@ -36,12 +36,12 @@ pub picture_written : (asked : Form) (is_wanted : Bool) (picture : Picture) (a b
 picture_written (form.Text width colour) is_wanted picture a b drawn = as_lines width (is_on is_wanted colour) picture a b drawn
 picture_written form.Svg is_wanted picture a b drawn = (picture, drawn)
 
--- where something was told, what was drawn is of that
-pub stream_drawn : (given : Option (List ℕ)) (told : Telling) (limit : Option ℕ) (asked : Form) (is_wanted : Bool) (a b : Option (List ℕ))
-    (answer : Result (Unit {0}) PictureFault) → IfSome given (λ bytes. IsToldOf bytes (Ok told))
-    → OnOk answer (IsDrawnOf told limit asked is_wanted a b) → ((why : ViewFault) → answer ≢ Err (fault.Untold why))
+-- if there is a time line, what was drawn belongs to it
+pub stream_drawn : (given : Option (List ℕ)) (timeline : TimelineRead) (limit : Option ℕ) (asked : Form) (is_wanted : Bool) (a b : Option (List ℕ))
+    (answer : Result (Unit {0}) PictureFault) → IfSome given (λ bytes. IsReadOf bytes (Ok timeline))
+    → OnOk answer (IsDrawnOf timeline limit asked is_wanted a b) → ((why : TimelineFault) → answer ≢ Err (fault.NoTimeline why))
     → IfSome given (λ bytes. IsOfStream bytes limit asked is_wanted a b answer)
-stream_drawn None told limit asked is_wanted a b answer is drawn never = tt
-stream_drawn (Some bytes) told limit asked is_wanted a b (Ok done) is drawn never = (told, is, drawn)
-stream_drawn (Some bytes) told limit asked is_wanted a b (Err (fault.Untold why)) is drawn never = absurd (never why refl)
-stream_drawn (Some bytes) told limit asked is_wanted a b (Err (fault.Undrawn why)) is drawn never = tt
+stream_drawn None timeline limit asked is_wanted a b answer is drawn never = tt
+stream_drawn (Some bytes) timeline limit asked is_wanted a b (Ok done) is drawn never = (timeline, is, drawn)
+stream_drawn (Some bytes) timeline limit asked is_wanted a b (Err (fault.NoTimeline why)) is drawn never = absurd (never why refl)
+stream_drawn (Some bytes) timeline limit asked is_wanted a b (Err (fault.Undrawn why)) is drawn never = tt

@@ -7,5 +7,5 @@ pub mod Parsed
 pub mod Parts
 pub mod Pieces
 pub mod Rows
-pub mod Saying
+pub mod MessageText
 pub mod Sent

@@ -11,16 +11,16 @@ number_read : (E : Type 0) (gives : Text → Result ℕ E → Type 0) (least mos
     → ReadsOne gives text read → n ≡ max least (min (unwrap_or read otherwise) most) → IsNumber least most text n
 number_read E gives least most otherwise (Some v) n text parses fits reads is numeral low high =
     let parsed = parses text (Ok v) reads in
-    let said : v ≡ digits_value 10 (without_leading_plus text) = parsed.1 in
-    omega (arith, is, said, low, high)
+    let stated : v ≡ digits_value 10 (without_leading_plus text) = parsed.1 in
+    omega (arith, is, stated, low, high)
 number_read E gives least most otherwise None n text parses fits reads is numeral low high =
     absurd (parses text (Err reads.0) reads.1 (numeral, omega (arith, high, fits)))
 
--- what is read of an option, brought into its bounds, is the number that the option's text says
-pub number_is : (E : Type 0) (gives : Text → Result ℕ E → Type 0) (least most otherwise : ℕ) (read : Option ℕ) (n : ℕ) (found : Option Text)
+-- the value of an option, clamped to its bounds, is the number in the option's text
+pub number_is : (E : Type 0) (gives : Text → Result ℕ E → Type 0) (least most otherwise : ℕ) (read : Option ℕ) (n : ℕ) (listed : Option Text)
     → ((t : Text) (r : Result ℕ E) → gives t r → ParsesUnsigned 32 10 t r) → most < 2 ^ 32
-    → ((t : Text) → found ≡ Some t → ReadsOne gives t read) → n ≡ max least (min (unwrap_or read otherwise) most)
-    → IfSome found (λ text. IsNumber least most text n)
+    → ((t : Text) → listed ≡ Some t → ReadsOne gives t read) → n ≡ max least (min (unwrap_or read otherwise) most)
+    → IfSome listed (λ text. IsNumber least most text n)
 number_is E gives least most otherwise read n None parses fits reads is = tt
 number_is E gives least most otherwise read n (Some text) parses fits reads is =
     number_read E gives least most otherwise read n text parses fits (reads text refl) is

@@ -1,16 +1,16 @@
--- Lines that grow by a piece, and pages by a line.
+-- Lines that grow by a piece, and buffers that grow by a line.
 use Rattle.std.proofs.Common.{◌≡◌, ◌∙◌, ℕ, ◌+◌, ◌≤◌, ◌∷◌, [], ◌++◌, List, Bool, true, ap₂, get_or, eqb-true, eq-eqb, arith}
 use Rattle.std.specs.Prelude.{◌&&◌, ◌==◌, All, map}
 use Rattle.std.specs.List.{list_all, sum_by}
 use Rattle.std.proofs.lemmas.List.Elements.{All-map}
 use Rattle.std.proofs.lemmas.List.Folds.{list_all-append}
 use Rattle.std.proofs.lemmas.List.Sums.{AllPass-from_list_all, sum_by-append}
-use Rattle.stream_view.specs.Lines.{IsLine, piece_columns}
+use Rattle.stream_view.specs.Lines.{IsLine, line_piece_columns}
 use Rattle.stream_view.specs.declared.text.line.Line.{Line}
-use Rattle.stream_view.specs.declared.text.piece.Piece.{Piece}
+use Rattle.stream_view.specs.declared.text.line_piece.LinePiece.{LinePiece}
 
-pub columns-push : (pieces : List Piece) (p : Piece) → sum_by piece_columns (pieces ++ p ∷ []) ≡ sum_by piece_columns pieces + piece_columns p
-columns-push pieces p = omega (arith, sum_by-append piece_columns pieces (p ∷ []))
+pub columns-push : (pieces : List LinePiece) (p : LinePiece) → sum_by line_piece_columns (pieces ++ p ∷ []) ≡ sum_by line_piece_columns pieces + line_piece_columns p
+columns-push pieces p = omega (arith, sum_by-append line_piece_columns pieces (p ∷ []))
 
 -- one more that passes
 pub passes-push : {X : Type 0} (test : X → Bool) (xs : List X) (x : X) → list_all test xs ≡ true → test x ≡ true → list_all test (xs ++ x ∷ []) ≡ true
@@ -23,13 +23,13 @@ even-push lines line width even is = passes-push (λ (l : Line). l.width == widt
 -- a line that may be so wide is one of at most so many columns
 pub line_fine : (line : Line) (width : ℕ) → line.width ≡ width → IsLine width line.pieces.items
 line_fine line width is =
-    let counted : line.columns ≡ sum_by piece_columns line.pieces.items = line.counted in
+    let counted : line.columns ≡ sum_by line_piece_columns line.pieces.items = line.counted in
     let fits : line.columns ≤ line.width = line.fits in
     record { columns = omega (arith, is, counted, fits); no_control = line.no_control }
 
-pub page_fine : (lines : List Line) (width : ℕ) → list_all (λ (l : Line). l.width == width) lines ≡ true
+pub buffer_fine : (lines : List Line) (width : ℕ) → list_all (λ (l : Line). l.width == width) lines ≡ true
     → All (IsLine width) (map (λ (l : Line). l.pieces.items) lines)
-page_fine lines width even =
+buffer_fine lines width even =
     All-map (IsLine width) (λ (l : Line). l.pieces.items) lines (λ k d below.
     line_fine (get_or lines k d) width
     (eqb-true (get_or lines k d).width width (AllPass-from_list_all (λ (l : Line). l.width == width) lines even k d below)))

@@ -8,14 +8,14 @@ use Rattle.std.proofs.lemmas.Grind.{flat_map-append}
 use Rattle.std.proofs.lemmas.List.{map-append, map_more, take_all, take_more}
 use Rattle.std.proofs.lemmas.List.Elements.{All-append}
 use Rattle.stream_timeline.specs.declared.rows.choosing.Rows.{Rows}
-use Rattle.stream_view.specs.LeftOut.{IsLeftOutAs, left_out_said}
+use Rattle.stream_view.specs.LeftOut.{IsLeftOutAs, left_out_shown}
 use Rattle.stream_view.specs.Lines.{IsLine, LinesWritten, line_bytes, text_bytes}
 use Rattle.stream_view.specs.Rows.{AreTicks, Layout, layout_of, row_at, rows_of}
 use Rattle.stream_view.specs.Texts.{HeadLinesWritten, IsHeadedBy, LeftOutWritten, RowsWritten, TextWritten, heading_characters}
 use Rattle.stream_view.specs.declared.picture.Picture.{Picture}
 use Rattle.stream_view.specs.declared.text.line.Line.{Line}
-use Rattle.stream_view.specs.declared.text.piece.Piece.{Piece}
-use Rattle.stream_view.specs.declared.text.style.Style.{Style}
+use Rattle.stream_view.specs.declared.text.line_piece.LinePiece.{LinePiece}
+use Rattle.stream_view.specs.declared.text.line_buffer.Style.{Style}
 
 -- ---- one element more
 
@@ -29,7 +29,7 @@ pub text-more : (colour : Bool) (lines : List Line) (i : ℕ) (line : Line) → 
     → text_bytes colour (map (λ (l : Line). l.pieces.items) (take (i + 1) lines))
     ≡ text_bytes colour (map (λ (l : Line). l.pieces.items) (take i lines)) ++ line_bytes colour line.pieces.items
 text-more colour lines i line below is =
-    let pieces : Line → List Piece = λ (l : Line). l.pieces.items in
+    let pieces : Line → List LinePiece = λ (l : Line). l.pieces.items in
     ap (λ ls. text_bytes colour (map pieces ls)) (take_more lines i line below)
     ∙ ap (text_bytes colour) (map-append pieces (take i lines) (get_or lines i line ∷ []))
     ∙ flat_map-append (line_bytes colour) (map pieces (take i lines)) (pieces (get_or lines i line) ∷ [])
@@ -63,10 +63,10 @@ pub no_rows : (width : ℕ) (colour : Bool) (picture : Picture) (ticks : List �
 no_rows width colour picture ticks a = record { fine = λ k d below. absurd (omega (arith, below)); written = Appends-nil a }
 
 -- what is so of each of some lines and of one more
-all-more : (P : List Piece → Type 0) (lines : List (List Piece)) (line : List Piece) → All P lines → P line → All P (lines ++ line ∷ [])
+all-more : (P : List LinePiece → Type 0) (lines : List (List LinePiece)) (line : List LinePiece) → All P lines → P line → All P (lines ++ line ∷ [])
 all-more P lines line all one = All-append P lines (line ∷ []) all (λ k d below. let zero : k ≡ 0 = omega (arith, below) in rw zero one)
 
-pub row_more : (width : ℕ) (colour : Bool) (picture : Picture) (ticks places : List ℕ) (i : ℕ) (a b c : Option (List ℕ)) (row : List Piece)
+pub row_more : (width : ℕ) (colour : Bool) (picture : Picture) (ticks places : List ℕ) (i : ℕ) (a b c : Option (List ℕ)) (row : List LinePiece)
     → i < length places → RowsWritten width colour picture ticks (take i places) a b → row ≡ row_at width picture ticks (get_or places i 0)
     → IsLine width row → Appends b c (line_bytes colour row) → RowsWritten width colour picture ticks (take (i + 1) places) a c
 row_more width colour picture ticks places i a b c row below before is fine more =
@@ -87,34 +87,34 @@ pub rows_all : (width : ℕ) (colour : Bool) (picture : Picture) (ticks places i
 rows_all width colour picture ticks places items i a b are ends rows =
     subst (λ ps. RowsWritten width colour picture ticks ps a b) (take_all i items ends ∙ are) rows
 
--- lines of a page of that style
-pub page_written : (style : Style) (a b : Option (List ℕ)) (lines : List (List Piece)) (had : Style) → had ≡ style → All (IsLine had.width) lines
+-- lines of a buffer of that style
+pub buffer_written : (style : Style) (a b : Option (List ℕ)) (lines : List (List LinePiece)) (had : Style) → had ≡ style → All (IsLine had.width) lines
     → Appends a b (text_bytes had.has_colour lines) → LinesWritten style.width style.has_colour a b
-page_written style a b lines had is fine sent = record {
+buffer_written style a b lines had is fine sent = record {
   lines = lines;
   fine = subst (λ (s : Style). All (IsLine s.width) lines) is fine;
   written = subst (λ (s : Style). Appends a b (text_bytes s.has_colour lines)) is sent;
 }
 
-pub head_page_written : (style : Style) (picture : Picture) (a b : Option (List ℕ)) (lines : List (List Piece)) (had : Style) → had ≡ style
+pub head_buffer_written : (style : Style) (picture : Picture) (a b : Option (List ℕ)) (lines : List (List LinePiece)) (had : Style) → had ≡ style
     → All (IsLine had.width) lines → Appends a b (text_bytes had.has_colour lines) → IsHeadedBy style.width (heading_characters picture) lines
     → HeadLinesWritten style.width style.has_colour picture a b
-unfolding page_written
-head_page_written style picture a b lines had is fine sent headed =
-    let page = page_written style a b lines had is fine sent in
-    record { lines = lines; headed = headed; fine = page.fine; written = page.written }
+unfolding buffer_written
+head_buffer_written style picture a b lines had is fine sent headed =
+    let line_buffer = buffer_written style a b lines had is fine sent in
+    record { lines = lines; headed = headed; fine = line_buffer.fine; written = line_buffer.written }
 
-pub left_out_written : (style : Style) (indent : ℕ) (rows : Rows) (a b : Option (List ℕ)) (lines : List (List Piece)) (had : Style) → had ≡ style
-    → All (IsLine had.width) lines → Appends a b (text_bytes had.has_colour lines) → IsLeftOutAs had.width indent (left_out_said rows) lines
+pub left_out_written : (style : Style) (indent : ℕ) (rows : Rows) (a b : Option (List ℕ)) (lines : List (List LinePiece)) (had : Style) → had ≡ style
+    → All (IsLine had.width) lines → Appends a b (text_bytes had.has_colour lines) → IsLeftOutAs had.width indent (left_out_shown rows) lines
     → LeftOutWritten style.width style.has_colour indent rows a b
-unfolding page_written
-left_out_written style indent rows a b lines had is fine sent told =
-    let page = page_written style a b lines had is fine sent in
+unfolding buffer_written
+left_out_written style indent rows a b lines had is fine sent same_parts =
+    let line_buffer = buffer_written style a b lines had is fine sent in
     record {
       lines = lines;
-      is = subst (λ (s : Style). IsLeftOutAs s.width indent (left_out_said rows) lines) is told;
-      fine = page.fine;
-      written = page.written;
+      is = subst (λ (s : Style). IsLeftOutAs s.width indent (left_out_shown rows) lines) is same_parts;
+      fine = line_buffer.fine;
+      written = line_buffer.written;
     }
 
 -- a head, the rows, what has none, and a tail
@@ -122,9 +122,9 @@ pub text_written : (width : ℕ) (colour : Bool) (layout : Layout) (picture : Pi
     → layout ≡ layout_of width picture → AreTicks (layout_of width picture) ticks → HeadLinesWritten width colour picture a b
     → RowsWritten width colour picture ticks picture.rows.places.items b c → LeftOutWritten width colour (layout.action + 1) picture.rows c d
     → LinesWritten width colour d e → Keeps e f → TextWritten width colour picture a f
-text_written width colour layout picture ticks a b c d e f same are_ticks head written left tail kept =
+text_written width colour layout picture ticks a b c d e f same are_ticks head written left tail unchanged =
     let rows = rows_of width picture ticks in
-    let bytes : List (List Piece) → List ℕ = text_bytes colour in
+    let bytes : List (List LinePiece) → List ℕ = text_bytes colour in
     let joined : bytes (head.lines ++ rows ++ left.lines ++ tail.lines) ≡ bytes head.lines ++ bytes rows ++ bytes left.lines ++ bytes tail.lines =
     flat_map-append (line_bytes colour) (head.lines ++ rows ++ left.lines) tail.lines
     ∙ ap (λ bs. bs ++ bytes tail.lines) (flat_map-append (line_bytes colour) (head.lines ++ rows) left.lines
@@ -136,12 +136,12 @@ text_written width colour layout picture ticks a b c d e f same are_ticks head w
       tail = tail.lines;
       headed = head.headed;
       are_ticks = are_ticks;
-      is_left_out = subst (λ (l : Layout). IsLeftOutAs width (l.action + 1) (left_out_said picture.rows) left.lines) same left.is;
+      is_left_out = subst (λ (l : Layout). IsLeftOutAs width (l.action + 1) (left_out_shown picture.rows) left.lines) same left.is;
       fine = All-append (IsLine width) (head.lines ++ rows ++ left.lines) tail.lines (All-append (IsLine width) (head.lines ++ rows) left.lines
           (All-append (IsLine width) head.lines rows head.fine written.fine) left.fine) tail.fine;
       written = subst (Appends a f) (sym joined)
           (Appends-kept a e f _ (Appends-trans a d e _ _ (Appends-trans a c d _ _ (Appends-trans a b c _ _ head.written written.written) left.written)
-          tail.written) kept);
+          tail.written) unchanged);
     }
 
 pub as_lines : (width : ℕ) (colour : Bool) (picture : Picture) (a b : Option (List ℕ)) → TextWritten width colour picture a b

@@ -1,4 +1,4 @@
--- What contracts see of the axis of an SVG, for private clauses.
+-- The axis of an SVG as contracts see it, for private clauses.
 use Rattle.stream_view.specs.Markup.{Axis}
 use Rattle.stream_view.specs.declared.svg.scale.Scale.{Scale}
 

@@ -1,4 +1,4 @@
--- What contracts see of the columns of the rows, for private clauses.
+-- The columns of rows as contracts see them, for private clauses.
 use Rattle.stream_view.specs.Rows.{Layout}
 use Rattle.stream_view.specs.declared.text.chart.Chart.{Chart}
 

@@ -1,40 +1,41 @@
--- Lines, pages and markup that grow, where memory suffices, for private clauses.
+-- Lines, buffers and markup that grow, as far as memory suffices, for private clauses.
 use Rattle.std.specs.Prelude.{◌≡◌, ◌++◌, ◌∷◌, [], ℕ, List, map, true}
 use Rattle.stream_view.specs.Lines.{HasMore}
 use Rattle.stream_view.specs.declared.svg.markup.Markup.{Markup}
-use Rattle.stream_view.specs.declared.svg.part.Part.{Part}
-use Rattle.stream_view.specs.declared.svg.part.Part.TheVariants as part
-use Rattle.stream_view.specs.declared.svg.word.Word.TheVariants as word
+use Rattle.stream_view.specs.declared.svg.markup_part.MarkupPart.{MarkupPart}
+use Rattle.stream_view.specs.declared.svg.markup_part.MarkupPart.TheVariants as markup_part
+use Rattle.stream_view.specs.declared.svg.fragment.Fragment.TheVariants as fragment
 use Rattle.stream_view.specs.declared.text.line.Line.{Line}
-use Rattle.stream_view.specs.declared.text.page.Page.{Page}
-use Rattle.stream_view.specs.declared.text.piece.Piece.{Piece}
+use Rattle.stream_view.specs.declared.text.line_buffer.LineBuffer.{LineBuffer}
+use Rattle.stream_view.specs.declared.text.line_piece.LinePiece.{LinePiece}
 
--- the line is of these pieces
-abbrev pub IsOf : Line → List Piece → Type 0
-IsOf line pieces = line.is_whole ≡ true → line.pieces.items ≡ pieces
+-- unless memory was refused, the line has these pieces
+abbrev pub HasPieces : Line → List LinePiece → Type 0
+HasPieces line pieces = line.is_whole ≡ true → line.pieces.items ≡ pieces
 
--- it came to these
-abbrev pub CameTo : (before after : Line) → List Piece → Type 0
-CameTo before after pieces = after.is_whole ≡ true → (before.is_whole ≡ true) × (after.pieces.items ≡ pieces)
+-- unless memory was refused, the line grew to these pieces
+abbrev pub GrewTo : (before after : Line) → List LinePiece → Type 0
+GrewTo before after pieces = after.is_whole ≡ true → (before.is_whole ≡ true) × (after.pieces.items ≡ pieces)
 
--- what the lines of a page are made of
-abbrev pub lines_in : Page → List (List Piece)
-lines_in page = map (λ (line : Line). line.pieces.items) page.lines.items
+-- the pieces of the lines of a buffer
+abbrev pub lines_in : LineBuffer → List (List LinePiece)
+lines_in line_buffer = map (λ (line : Line). line.pieces.items) line_buffer.lines.items
 
--- the page has these lines behind those from before
-abbrev pub HasLines : (before after : Page) → List (List Piece) → Type 0
+-- unless memory was refused, the buffer has these lines after those from before
+abbrev pub HasLines : (before after : LineBuffer) → List (List LinePiece) → Type 0
 HasLines before after lines = after.is_whole ≡ true → (before.is_whole ≡ true) × (lines_in after ≡ lines_in before ++ lines)
 
--- it has some
-abbrev pub HasMoreLines : (before after : Page) → Type 0
+-- unless memory was refused, the buffer has some lines after those from before
+abbrev pub HasMoreLines : (before after : LineBuffer) → Type 0
 HasMoreLines before after = after.is_whole ≡ true → (before.is_whole ≡ true) × HasMore (lines_in before) (lines_in after)
 
--- the markup has these parts behind those from before
-abbrev pub HasParts : (before after : Markup) → List Part → Type 0
+-- unless memory was refused, the markup has these parts after those from before
+abbrev pub HasParts : (before after : Markup) → List MarkupPart → Type 0
 HasParts before after parts = after.is_whole ≡ true → (before.is_whole ≡ true) × (after.parts.items ≡ before.parts.items ++ parts)
 
--- what a box begins with: from the left in tenths of a pixel, and from the top in pixels, and how wide and high it is
-abbrev pub box_begin : (x y width height : ℕ) → List Part
+-- The begin of a box: its place, width and height. `x` and `width` are in tenths of a pixel, `y`
+-- and `height` in pixels.
+abbrev pub box_begin : (x y width height : ℕ) → List MarkupPart
 box_begin x y width height =
-    part.Own word.RectX ∷ part.Tenths x ∷ part.Own word.Y ∷ part.Number y ∷ part.Own word.Width ∷ part.Tenths width ∷ part.Own word.Height
-    ∷ part.Number height ∷ []
+    markup_part.Fixed fragment.RectX ∷ markup_part.Tenths x ∷ markup_part.Fixed fragment.Y ∷ markup_part.Number y ∷ markup_part.Fixed fragment.Width ∷ markup_part.Tenths width ∷ markup_part.Fixed fragment.Height
+    ∷ markup_part.Number height ∷ []

@@ -1,17 +1,17 @@
--- What was done, as a picture says first.
+-- The first line of a picture: what was done.
 use Rattle.std.specs.Prelude.{ℕ, List, [], ◌∷◌, ◌++◌, ◌==◌, ◌&&◌, ◌||◌, codes, Bool, false, if◌then◌else◌, length, nat_lt, not, Option, Some, None, is_none}
 use Rattle.std.specs.List.{count_by, list_any}
 use Rattle.std.specs.Option.{option_map_or}
 use Rattle.std.specs.Str.{bytes_eq}
 use Rattle.stream_timeline.specs.declared.numbers.measures.Numbers.{Numbers}
-use Rattle.stream_timeline.specs.declared.told.moments.Moments.{Moments}
-use Rattle.stream_timeline.specs.declared.told.totals.Totals.{Totals}
+use Rattle.stream_timeline.specs.declared.reading.time_range.TimeRange.{TimeRange}
+use Rattle.stream_timeline.specs.declared.reading.totals.Totals.{Totals}
 use Rattle.stream_timeline.specs.Intervals.{span_of}
-use Rattle.stream_timeline.specs.Steps.{ToldStep}
-use Rattle.stream_timeline.specs.Telling.{Telling}
+use Rattle.stream_timeline.specs.Steps.{StepRead}
+use Rattle.stream_timeline.specs.TimelineRead.{TimelineRead}
 use Rattle.stream_view.specs.Words.{duration_words, grouped, number_words}
 
--- the version of Terraform, where one is told
+-- the version of Terraform, if the stream states it
 abbrev pub version_words : Option (List ℕ) → List ℕ
 version_words None = []
 version_words (Some []) = []
@@ -23,19 +23,19 @@ completed_words steps span numbers =
     number_words steps (codes "step") ++ codes " in " ++ duration_words span ++ codes ": "
     ++ grouped numbers.created ++ codes " added, " ++ grouped numbers.updated ++ codes " changed, " ++ grouped numbers.deleted ++ codes " destroyed"
 
--- how many came to that, where some did
+-- a number and its word, unless the number is 0
 abbrev pub words_if_any : ℕ → (what : List ℕ) → List ℕ
 words_if_any count what = if nat_lt 0 count then codes ", " ++ grouped count ++ codes " " ++ what else []
 
-abbrev pub is_not_ended : ToldStep → Bool
+abbrev pub is_not_ended : StepRead → Bool
 is_not_ended step = is_none step.end && not step.failed
 
-abbrev pub uncompleted_words : List ToldStep → List ℕ
+abbrev pub uncompleted_words : List StepRead → List ℕ
 uncompleted_words steps =
-    words_if_any (count_by (λ (step : ToldStep). step.failed) steps) (codes "failed")
+    words_if_any (count_by (λ (step : StepRead). step.failed) steps) (codes "failed")
     ++ words_if_any (count_by is_not_ended steps) (codes "not ended")
 
--- a total; `?` where the summary tells none
+-- a total; `?` if the summary has none
 abbrev pub total_words : Option ℕ → List ℕ
 total_words None = codes "?"
 total_words (Some total) = grouped total
@@ -44,7 +44,7 @@ abbrev pub is_total : Option ℕ → (count : ℕ) → Bool
 is_total None count = false
 is_total (Some total) count = total == count
 
--- the summary says what was completed
+-- the totals are what was completed
 abbrev pub agrees : Numbers → Totals → Bool
 agrees numbers totals =
     is_total totals.added numbers.created && (is_total totals.changed numbers.updated && is_total totals.removed numbers.deleted)
@@ -59,22 +59,23 @@ abbrev pub imported_words : Option ℕ → List ℕ
 imported_words None = []
 imported_words (Some imported) = if nat_lt 0 imported then codes ", " ++ grouped imported ++ codes " imported" else []
 
--- it is a step of those that a summary counts
-abbrev pub is_change : ToldStep → Bool
+-- the step is a create, an update or a delete
+abbrev pub is_change : StepRead → Bool
 is_change step =
     bytes_eq step.action (codes "create") || (bytes_eq step.action (codes "update") || bytes_eq step.action (codes "delete"))
 
--- a summary would have to be told
-abbrev pub lacks_summary : Telling → Bool
-lacks_summary told = told.errors.count == 0 && (not told.has_plan_summary || list_any is_change told.steps)
+-- A summary is missing, if the stream has none of an apply. A stream with an error needs none, and
+-- neither does a plan without changes.
+abbrev pub lacks_summary : TimelineRead → Bool
+lacks_summary timeline = timeline.errors.count == 0 && (not timeline.has_plan_summary || list_any is_change timeline.steps)
 
--- what the summary says otherwise, or that there is none
-abbrev pub summary_words : Telling → Numbers → List ℕ
-summary_words told numbers =
-    option_map_or (λ (totals : Totals). disagreement_words numbers totals ++ imported_words totals.imported) told.totals
-    (if lacks_summary told then codes ", no summary" else [])
+-- where the summary differs from what was completed, or that a summary is missing
+abbrev pub summary_words : TimelineRead → Numbers → List ℕ
+summary_words timeline numbers =
+    option_map_or (λ (totals : Totals). disagreement_words numbers totals ++ imported_words totals.imported) timeline.totals
+    (if lacks_summary timeline then codes ", no summary" else [])
 
-abbrev pub heading_words : Moments → Telling → Numbers → List ℕ
-heading_words moments told numbers =
-    version_words told.version ++ completed_words (length told.steps) (span_of moments) numbers ++ uncompleted_words told.steps
-    ++ summary_words told numbers
+abbrev pub heading_words : TimeRange → TimelineRead → Numbers → List ℕ
+heading_words time_range timeline numbers =
+    version_words timeline.version ++ completed_words (length timeline.steps) (span_of time_range) numbers ++ uncompleted_words timeline.steps
+    ++ summary_words timeline numbers

@@ -3,12 +3,12 @@ use Rattle.std.specs.Prelude.{ℕ, List, codes, if◌then◌else◌}
 use Rattle.std.specs.Str.{bytes_eq}
 use Rattle.stream_view.specs.declared.kind.Kind.{Kind}
 use Rattle.stream_view.specs.declared.kind.Kind.TheVariants as kind
-use Rattle.stream_view.specs.declared.svg.word.Word.{Word}
-use Rattle.stream_view.specs.declared.svg.word.Word.TheVariants as word
-use Rattle.stream_view.specs.declared.text.paint.Paint.{Paint}
-use Rattle.stream_view.specs.declared.text.paint.Paint.TheVariants as paint
+use Rattle.stream_view.specs.declared.svg.fragment.Fragment.{Fragment}
+use Rattle.stream_view.specs.declared.svg.fragment.Fragment.TheVariants as fragment
+use Rattle.stream_view.specs.declared.text.rendition.Rendition.{Rendition}
+use Rattle.stream_view.specs.declared.text.rendition.Rendition.TheVariants as rendition
 
--- that of an action
+-- the kind of an action
 abbrev pub kind_of : List ℕ → Kind
 kind_of action =
     if bytes_eq action (codes "create") then kind.Create
@@ -18,20 +18,20 @@ kind_of action =
     else if bytes_eq action (codes "refresh") then kind.Refresh
     else kind.Other
 
--- its name in an SVG
-abbrev pub kind_name : Kind → Word
-kind_name kind.Create = word.Create
-kind_name kind.Update = word.Update
-kind_name kind.Delete = word.Delete
-kind_name kind.Read = word.Read
-kind_name kind.Refresh = word.Refresh
-kind_name kind.Other = word.Other
+-- the name of a kind in the SVG
+abbrev pub kind_name : Kind → Fragment
+kind_name kind.Create = fragment.Create
+kind_name kind.Update = fragment.Update
+kind_name kind.Delete = fragment.Delete
+kind_name kind.Read = fragment.Read
+kind_name kind.Refresh = fragment.Refresh
+kind_name kind.Other = fragment.Other
 
--- how it is shown in a text with colours
-abbrev pub kind_paint : Kind → Paint
-kind_paint kind.Create = paint.Green
-kind_paint kind.Update = paint.Yellow
-kind_paint kind.Delete = paint.Magenta
-kind_paint kind.Read = paint.Cyan
-kind_paint kind.Refresh = paint.Cyan
-kind_paint kind.Other = paint.White
+-- how a text shows steps of a kind
+abbrev pub kind_rendition : Kind → Rendition
+kind_rendition kind.Create = rendition.Green
+kind_rendition kind.Update = rendition.Yellow
+kind_rendition kind.Delete = rendition.Magenta
+kind_rendition kind.Read = rendition.Cyan
+kind_rendition kind.Refresh = rendition.Cyan
+kind_rendition kind.Other = rendition.White

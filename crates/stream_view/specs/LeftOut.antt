@@ -1,24 +1,25 @@
--- What is said of the steps that have no row.
+-- The line about the steps without a row.
 use Rattle.std.specs.Prelude.{◌≡◌, ◌≤◌, ◌-◌, ◌++◌, ◌∷◌, ◌==◌, [], ℕ, List, Option, None, Some, codes, if◌then◌else◌}
 use Rattle.stream_timeline.specs.declared.rows.choosing.Rows.{Rows}
 use Rattle.term_text.specs.Columns.{columns_of}
 use Rattle.stream_view.specs.Lines.{text_line}
 use Rattle.term_text.specs.Fitted.{shown_characters}
 use Rattle.stream_view.specs.Words.{duration_words, number_words}
-use Rattle.stream_view.specs.declared.text.paint.Paint.TheVariants as paint
-use Rattle.stream_view.specs.declared.text.piece.Piece.{Piece}
+use Rattle.stream_view.specs.declared.text.rendition.Rendition.TheVariants as rendition
+use Rattle.stream_view.specs.declared.text.line_piece.LinePiece.{LinePiece}
 
--- how many they are, the greatest of their lengths, and the sum
+-- how many steps have no row, their greatest length, and the sum of their lengths
 abbrev pub left_out_words : Rows → List ℕ
 left_out_words rows =
     codes "and " ++ number_words rows.left_out (codes "step") ++ codes " more, each " ++ duration_words rows.longest ++ codes " at most, "
-    ++ duration_words rows.together ++ codes " together"
+    ++ duration_words rows.total_length ++ codes " together"
 
--- as it is shown, where there are any
-abbrev pub left_out_said : Rows → Option (List ℕ)
-left_out_said rows = if rows.left_out == 0 then None else Some (shown_characters (left_out_words rows))
+-- the line as it is shown, if there are such steps
+abbrev pub left_out_shown : Rows → Option (List ℕ)
+left_out_shown rows = if rows.left_out == 0 then None else Some (shown_characters (left_out_words rows))
 
--- it is a line, dim and behind so many blanks, where it has room on one; nothing is where nothing is said
-abbrev pub IsLeftOutAs : (width indent : ℕ) → Option (List ℕ) → (lines : List (List Piece)) → Type 0
+-- The lines are this one, dim and indented, if it has room on one line. Without such steps there is
+-- no line.
+abbrev pub IsLeftOutAs : (width indent : ℕ) → Option (List ℕ) → (lines : List (List LinePiece)) → Type 0
 IsLeftOutAs width indent None lines = lines ≡ []
-IsLeftOutAs width indent (Some said) lines = columns_of said ≤ width - indent → lines ≡ text_line width indent (Some paint.Dim) said ∷ []
+IsLeftOutAs width indent (Some stated) lines = columns_of stated ≤ width - indent → lines ≡ text_line width indent (Some rendition.Dim) stated ∷ []

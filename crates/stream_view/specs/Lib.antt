@@ -9,7 +9,7 @@ pub mod LeftOut
 pub mod Lines
 pub mod Markup
 pub mod Rows
-pub mod Sayings
+pub mod MessageTexts
 pub mod Texts
 pub mod Usages
 pub mod Viewed

@@ -1,4 +1,4 @@
--- What the SVG is made of: words of ours, numbers, and characters of texts, which are escaped.
+-- The parts of the SVG: fixed fragments, numbers, and characters of texts, which are escaped.
 use Rattle.std.specs.Prelude.{◌≡◌, ◌+◌, ◌-◌, ◌*◌, ◌++◌, ◌∷◌, ◌==◌, [], ℕ, ◌/◌, ◌%◌, List, Option, None, Some, IfSome, codes, if◌then◌else◌, map, max, min}
 use Rattle.std.specs.Fmt.{decimal}
 use Rattle.std.specs.Int.{int_gap}
@@ -7,55 +7,55 @@ use Rattle.std.specs.Io.KnownBytes.{Appends}
 use Rattle.stream_timeline.specs.Bars.{place_on}
 use Rattle.stream_timeline.specs.Intervals.{span_of, until_of}
 use Rattle.stream_timeline.specs.Rows.{is_marked}
-use Rattle.stream_timeline.specs.Steps.{ToldStep}
-use Rattle.stream_timeline.specs.declared.told.moments.Moments.{Moments}
-use Rattle.term_text.specs.Escaped.{escaped}
+use Rattle.stream_timeline.specs.Steps.{StepRead}
+use Rattle.stream_timeline.specs.declared.reading.time_range.TimeRange.{TimeRange}
+use Rattle.term_text.specs.Markup.{markup_escaped}
 use Rattle.term_text.specs.Fitted.{shown_characters}
 use Rattle.stream_view.specs.Columns.{column_text, widest}
 use Rattle.stream_view.specs.Heading.{heading_words}
 use Rattle.stream_view.specs.Kinds.{kind_name, kind_of}
-use Rattle.stream_view.specs.LeftOut.{left_out_said}
-use Rattle.stream_view.specs.Vocabulary.{word_bytes}
+use Rattle.stream_view.specs.LeftOut.{left_out_shown}
+use Rattle.stream_view.specs.Vocabulary.{fragment_bytes}
 use Rattle.stream_view.specs.declared.column.Column.TheVariants as column
 use Rattle.stream_view.specs.declared.picture.Picture.{Picture}
-use Rattle.stream_view.specs.declared.svg.part.Part.{Part}
-use Rattle.stream_view.specs.declared.svg.part.Part.TheVariants as part
-use Rattle.stream_view.specs.declared.svg.word.Word.{Word}
-use Rattle.stream_view.specs.declared.svg.word.Word.TheVariants as word
+use Rattle.stream_view.specs.declared.svg.markup_part.MarkupPart.{MarkupPart}
+use Rattle.stream_view.specs.declared.svg.markup_part.MarkupPart.TheVariants as markup_part
+use Rattle.stream_view.specs.declared.svg.fragment.Fragment.{Fragment}
+use Rattle.stream_view.specs.declared.svg.fragment.Fragment.TheVariants as fragment
 
 abbrev pub tenths : ℕ → List ℕ
 tenths count = if count % 10 == 0 then decimal (count / 10) else decimal (count / 10) ++ codes "." ++ decimal (count % 10)
 
-abbrev pub part_bytes : Part → List ℕ
-part_bytes (part.Own own) = word_bytes own
-part_bytes (part.Number number) = decimal number
-part_bytes (part.Tenths count) = tenths count
-part_bytes (part.Character character) = escaped character
+abbrev pub markup_part_bytes : MarkupPart → List ℕ
+markup_part_bytes (markup_part.Fixed fixed) = fragment_bytes fixed
+markup_part_bytes (markup_part.Number number) = decimal number
+markup_part_bytes (markup_part.Tenths count) = tenths count
+markup_part_bytes (markup_part.Character character) = markup_escaped character
 
 -- these parts were written, and nothing else
-abbrev pub PartsWritten : List Part → (before after : Option (List ℕ)) → Type 0
-PartsWritten parts before after = Appends before after (flat_map part_bytes parts)
+abbrev pub PartsWritten : List MarkupPart → (before after : Option (List ℕ)) → Type 0
+PartsWritten parts before after = Appends before after (flat_map markup_part_bytes parts)
 
--- some parts were
+-- some parts were written, and nothing else
 pub record MarkupWritten (before after : Option (List ℕ)) : Type 0 where
-  pub parts : List Part
+  pub parts : List MarkupPart
   pub written : PartsWritten parts before after
 
 -- the characters of a text
-abbrev pub text_parts : List ℕ → List Part
-text_parts characters = map part.Character characters
+abbrev pub text_parts : List ℕ → List MarkupPart
+text_parts characters = map markup_part.Character characters
 
--- those of bytes, as these are shown
-abbrev pub shown_parts : List ℕ → List Part
+-- the characters of bytes as they are shown
+abbrev pub shown_parts : List ℕ → List MarkupPart
 shown_parts bytes = text_parts (shown_characters bytes)
 
--- what a line of text begins with: from the left in tenths of a pixel, and from the top in pixels, and how it looks
-abbrev pub line_begin : (x y : ℕ) → (class : Word) → List Part
+-- The begin of a line of text: its place and class. `x` is in tenths of a pixel, `y` in pixels.
+abbrev pub line_begin : (x y : ℕ) → (class : Fragment) → List MarkupPart
 line_begin x y class =
-    part.Own word.TextX ∷ part.Tenths x ∷ part.Own word.Y ∷ part.Number y ∷ part.Own word.Class ∷ part.Own class ∷ part.Own word.TagEnd ∷ []
+    markup_part.Fixed fragment.TextX ∷ markup_part.Tenths x ∷ markup_part.Fixed fragment.Y ∷ markup_part.Number y ∷ markup_part.Fixed fragment.Class ∷ markup_part.Fixed class ∷ markup_part.Fixed fragment.TagEnd ∷ []
 
-abbrev pub line_parts : (x y : ℕ) → (class : Word) → List ℕ → List Part
-line_parts x y class text = line_begin x y class ++ text_parts text ++ part.Own word.TextLineEnd ∷ []
+abbrev pub line_parts : (x y : ℕ) → (class : Fragment) → List ℕ → List MarkupPart
+line_parts x y class text = line_begin x y class ++ text_parts text ++ markup_part.Fixed fragment.TextLineEnd ∷ []
 
 -- ---- bars
 
@@ -64,107 +64,111 @@ pub record Axis : Type 0 where
   pub left : ℕ
   pub right : ℕ
 
--- behind addresses of 8 to 64 columns, of 7.2 pixels each, and up to 72 pixels before the right edge
+-- The axis begins after labels of 8 to 64 columns, of 7.2 pixels each. It ends 72 pixels before the
+-- right edge.
 unfoldable pub axis_of : Picture → Axis
 axis_of picture = record {
-  left = 280 + (min (max (widest (column_text column.Label) picture.told.now.steps picture.rows.places.items) 8) 64 + 2) * 72;
+  left = 280 + (min (max (widest (column_text column.Label) picture.timeline.now.steps picture.rows.places.items) 8) 64 + 2) * 72;
   right = 11280;
 }
 
--- where a moment stands on it, so long after the first; a number of 64 bits
+-- The place of a time on the axis, a number of 64 bits. `offset` is the time since the start of the
+-- stream.
 abbrev pub x_at : Axis → (span offset : ℕ) → ℕ
 x_at axis span offset = min (axis.left + place_on (axis.right - axis.left) span offset) 18446744073709551615
 
-abbrev pub bar_left : Axis → Moments → ToldStep → ℕ
-bar_left axis moments step = x_at axis (span_of moments) (int_gap moments.first step.begin)
+abbrev pub bar_left : Axis → TimeRange → StepRead → ℕ
+bar_left axis time_range step = x_at axis (span_of time_range) (int_gap time_range.first step.begin)
 
-abbrev pub bar_right : Axis → Moments → ToldStep → ℕ
-bar_right axis moments step = x_at axis (span_of moments) (int_gap moments.first (until_of moments step))
+abbrev pub bar_right : Axis → TimeRange → StepRead → ℕ
+bar_right axis time_range step = x_at axis (span_of time_range) (int_gap time_range.first (until_of time_range step))
 
--- 1.5 pixels at least
-abbrev pub bar_width : Axis → Moments → ToldStep → ℕ
-bar_width axis moments step = max (bar_right axis moments step - bar_left axis moments step) 15
+-- a bar is at least 1.5 pixels wide
+abbrev pub bar_width : Axis → TimeRange → StepRead → ℕ
+bar_width axis time_range step = max (bar_right axis time_range step - bar_left axis time_range step) 15
 
--- paler where it failed or has no end
-abbrev pub bar_end : ToldStep → Word
-bar_end step = if is_marked step then word.OpenEnd else word.WholeEnd
+-- paler if the step failed or has no end
+abbrev pub bar_end : StepRead → Fragment
+bar_end step = if is_marked step then fragment.OpenEnd else fragment.WholeEnd
 
--- a bar, which looks as the kind of the step does
-abbrev pub bar_parts : (left width top : ℕ) → ToldStep → List Part
+-- a bar with the class of the kind of its step
+abbrev pub bar_parts : (left width top : ℕ) → StepRead → List MarkupPart
 bar_parts left width top step =
-    part.Own word.RectX ∷ part.Tenths left ∷ part.Own word.Y ∷ part.Number top ∷ part.Own word.Width ∷ part.Tenths width ∷ part.Own word.Height
-    ∷ part.Number 12 ∷ part.Own word.RoundedClass ∷ part.Own (kind_name (kind_of step.action)) ∷ part.Own (bar_end step) ∷ []
+    markup_part.Fixed fragment.RectX ∷ markup_part.Tenths left ∷ markup_part.Fixed fragment.Y ∷ markup_part.Number top ∷ markup_part.Fixed fragment.Width ∷ markup_part.Tenths width ∷ markup_part.Fixed fragment.Height
+    ∷ markup_part.Number 12 ∷ markup_part.Fixed fragment.RoundedClass ∷ markup_part.Fixed (kind_name (kind_of step.action)) ∷ markup_part.Fixed (bar_end step) ∷ []
 
 -- ---- rows
 
--- a group begins with the address of its step, and behind it the action, as its title
-abbrev pub title_parts : ToldStep → List Part
+-- the begin of a group: the address and the action of its step, as the begin of its title
+abbrev pub title_parts : StepRead → List MarkupPart
 title_parts step =
-    (part.Own word.GroupBegin ∷ part.Own word.TitleBegin ∷ []) ++ shown_parts step.address ++ part.Own word.NewLine ∷ [] ++ shown_parts step.action
+    (markup_part.Fixed fragment.GroupBegin ∷ markup_part.Fixed fragment.TitleBegin ∷ []) ++ shown_parts step.address ++ markup_part.Fixed fragment.NewLine ∷ [] ++ shown_parts step.action
 
--- the group begins so, and has the bar of the step, from where it begins to where it ends
-pub record IsGroupOf (axis : Axis) (moments : Moments) (group : List Part) (step : ToldStep) : Type 0 where
-  pub front : List Part
+-- The group begins with the address and the action of its step. It has the bar of the step, from
+-- its begin to its end.
+pub record IsGroupOf (axis : Axis) (time_range : TimeRange) (group : List MarkupPart) (step : StepRead) : Type 0 where
+  pub front : List MarkupPart
   pub top : ℕ
-  pub back : List Part
-  pub is : group ≡ title_parts step ++ front ++ bar_parts (bar_left axis moments step) (bar_width axis moments step) top step
-      ++ (back ++ part.Own word.GroupEnd ∷ [])
+  pub back : List MarkupPart
+  pub is : group ≡ title_parts step ++ front ++ bar_parts (bar_left axis time_range step) (bar_width axis time_range step) top step
+      ++ (back ++ markup_part.Fixed fragment.GroupEnd ∷ [])
 
--- it is that of the step at the place
-abbrev pub IsGroupAt : Axis → Picture → (place : ℕ) → (group : List Part) → Type 0
-IsGroupAt axis picture place group = IfSome (slice_get picture.told.now.steps place) (IsGroupOf axis picture.moments group)
+-- the group is that of the step at this place
+abbrev pub IsGroupAt : Axis → Picture → (place : ℕ) → (group : List MarkupPart) → Type 0
+IsGroupAt axis picture place group = IfSome (slice_get picture.timeline.now.steps place) (IsGroupOf axis picture.time_range group)
 
 pub record GroupWritten (axis : Axis) (picture : Picture) (place : ℕ) (before after : Option (List ℕ)) : Type 0 where
-  pub group : List Part
+  pub group : List MarkupPart
   pub is : IsGroupAt axis picture place group
   pub written : PartsWritten group before after
 
-abbrev pub joined : List (List Part) → List Part
+abbrev pub joined : List (List MarkupPart) → List MarkupPart
 joined groups = flat_map (λ group. group) groups
 
--- the row of each of the steps at the places was written, and nothing else
+-- the groups of the steps at these places were written, and nothing else
 pub record GroupsWritten (axis : Axis) (picture : Picture) (places : List ℕ) (before after : Option (List ℕ)) : Type 0 where
-  pub groups : List (List Part)
+  pub groups : List (List MarkupPart)
   pub each : AllZip (IsGroupAt axis picture) places groups
   pub written : PartsWritten (joined groups) before after
 
--- ---- the whole
+-- ---- the whole SVG
 
--- a title of such characters
-abbrev pub whole_title : List ℕ → List Part
-whole_title characters = part.Own word.TitleBegin ∷ [] ++ text_parts characters ++ part.Own word.TitleEnd ∷ []
+-- a title with these characters
+abbrev pub whole_title : List ℕ → List MarkupPart
+whole_title characters = markup_part.Fixed fragment.TitleBegin ∷ [] ++ text_parts characters ++ markup_part.Fixed fragment.TitleEnd ∷ []
 
--- what was done, as it is shown
-abbrev pub heading_title : Picture → List Part
-heading_title picture = whole_title (shown_characters (heading_words picture.moments picture.told.now picture.numbers))
+-- the heading of the picture as a title
+abbrev pub heading_title : Picture → List MarkupPart
+heading_title picture = whole_title (shown_characters (heading_words picture.time_range picture.timeline.now picture.numbers))
 
--- among the parts stands what was done, as the title of the whole
-pub record IsTitledBy (picture : Picture) (parts : List Part) : Type 0 where
-  pub front : List Part
-  pub back : List Part
+-- the parts have the heading as the title of the SVG
+pub record IsTitledBy (picture : Picture) (parts : List MarkupPart) : Type 0 where
+  pub front : List MarkupPart
+  pub back : List MarkupPart
   pub is : parts ≡ front ++ heading_title picture ++ back
 
 pub record HeadWritten (picture : Picture) (before after : Option (List ℕ)) : Type 0 where
-  pub parts : List Part
+  pub parts : List MarkupPart
   pub titled : IsTitledBy picture parts
   pub written : PartsWritten parts before after
 
--- what is said of the steps that have no row is a line of text; nothing is where nothing is said
-abbrev pub IsLeftOutIn : Option (List ℕ) → List Part → Type 0
+-- the line about the steps without a row, if there are any, else nothing
+abbrev pub IsLeftOutIn : Option (List ℕ) → List MarkupPart → Type 0
 IsLeftOutIn None parts = parts ≡ []
-IsLeftOutIn (Some said) parts = (y : ℕ) × (parts ≡ line_parts 160 y word.SmallSoft said)
+IsLeftOutIn (Some stated) parts = (y : ℕ) × (parts ≡ line_parts 160 y fragment.SmallSoft stated)
 
--- parts with the title, the rows, other parts, what is said of the steps that have none, other parts, and the end of the SVG
+-- The parts of the SVG: the head with the title, the rows, other parts, the line about the steps
+-- without a row, other parts, and the end.
 pub record SvgWritten (picture : Picture) (before after : Option (List ℕ)) : Type 0 where
-  pub head : List Part
-  pub groups : List (List Part)
-  pub below : List Part
-  pub left_out : List Part
-  pub tail : List Part
+  pub head : List MarkupPart
+  pub groups : List (List MarkupPart)
+  pub below : List MarkupPart
+  pub left_out : List MarkupPart
+  pub tail : List MarkupPart
   pub titled : IsTitledBy picture head
   pub each : AllZip (IsGroupAt (axis_of picture) picture) picture.rows.places.items groups
-  pub is_left_out : IsLeftOutIn (left_out_said picture.rows) left_out
-  pub written : PartsWritten (head ++ joined groups ++ (below ++ left_out ++ tail) ++ part.Own word.SvgEnd ∷ []) before after
+  pub is_left_out : IsLeftOutIn (left_out_shown picture.rows) left_out
+  pub written : PartsWritten (head ++ joined groups ++ (below ++ left_out ++ tail) ++ markup_part.Fixed fragment.SvgEnd ∷ []) before after
 
 abbrev pub SomeSvgWritten : (before after : Option (List ℕ)) → Type 0
 SomeSvgWritten before after = (picture : Picture) × SvgWritten picture before after

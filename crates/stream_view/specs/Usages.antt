@@ -1,9 +1,9 @@
--- What is answered to options that may not stand beside one another, for private clauses.
+-- The answer to options that exclude each other, for private clauses.
 use Rattle.std.specs.Prelude.{⊤}
 use Rattle.stream_tool.specs.declared.usage.Usage.{Usage}
 use Rattle.stream_tool.specs.declared.usage.Usage.TheVariants as usage
 
--- it is no call for help
+-- the answer is no help text
 abbrev pub IsWordsOrMemory : Usage → Type 0
 IsWordsOrMemory (usage.Help text) = ⊥
 IsWordsOrMemory (usage.Words text) = ⊤

@@ -1,15 +1,15 @@
--- Counts and lengths of time, as people are told them.
+-- Counts and durations in words.
 use Rattle.std.specs.Prelude.{ℕ, zero, suc, ◌-◌, ◌/◌, ◌%◌, ◌^◌, ◌++◌, ◌==◌, List, codes, if◌then◌else◌, min, nat_lt}
 use Rattle.std.specs.Fmt.{decimal}
 
--- a number below 100 as two digits, and one below 1,000 as three
+-- a number below 100 with two digits, and one below 1,000 with three
 abbrev pub two_digits : ℕ → List ℕ
 two_digits n = decimal (n / 10) ++ decimal (n % 10)
 
 abbrev pub three_digits : ℕ → List ℕ
 three_digits n = decimal (n / 100) ++ decimal (n / 10 % 10) ++ decimal (n % 10)
 
--- a number of at most so many groups of three digits besides the first, with a comma before each
+-- a number with at most `groups` groups of three digits after the first, and a comma before each
 abbrev pub grouped_within : (groups : ℕ) → ℕ → List ℕ
 grouped_within zero n = decimal n
 grouped_within (suc groups) n =
@@ -19,18 +19,18 @@ grouped_within (suc groups) n =
 unfoldable pub grouped : ℕ → List ℕ
 grouped n = grouped_within 6 n
 
--- so many of something
+-- a count and a noun
 unfoldable pub number_words : ℕ → (noun : List ℕ) → List ℕ
 number_words count noun = if count == 1 then grouped count ++ codes " " ++ noun else grouped count ++ codes " " ++ noun ++ codes "s"
 
--- less than ten seconds, by whole seconds and the milliseconds beside them
+-- a duration below ten seconds, by whole seconds and further milliseconds
 abbrev pub short_words : (seconds milliseconds : ℕ) → List ℕ
 short_words seconds milliseconds =
     if seconds == 0 then (if milliseconds == 0 then codes "0s" else decimal milliseconds ++ codes "ms")
     else if milliseconds / 100 == 0 then decimal seconds ++ codes "s"
     else decimal seconds ++ codes "." ++ decimal (milliseconds / 100) ++ codes "s"
 
--- ten seconds and more
+-- a duration of ten seconds or more
 abbrev pub long_words : (seconds : ℕ) → List ℕ
 long_words seconds =
     if seconds / 60 == 0 then decimal (seconds % 60) ++ codes "s"
@@ -40,6 +40,7 @@ long_words seconds =
 abbrev pub words_of : (seconds milliseconds : ℕ) → List ℕ
 words_of seconds milliseconds = if nat_lt seconds 10 then short_words seconds milliseconds else long_words seconds
 
--- so many microseconds, with two digits or three that count, the rest cut off; seconds beyond 64 bits are not told
+-- A duration of so many microseconds, rounded down to two or three digits. Seconds beyond 64 bits
+-- are not shown.
 unfoldable pub duration_words : ℕ → List ℕ
 duration_words microseconds = words_of (min (microseconds / 1000000) (2 ^ 64 - 1)) (microseconds % 1000000 / 1000)

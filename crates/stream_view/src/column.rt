@@ -1,4 +1,4 @@
-//! What of steps stands in a column.
+//! The texts in the columns of rows, and how wide they are.
 
 ghost use Rattle.std.specs.Prelude.{◌≡◌, IfOk, min};
 ghost use Rattle.term_text.specs.Columns.{columns_of};
@@ -12,20 +12,20 @@ use std::alloc::{AllocError, Global};
 use stream_timeline::Step;
 use term_text::ShownText;
 
-/// The most columns of a label.
+/// The greatest width of an address in an SVG, in columns.
 pub const LABEL: usize = 64;
 
-/// What of a step stands in a column.
+/// What a column of rows shows.
 #[derive(Clone, Copy)]
 pub enum Column {
     Action,
     Address,
-    /// The address, fitted to the columns that a label has.
+    /// The address, fitted to the width of a label.
     Label,
 }
 
 impl Column {
-    /// What of a step stands in it.
+    /// The text of a step in this column. `Err` means that memory was refused.
     fn text_of(self, alloc: Global, step: &Step) -> Result<ShownText, AllocError>
         ensures { IfOk result (λ text. text ≡ column_text self step.now) }
     {
@@ -37,17 +37,18 @@ impl Column {
     }
 }
 
-/// The address of a step, as it stands beside its bar in an SVG.
+/// The address of a step as a label next to its bar in an SVG. `Err` means that memory was refused.
 pub fn label_of(alloc: Global, step: &Step) -> Result<ShownText, AllocError>
     ensures { IfOk result (λ text. text ≡ fitted 64 (shown_characters step.now.address)) }
 {
     shown_within(alloc, step.address().as_bytes(), LABEL)
 }
 
-/// How many columns the widest of the rows takes there.
+/// The greatest width of this column in the rows of the picture. `Err` means that memory was
+/// refused.
 pub fn widest(alloc: Global, picture: &Picture<'_>, column: Column) -> Result<usize, AllocError>
     ensures { IfOk result (λ most. most
-        ≡ min (widest (column_text column) picture.now.told.now.steps picture.now.rows.places.items) usize.MAX) }
+        ≡ min (widest (column_text column) picture.now.timeline.now.steps picture.now.rows.places.items) usize.MAX) }
 {
     let mut most = 0;
     for place in &picture.rows.places {
@@ -56,22 +57,23 @@ pub fn widest(alloc: Global, picture: &Picture<'_>, column: Column) -> Result<us
     Ok(most)
 }
 
-/// How many columns that of the step at a place takes; 0 where none is.
+/// The width of the text of the step at index `place`; 0 if there is no such step. `Err` means that
+/// memory was refused.
 fn columns_at(
     alloc: Global,
     picture: &Picture<'_>,
     column: Column,
     place: usize,
 ) -> Result<usize, AllocError>
-    ensures { IfOk result (λ columns. columns ≡ min (columns_at (column_text column) picture.now.told.now.steps place) usize.MAX) }
+    ensures { IfOk result (λ columns. columns ≡ min (columns_at (column_text column) picture.now.timeline.now.steps place) usize.MAX) }
 {
-    match picture.told.steps().get(place) {
+    match picture.timeline.steps().get(place) {
         Some(step) => columns_in(alloc, column, step),
         None => Ok(0),
     }
 }
 
-/// How many columns that of a step takes.
+/// The width of the text of a step. `Err` means that memory was refused.
 fn columns_in(alloc: Global, column: Column, step: &Step) -> Result<usize, AllocError>
     ensures { IfOk result (λ columns. columns ≡ min (columns_of (column_text column step.now)) usize.MAX) }
 {

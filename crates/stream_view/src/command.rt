@@ -4,8 +4,6 @@ pub(crate) mod arguments;
 pub(crate) mod colour;
 pub(crate) mod entry_points;
 pub(crate) mod followed;
-pub(crate) mod form;
-pub(crate) mod outcome;
 pub(crate) mod picture_fault;
 pub(crate) mod refusals;
 pub(crate) mod settings;

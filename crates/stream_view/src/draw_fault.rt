@@ -9,7 +9,8 @@ pub enum DrawFault {
     /// Memory was refused.
     #[error("out of memory")]
     Memory,
-    /// A write or a flush failed since the reader of the output is gone, as the writer's error says.
+    /// A write or a flush failed, because the reader of the output is gone
+    /// (`ErrorKind::BrokenPipe`).
     #[error("the output could not be written")]
     Gone,
     /// A write or a flush failed for another reason.

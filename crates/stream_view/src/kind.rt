@@ -1,10 +1,10 @@
-//! The kinds of steps.
+//! The kinds of steps, which decide their colours and signs.
 
 ghost use Rattle.std.specs.Prelude.{◌≡◌};
-ghost use Rattle.stream_view.specs.Kinds.{kind_name, kind_of, kind_paint};
+ghost use Rattle.stream_view.specs.Kinds.{kind_name, kind_of, kind_rendition};
 
-use crate::svg::word::Word;
-use crate::text::paint::Paint;
+use crate::svg::fragment::Fragment;
+use crate::text::rendition::Rendition;
 
 /// What a step does, by its action.
 #[derive(Clone, Copy, PartialEq)]
@@ -18,7 +18,7 @@ pub enum Kind {
 }
 
 impl Kind {
-    /// That of an action.
+    /// The kind of an action.
     pub fn of(action: &str) -> Kind
         ensures { result ≡ kind_of action.now }
     {
@@ -32,21 +32,21 @@ impl Kind {
         }
     }
 
-    /// Its name in an SVG.
-    pub fn name(self) -> Word
+    /// The name of the kind in the SVG, which is also its CSS class.
+    pub fn name(self) -> Fragment
         ensures { result ≡ kind_name self }
     {
         match self {
-            Kind::Create => Word::Create,
-            Kind::Update => Word::Update,
-            Kind::Delete => Word::Delete,
-            Kind::Read => Word::Read,
-            Kind::Refresh => Word::Refresh,
-            Kind::Other => Word::Other,
+            Kind::Create => Fragment::Create,
+            Kind::Update => Fragment::Update,
+            Kind::Delete => Fragment::Delete,
+            Kind::Read => Fragment::Read,
+            Kind::Refresh => Fragment::Refresh,
+            Kind::Other => Fragment::Other,
         }
     }
 
-    /// Its sign, as in Terraform's plans.
+    /// The sign of the kind, as in Terraform's plans.
     pub fn sign(self) -> char {
         match self {
             Kind::Create => '+',
@@ -57,16 +57,16 @@ impl Kind {
         }
     }
 
-    /// How it is shown in a text with colours.
-    pub fn paint(self) -> Paint
-        ensures { result ≡ kind_paint self }
+    /// How a text shows steps of this kind.
+    pub fn rendition(self) -> Rendition
+        ensures { result ≡ kind_rendition self }
     {
         match self {
-            Kind::Create => Paint::Green,
-            Kind::Update => Paint::Yellow,
-            Kind::Delete => Paint::Magenta,
-            Kind::Read | Kind::Refresh => Paint::Cyan,
-            Kind::Other => Paint::White,
+            Kind::Create => Rendition::Green,
+            Kind::Update => Rendition::Yellow,
+            Kind::Delete => Rendition::Magenta,
+            Kind::Read | Kind::Refresh => Rendition::Cyan,
+            Kind::Other => Rendition::White,
         }
     }
 }

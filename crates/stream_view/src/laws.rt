@@ -3,31 +3,31 @@
 ghost use Rattle.std.specs.Prelude.{◌≡◌, ◌≤◌, ◌<◌, ◌⊎◌, ℕ, List, false, true, filter};
 ghost use Rattle.std.specs.Int.{int_gap};
 ghost use Rattle.stream_timeline.specs.Intervals.{until_of};
-ghost use Rattle.stream_timeline.specs.Steps.{ToldStep};
-ghost use Rattle.stream_timeline.specs.declared.told.moments.Moments.{Moments};
+ghost use Rattle.stream_timeline.specs.Steps.{StepRead};
+ghost use Rattle.stream_timeline.specs.declared.reading.time_range.TimeRange.{TimeRange};
 ghost use Rattle.stream_view.specs.Lines.{is_character, is_no_control, line_bytes};
 ghost use Rattle.stream_view.specs.Markup.{Axis, bar_left, bar_right};
-ghost use Rattle.stream_view.specs.declared.text.piece.Piece.{Piece as piece};
-ghost use Rattle.stream_view.specs.declared.text.piece.Piece.TheVariants.{Character};
+ghost use Rattle.stream_view.specs.declared.text.line_piece.LinePiece.{LinePiece as line_piece};
+ghost use Rattle.stream_view.specs.declared.text.line_piece.LinePiece.TheVariants.{Character};
 
-/// What stands in a line is no control (Unicode, category Cc), so that a text has none but its line feeds and the sequences of
-/// colours.
+/// A line has no control character (Unicode, category Cc). So a text has only its line feeds and
+/// the sequences of colours.
 pub fn no_line_has_a_control()
     ensures { (character : ℕ) → is_no_control (Character character) ≡ true
         → (32 ≤ character) × ((character < 127) ⊎ (160 ≤ character)) }
 {}
 
-/// A line with colours has what it has without, and the sequences besides.
+/// Without the sequences of colours, a line with colours has the bytes of a line without.
 pub fn colours_are_sequences_alone()
-    ensures { (pieces : List piece) → line_bytes false pieces ≡ line_bytes true (filter is_character pieces) }
+    ensures { (pieces : List line_piece) → line_bytes false pieces ≡ line_bytes true (filter is_character pieces) }
 {}
 
-/// Of two steps the bar of the one that begins no later begins no further to the right in an SVG, and that of the one that ends
-/// no later ends no further, before it is given its least width.
+/// In an SVG, the bar of a step that begins no later begins no further to the right. A bar of a
+/// step that ends no later ends no further to the right, before it is widened to the least width.
 pub fn what_comes_no_later_has_its_bar_no_further()
-    ensures begin { (axis : Axis) (moments : Moments) (sooner later : ToldStep) → int_gap moments.first sooner.begin ≤ int_gap moments.first later.begin
-        → bar_left axis moments sooner ≤ bar_left axis moments later }
-    ensures end { (axis : Axis) (moments : Moments) (sooner later : ToldStep)
-        → int_gap moments.first (until_of moments sooner) ≤ int_gap moments.first (until_of moments later)
-        → bar_right axis moments sooner ≤ bar_right axis moments later }
+    ensures begin { (axis : Axis) (time_range : TimeRange) (sooner later : StepRead) → int_gap time_range.first sooner.begin ≤ int_gap time_range.first later.begin
+        → bar_left axis time_range sooner ≤ bar_left axis time_range later }
+    ensures end { (axis : Axis) (time_range : TimeRange) (sooner later : StepRead)
+        → int_gap time_range.first (until_of time_range sooner) ≤ int_gap time_range.first (until_of time_range later)
+        → bar_right axis time_range sooner ≤ bar_right axis time_range later }
 {}

@@ -5,64 +5,67 @@ ghost use Rattle.std.specs.Int.{int_gap};
 ghost use Rattle.stream_timeline.specs.Intervals.{span_of, until_of};
 ghost use Rattle.stream_timeline.specs.Numbers.{IsNumbersOf};
 ghost use Rattle.stream_timeline.specs.Rows.{AreRowsOf};
-ghost use Rattle.stream_view.specs.Viewed.{moments_of};
+ghost use Rattle.stream_view.specs.Viewed.{time_range_of};
 
 use std::alloc::{AllocError, Global};
-use stream_timeline::{Moments, Numbers, Rows, Step, Told, numbers_of, rows_of};
+use stream_timeline::{Numbers, Rows, Step, TimeRange, Timeline, numbers_of, rows_of};
 
-/// What a picture shows: what the stream tells, its numbers, and which steps get a row.
+/// What a picture shows: the time line of a stream, its figures, and which steps get a row.
 #[derive(Drop)]
 pub struct Picture<'a> {
-    pub told: &'a Told,
-    pub moments: Moments,
+    pub timeline: &'a Timeline,
+    pub time_range: TimeRange,
     pub numbers: Numbers,
     pub rows: Rows,
 }
 
 impl<'a> Picture<'a> {
-    /// That of what a stream tells, with at most so many rows, or one for each step. Moments that no line tells are 0. `Err`
-    /// where memory is refused.
+    /// The picture of a time line with at most `limit` rows, or one row for each step. Without a
+    /// message, the time range begins and ends at 0. `Err` means that memory was refused.
     pub fn of(
         alloc: Global,
-        told: &'a Told,
+        timeline: &'a Timeline,
         limit: Option<usize>,
     ) -> Result<Picture<'a>, AllocError>
-        ensures told { IfOk result (λ picture. picture.told.now ≡ told.now) }
-        ensures moments { IfOk result (λ picture. picture.moments ≡ moments_of told.now) }
-        ensures numbers { IfOk result (λ picture. IsNumbersOf (moments_of told.now) told.now.steps picture.numbers) }
-        ensures rows { IfOk result (λ picture. AreRowsOf (moments_of told.now) told.now.steps limit picture.rows) }
+        ensures timeline { IfOk result (λ picture. picture.timeline.now ≡ timeline.now) }
+        ensures time_range { IfOk result (λ picture. picture.time_range ≡ time_range_of timeline.now) }
+        ensures numbers { IfOk result (λ picture. IsNumbersOf (time_range_of timeline.now) timeline.now.steps picture.numbers) }
+        ensures rows { IfOk result (λ picture. AreRowsOf (time_range_of timeline.now) timeline.now.steps limit picture.rows) }
     {
-        let moments = told.moments().unwrap_or(Moments { first: 0, last: 0 });
+        let time_range = timeline
+            .time_range()
+            .unwrap_or(TimeRange { first: 0, last: 0 });
         Ok(Picture {
-            told,
-            moments,
-            numbers: numbers_of(alloc, moments, told.steps())?,
-            rows: rows_of(alloc, moments, told.steps(), limit)?,
+            timeline,
+            time_range,
+            numbers: numbers_of(alloc, time_range, timeline.steps())?,
+            rows: rows_of(alloc, time_range, timeline.steps(), limit)?,
         })
     }
 
-    /// From the first moment to the last, in microseconds.
+    /// The time from the first to the last timestamp, in microseconds.
     pub fn span(&self) -> u64
-        ensures { result ≡ span_of self.now.moments }
+        ensures { result ≡ span_of self.now.time_range }
     {
-        self.moments.span()
+        self.time_range.span()
     }
 
-    /// How long after the first moment a step begins, in microseconds.
+    /// When a step begins, in microseconds since the start of the stream.
     pub fn begin_of(&self, step: &Step) -> u64
-        ensures { result ≡ int_gap self.now.moments.first step.now.begin }
+        ensures { result ≡ int_gap self.now.time_range.first step.now.begin }
     {
-        self.moments.offset(step.begin())
+        self.time_range.offset(step.begin())
     }
 
-    /// How long after the first moment a step ends, in microseconds; the last moment where no end is told.
+    /// When a step ends, in microseconds since the start of the stream. A step without an end runs
+    /// to the end of the stream.
     pub fn until_of(&self, step: &Step) -> u64
-        ensures { result ≡ int_gap self.now.moments.first (until_of self.now.moments step.now) }
+        ensures { result ≡ int_gap self.now.time_range.first (until_of self.now.time_range step.now) }
     {
-        self.moments.offset(step.until(self.moments))
+        self.time_range.offset(step.until(self.time_range))
     }
 
-    /// How long a step was the only one under way, in microseconds.
+    /// How long the step at index `place` was the only one that ran, in microseconds.
     pub fn alone_of(&self, place: usize) -> u64
         ensures { result ≡ get_or self.now.numbers.alone.items place 0 }
     {

@@ -1,14 +1,13 @@
-//! The text.
+//! Draws a picture as a text.
 
-pub(crate) mod at_once;
 pub(crate) mod axis;
 pub(crate) mod bar;
 pub(crate) mod chart;
+pub(crate) mod concurrency;
 pub(crate) mod drawing;
 pub(crate) mod line;
-pub(crate) mod page;
-pub(crate) mod paint;
-pub(crate) mod piece;
+pub(crate) mod line_buffer;
+pub(crate) mod line_piece;
+pub(crate) mod rendition;
 pub(crate) mod row;
-pub(crate) mod style;
 pub(crate) mod writing;

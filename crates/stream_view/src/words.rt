@@ -1,5 +1,5 @@
-//! How durations and numbers are said.
+//! The words for numbers, durations and ticks.
 
-pub(crate) mod saying;
-pub(crate) mod tick_step;
+pub(crate) mod message_text;
+pub(crate) mod tick_interval;
 pub(crate) mod within;

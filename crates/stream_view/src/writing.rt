@@ -1,4 +1,4 @@
-//! Texts that are written.
+//! Writes to the output.
 
 ghost use Rattle.std.specs.Prelude.{OnOk};
 ghost use Rattle.std.specs.Io.KnownBytes.{Appends, Keeps};
@@ -6,8 +6,9 @@ ghost use Rattle.std.specs.Io.KnownBytes.{Appends, Keeps};
 use crate::draw_fault::DrawFault;
 use std::io::{self, ErrorKind, Write};
 
-/// Writes the text. `Err` with `DrawFault::Gone` or `DrawFault::Unwritten` where that fails: then some of its first bytes were
-/// written.
+/// Writes the text. `DrawFault::Gone` if the reader of the output is gone, and
+/// `DrawFault::Unwritten` if the write fails otherwise. After an `Err`, `out` may have the first
+/// bytes of the text.
 pub fn write_text<W: Write>(text: &str, out: &mut W) -> Result<(), DrawFault>
     ensures { OnOk result (Appends (W.contents out.old) (W.contents out.new) text.now) }
 {
@@ -17,7 +18,7 @@ pub fn write_text<W: Write>(text: &str, out: &mut W) -> Result<(), DrawFault>
     }
 }
 
-/// Sends on what was written.
+/// Flushes the output. The errors are those of `write_text`.
 pub fn flush<W: Write>(out: &mut W) -> Result<(), DrawFault>
     ensures { Keeps (W.contents out.old) (W.contents out.new) }
 {
@@ -27,7 +28,7 @@ pub fn flush<W: Write>(out: &mut W) -> Result<(), DrawFault>
     }
 }
 
-/// What a failed write or flush is.
+/// The fault for a failed write or flush.
 fn write_fault(error: &io::Error) -> DrawFault {
     if error.kind() == ErrorKind::BrokenPipe {
         DrawFault::Gone

@@ -1,5 +1,5 @@
-//! What no clause says: whole pictures, readers and writers that fail, and what texts of a stream look like. Words, widths and
-//! layouts are those of the pictures that `checks/views` compares.
+//! Tests of what the contracts don't cover: whole pictures, readers and writers that fail, and
+//! hostile texts. The pictures that `checks/views` compares cover words, widths and layouts.
 
 mod files;
 mod streams;
@@ -9,9 +9,9 @@ use std::alloc::Global;
 use std::io::{ErrorKind, Read, Write};
 use std::process::Abort;
 use std::{array, io};
-use stream_timeline::ViewFault;
+use stream_timeline::TimelineFault;
 use stream_view::{Colour, DrawFault, Form, Outcome, PictureFault, follow, view_input};
-use streams::{Given, Taken};
+use streams::{Given, WrittenOutput};
 
 /// A text of 120 columns, without colours.
 const TEXT: Form = Form::Text {
@@ -19,7 +19,7 @@ const TEXT: Form = Form::Text {
     colour: Colour::Never,
 };
 
-/// The stream of one create, in short.
+/// The stream of one create, shortened.
 const ONE_CREATE: &str =
     r#"{"@timestamp":"1970-01-01T00:00:00Z","terraform":"1.9.0","type":"version"}
 {"@timestamp":"1970-01-01T00:00:00Z","hook":{"action":"create","resource":{"addr":"random_pet.animal"}},"type":"apply_start"}
@@ -27,14 +27,14 @@ const ONE_CREATE: &str =
 {"@timestamp":"1970-01-01T00:00:00Z","changes":{"add":1,"change":0,"operation":"apply","remove":0},"type":"change_summary"}
 "#;
 
-/// Its picture.
+/// The picture of that stream.
 const ONE_CREATE_TEXT: &str = "Terraform 1.9.0: 1 step in 0s: 1 added, 0 changed, 0 destroyed
 
                                    0s
 create random_pet.animal        0s ▖
 ";
 
-/// A step that has no end, whose address and action are markup, and would steer a terminal.
+/// A step without an end, whose address and action are markup and would steer a terminal.
 const HOSTILE: &str =
     r#"{"@timestamp":"1970-01-01T00:00:00Z","hook":{"action":"<b>","resource":{"addr":"a[\"\u001b[31m</text>&\"]"}},"type":"apply_start"}
 {"@timestamp":"1970-01-01T00:00:10Z","type":"outputs"}
@@ -47,22 +47,22 @@ one at a time
                                       0s              2s              4s               6s              8s
 <b> a["\u001b[31m</text>&"] …    ≥10s ░░░"#;
 
-/// Draws the bytes into a writer that takes so many and then fails so.
+/// Draws the stream of these bytes into `out`. The input fails at its end if it is broken.
 fn drawn(
     alloc: Global,
     form: Form,
     bytes: &[u8],
     is_broken: bool,
-    out: &mut Taken,
+    out: &mut WrittenOutput,
     faults: &mut Vec<u8>,
 ) -> Outcome {
     let mut input = Given { bytes, is_broken };
     view_input(alloc, form, Some(40), false, None, &mut input, out, faults)
 }
 
-/// Fails where drawing the bytes as a text ends otherwise.
+/// Fails unless drawing the bytes as a text gives `wanted`.
 fn draws(rt: &impl Abort, alloc: Global, bytes: &str, wanted: &str) {
-    let mut out = Taken::new(alloc, usize::MAX, ErrorKind::StorageFull);
+    let mut out = WrittenOutput::new(alloc, usize::MAX, ErrorKind::StorageFull);
     let mut faults = Vec::new(alloc);
     let outcome = drawn(alloc, TEXT, bytes.as_bytes(), false, &mut out, &mut faults);
     assert_eq!(rt; outcome.status, 0);
@@ -71,16 +71,16 @@ fn draws(rt: &impl Abort, alloc: Global, bytes: &str, wanted: &str) {
     assert_eq!(rt; out.bytes.as_slice(), wanted.as_bytes());
 }
 
-/// Fails where drawing the bytes ends otherwise than with that fault, status and text, or anything is written.
+/// Fails unless drawing the bytes gives this fault, status and text, and writes nothing.
 fn refuses(
     rt: &impl Abort,
     alloc: Global,
     bytes: &str,
     is_broken: bool,
-    fault: ViewFault,
-    said: &str,
+    fault: TimelineFault,
+    expected: &str,
 ) {
-    let mut out = Taken::new(alloc, usize::MAX, ErrorKind::StorageFull);
+    let mut out = WrittenOutput::new(alloc, usize::MAX, ErrorKind::StorageFull);
     let mut faults = Vec::new(alloc);
     let outcome = drawn(
         alloc,
@@ -91,8 +91,8 @@ fn refuses(
         &mut faults,
     );
     assert_eq!(rt; outcome.status, 2);
-    assert!(rt; outcome.answer == Err(PictureFault::Untold(fault)));
-    assert_eq!(rt; faults.as_slice(), said.as_bytes());
+    assert!(rt; outcome.answer == Err(PictureFault::NoTimeline(fault)));
+    assert_eq!(rt; faults.as_slice(), expected.as_bytes());
     assert!(rt; out.bytes.is_empty());
 }
 
@@ -101,12 +101,12 @@ fn one_create(rt: HostRuntime) {
     draws(&rt, rt.alloc(), ONE_CREATE, ONE_CREATE_TEXT);
 }
 
-/// At each byte of the whole text, and behind the last one, where what was written can't be sent on. Nothing is said where the
-/// reader of the output is gone.
+/// The writer fails at each byte of the text, and after the last one in a flush. Nothing is
+/// reported if the reader of the output is gone.
 #[test]
 fn writer_that_fails(rt: HostRuntime) {
     let text = ONE_CREATE_TEXT.as_bytes();
-    let said = "applystream: the output could not be written\n";
+    let expected = "applystream: the output could not be written\n";
     for room in 0..=text.len() {
         fails(
             &rt,
@@ -114,7 +114,7 @@ fn writer_that_fails(rt: HostRuntime) {
             room,
             ErrorKind::StorageFull,
             DrawFault::Unwritten,
-            said,
+            expected,
         );
         fails(
             &rt,
@@ -127,16 +127,16 @@ fn writer_that_fails(rt: HostRuntime) {
     }
 }
 
-/// Fails where the picture of one create does not end so in a writer that fails so behind so many bytes.
+/// Fails unless drawing one create ends with this result in a writer that fails after `room` bytes.
 fn fails(
     rt: &impl Abort,
     alloc: Global,
     room: usize,
     kind: ErrorKind,
     fault: DrawFault,
-    said: &str,
+    expected: &str,
 ) {
-    let mut out = Taken::new(alloc, room, kind);
+    let mut out = WrittenOutput::new(alloc, room, kind);
     let mut faults = Vec::new(alloc);
     let outcome = drawn(
         alloc,
@@ -148,28 +148,35 @@ fn fails(
     );
     assert_eq!(rt; outcome.status, 3);
     assert!(rt; outcome.answer == Err(PictureFault::Undrawn(fault)));
-    assert_eq!(rt; faults.as_slice(), said.as_bytes());
+    assert_eq!(rt; faults.as_slice(), expected.as_bytes());
     let front = ONE_CREATE_TEXT.as_bytes().get(..room).unwrap_or(&[]);
     assert_eq!(rt; out.bytes.as_slice(), front);
 }
 
 #[test]
 fn streams_without_a_message(rt: HostRuntime) {
-    let said = "applystream: there is no message in the stream\n";
-    refuses(&rt, rt.alloc(), "", false, ViewFault::NoMessage, said);
+    let expected = "applystream: there is no message in the stream\n";
+    refuses(
+        &rt,
+        rt.alloc(),
+        "",
+        false,
+        TimelineFault::NoMessage,
+        expected,
+    );
     refuses(
         &rt,
         rt.alloc(),
         "{}\n{}\n",
         false,
-        ViewFault::NoMessage,
-        said,
+        TimelineFault::NoMessage,
+        expected,
     );
 }
 
 #[test]
 fn reader_that_fails(rt: HostRuntime) {
-    let mut out = Taken::new(rt.alloc(), usize::MAX, ErrorKind::StorageFull);
+    let mut out = WrittenOutput::new(rt.alloc(), usize::MAX, ErrorKind::StorageFull);
     let mut faults = Vec::new(rt.alloc());
     let outcome = drawn(
         rt.alloc(),
@@ -179,20 +186,20 @@ fn reader_that_fails(rt: HostRuntime) {
         &mut out,
         &mut faults,
     );
-    let said = "applystream: the stream could not be read\n";
+    let expected = "applystream: the stream could not be read\n";
     assert_eq!(rt; outcome.status, 2);
-    assert_eq!(rt; faults.as_slice(), said.as_bytes());
+    assert_eq!(rt; faults.as_slice(), expected.as_bytes());
     assert!(rt; out.bytes.is_empty());
 }
 
-/// Fails where a file of one create, which fails at its end or not, is viewed otherwise than with that status, a text that begins
-/// so and a picture, or anything of the input is read beside it.
+/// Views a file of one create, which may fail at its end. Fails unless the status, the begin of the
+/// report and the picture are these, and nothing of the input is read.
 fn leaves_the_input(
     rt: &impl Abort,
     alloc: Global,
     is_broken: bool,
     status: u8,
-    said: &str,
+    expected: &str,
     wanted: &str,
 ) {
     let disk = Disk {
@@ -204,7 +211,7 @@ fn leaves_the_input(
         bytes: ONE_CREATE.as_bytes(),
         is_broken: false,
     };
-    let mut out = Taken::new(alloc, usize::MAX, ErrorKind::StorageFull);
+    let mut out = WrittenOutput::new(alloc, usize::MAX, ErrorKind::StorageFull);
     let mut faults = Vec::new(alloc);
     let words = array::from_ref(&name);
     let followed = follow(
@@ -218,23 +225,23 @@ fn leaves_the_input(
         &mut faults,
     );
     assert_eq!(rt; followed.status, status);
-    assert!(rt; faults.as_slice().starts_with(said.as_bytes()));
+    assert!(rt; faults.as_slice().starts_with(expected.as_bytes()));
     assert_eq!(rt; out.bytes.as_slice(), wanted.as_bytes());
     assert_eq!(rt; input.bytes, ONE_CREATE.as_bytes());
 }
 
-/// Of a file that is viewed, whole or not, nothing is read of the input: a job may hold it open.
+/// Nothing of the input is read if a file is viewed, whole or not: a job may hold the input open.
 #[test]
 fn input_beside_a_file(rt: HostRuntime) {
     leaves_the_input(&rt, rt.alloc(), false, 0, "", ONE_CREATE_TEXT);
-    let said = "applystream: the file stream.jsonl could not be read: ";
-    leaves_the_input(&rt, rt.alloc(), true, 2, said, "");
+    let expected = "applystream: the file stream.jsonl could not be read: ";
+    leaves_the_input(&rt, rt.alloc(), true, 2, expected, "");
 }
 
 /// Texts of a stream steer no terminal, and are no markup.
 #[test]
 fn hostile_texts(rt: HostRuntime) {
-    let mut out = Taken::new(rt.alloc(), usize::MAX, ErrorKind::StorageFull);
+    let mut out = WrittenOutput::new(rt.alloc(), usize::MAX, ErrorKind::StorageFull);
     let mut faults = Vec::new(rt.alloc());
     let outcome = drawn(
         rt.alloc(),
@@ -246,7 +253,7 @@ fn hostile_texts(rt: HostRuntime) {
     );
     assert_eq!(rt; outcome.status, 0);
     assert!(rt; out.bytes.as_slice().starts_with(HOSTILE_TEXT.as_bytes()));
-    let mut svg = Taken::new(rt.alloc(), usize::MAX, ErrorKind::StorageFull);
+    let mut svg = WrittenOutput::new(rt.alloc(), usize::MAX, ErrorKind::StorageFull);
     let outcome = drawn(
         rt.alloc(),
         Form::Svg,
@@ -261,7 +268,7 @@ fn hostile_texts(rt: HostRuntime) {
     assert!(rt; !has(svg.bytes.as_slice(), b"<b>"));
 }
 
-/// Whether the bytes have those somewhere.
+/// Whether the bytes contain `wanted`.
 fn has(bytes: &[u8], wanted: &[u8]) -> bool {
     bytes
         .windows(wanted.len().max(1))

@@ -24,7 +24,7 @@ some_left cs n some last =
     (λ (out : list_all is_blank cs ≡ false). list_all-append is_blank cs (replicate n 32) ∙ ap (λ b. b && list_all is_blank (replicate n 32)) out)
     (cases_Bool (list_all is_blank cs))
 
--- nothing but blanks is left out behind it
+-- only blanks are left out after it
 kept : (front : List ℕ) (n : ℕ) → (1 ≤ length front → get_or front (length front - 1) 0 ≢ 32) → without_blanks (front ++ replicate n 32) ≡ front
 kept [] n last = none_left (replicate n 32) (all_blank n)
 kept (c ∷ cs) n last = rw (some_left (c ∷ cs) n (omega arith) (last (omega arith))) (ap (λ ds. c ∷ ds) (kept cs n (λ some. below cs some (last (omega arith)))))

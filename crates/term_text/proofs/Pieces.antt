@@ -7,7 +7,7 @@ use Rattle.bstr.proofs.lemmas.EncodeLemmas.{decoded-encode}
 use Rattle.std.proofs.Common.{length-append}
 use Rattle.std.proofs.lemmas.Str.{length-encode, len_utf8_bounds}
 use lib.Utf8.{scalar}
-use Rattle.term_text.specs.Pieces.{character_or_byte, first_piece, pieces_behind, pieces_of}
+use Rattle.term_text.specs.Pieces.{character_or_byte, first_piece, pieces_after, pieces_of}
 
 size_within : (character : Option ℕ) (size whole : ℕ) → 1 ≤ size → size ≤ whole → (1 ≤ (character_or_byte character size).size) × ((character_or_byte character size).size ≤ whole)
 size_within None size whole some within = (omega arith, omega arith)
@@ -19,14 +19,14 @@ first_piece-size bytes some =
     let bounds = piece-bounds bytes some in
     size_within (decoded bytes).char (decoded bytes).size (length bytes) bounds.0 bounds.2
 
-pieces_behind-drop : (passed : ℕ) (bytes : List ℕ) → pieces_behind passed bytes ≡ pieces_behind 0 (drop passed bytes)
-unfolding pieces_behind
-pieces_behind-drop zero bytes = refl
-pieces_behind-drop (suc passed) [] = refl
-pieces_behind-drop (suc passed) (byte ∷ bytes) = pieces_behind-drop passed bytes
+pieces_after-drop : (passed : ℕ) (bytes : List ℕ) → pieces_after passed bytes ≡ pieces_after 0 (drop passed bytes)
+unfolding pieces_after
+pieces_after-drop zero bytes = refl
+pieces_after-drop (suc passed) [] = refl
+pieces_after-drop (suc passed) (byte ∷ bytes) = pieces_after-drop passed bytes
 
 pub pieces_of-nil : pieces_of [] ≡ []
-unfolding pieces_behind
+unfolding pieces_after
 pieces_of-nil = refl
 
 drop_first : (byte : ℕ) (bytes : List ℕ) (size : ℕ) → 1 ≤ size → drop (size - 1) bytes ≡ drop size (byte ∷ bytes)
@@ -34,12 +34,12 @@ drop_first byte bytes zero some = absurd (omega arith)
 drop_first byte bytes (suc size) some = let same : suc size - 1 ≡ size = omega arith in ap (λ n. drop n bytes) same
 
 pub pieces_of-step : (bytes : List ℕ) → 0 < length bytes → pieces_of bytes ≡ first_piece bytes ∷ pieces_of (drop (first_piece bytes).size bytes)
-unfolding pieces_behind
+unfolding pieces_after
 pieces_of-step [] some = absurd (omega arith)
 pieces_of-step (byte ∷ bytes) some =
     let size = (first_piece (byte ∷ bytes)).size in
     ap (λ pieces. first_piece (byte ∷ bytes) ∷ pieces)
-    (pieces_behind-drop (size - 1) bytes ∙ ap (λ left. pieces_behind 0 left) (drop_first byte bytes size (first_piece-size (byte ∷ bytes) some).0))
+    (pieces_after-drop (size - 1) bytes ∙ ap (λ left. pieces_after 0 left) (drop_first byte bytes size (first_piece-size (byte ∷ bytes) some).0))
 
 first_piece-encode : (character : ℕ) (rest : List ℕ) → scalar character ≡ true → first_piece (encode_utf8 character ++ rest) ≡ good character (length (encode_utf8 character))
 unfolding first_piece

@@ -10,7 +10,7 @@ use Rattle.std.specs.Str.{IsUtf8, IsAscii, NoCharPasses, NonePass}
 use Rattle.bstr.specs.Utf8.{Decoded, decoded, good}
 use Rattle.bstr.proofs.lemmas.SoundLemmas.{SpellsChar-decoded}
 use lib.Utf8.{scalar, scalars, encodes}
-use Rattle.term_text.specs.Pieces.{character_or_byte, first_piece, pieces_behind, pieces_of}
+use Rattle.term_text.specs.Pieces.{character_or_byte, first_piece, pieces_after, pieces_of}
 use Rattle.term_text.specs.Shown.{is_hidden, escape, shown_character, shown_piece, shown_text, readable_piece, readable_text}
 use Rattle.term_text.specs.Fronts.{room_for, front_of, cut_text}
 use Rattle.term_text.proofs.Pieces.{pieces_of-nil, pieces_of-encode}
@@ -57,19 +57,19 @@ two-plain byte low high =
     (92 ∷ byte ∷ [], encodes-IsAscii _ (two_ascii byte (omega arith)), (visible 92 (lit≤ tt) (lit< tt), (visible byte low high, tt)))
 
 -- what is shown of a character that is no line feed, and of one that is no tab either
-abbrev behind_line_feed : ℕ → List ℕ
-behind_line_feed character = if character == 9 then codes "\\t" else (if is_hidden character then escape character else encode_utf8 character)
+abbrev after_line_feed : ℕ → List ℕ
+after_line_feed character = if character == 9 then codes "\\t" else (if is_hidden character then escape character else encode_utf8 character)
 
-abbrev behind_tab : ℕ → List ℕ
-behind_tab character = if is_hidden character then escape character else encode_utf8 character
+abbrev after_tab : ℕ → List ℕ
+after_tab character = if is_hidden character then escape character else encode_utf8 character
 
 -- what holds of each form in which a character is shown
 shown_character-either : (P : List ℕ → Type 0) (character : ℕ) → P (92 ∷ 110 ∷ []) → P (92 ∷ 116 ∷ []) → (is_hidden character ≡ true → P (escape character))
     → (is_hidden character ≡ false → P (encode_utf8 character)) → P (shown_character character)
 unfolding shown_character
 shown_character-either P character line_feed tab hidden plain =
-    if_either P (character == 10) (codes "\\n") (behind_line_feed character) (λ is. line_feed)
-    (λ other. if_either P (character == 9) (codes "\\t") (behind_tab character) (λ is. tab) (λ no_tab. if_either P (is_hidden character) (escape character) (encode_utf8 character) hidden plain))
+    if_either P (character == 10) (codes "\\n") (after_line_feed character) (λ is. line_feed)
+    (λ other. if_either P (character == 9) (codes "\\t") (after_tab character) (λ is. tab) (λ no_tab. if_either P (is_hidden character) (escape character) (encode_utf8 character) hidden plain))
 
 shown_character-plain : (character : ℕ) → NoCharPasses is_hidden (shown_character character)
 shown_character-plain character =
@@ -110,17 +110,17 @@ shown_piece-IsUtf8 : (character : Option ℕ) → IsReal character → IsUtf8 (s
 shown_piece-IsUtf8 None is = escape-IsUtf8 0xFFFD (lit< tt)
 shown_piece-IsUtf8 (Some character) is = shown_character-IsUtf8 character is
 
-shown_behind-IsUtf8 : (passed : ℕ) (bytes : List ℕ) → IsUtf8 (flat_map (λ (piece : Decoded). shown_piece piece.char) (pieces_behind passed bytes))
-unfolding pieces_behind
-shown_behind-IsUtf8 passed [] = IsUtf8-nil
-shown_behind-IsUtf8 zero (byte ∷ bytes) =
+shown_after-IsUtf8 : (passed : ℕ) (bytes : List ℕ) → IsUtf8 (flat_map (λ (piece : Decoded). shown_piece piece.char) (pieces_after passed bytes))
+unfolding pieces_after
+shown_after-IsUtf8 passed [] = IsUtf8-nil
+shown_after-IsUtf8 zero (byte ∷ bytes) =
     let first = first_piece (byte ∷ bytes) in
-    IsUtf8-append _ _ (shown_piece-IsUtf8 first.char (first_piece-real (byte ∷ bytes))) (shown_behind-IsUtf8 (first.size - 1) bytes)
-shown_behind-IsUtf8 (suc passed) (byte ∷ bytes) = shown_behind-IsUtf8 passed bytes
+    IsUtf8-append _ _ (shown_piece-IsUtf8 first.char (first_piece-real (byte ∷ bytes))) (shown_after-IsUtf8 (first.size - 1) bytes)
+shown_after-IsUtf8 (suc passed) (byte ∷ bytes) = shown_after-IsUtf8 passed bytes
 
 pub shown_text-IsUtf8 : (bytes : List ℕ) → IsUtf8 (shown_text bytes)
 unfolding shown_text
-shown_text-IsUtf8 bytes = shown_behind-IsUtf8 0 bytes
+shown_text-IsUtf8 bytes = shown_after-IsUtf8 0 bytes
 
 -- ---- fronts
 

@@ -107,7 +107,7 @@ room_for-boundary limit text utf8 =
     subst (λ t. IsTextFront t (room_for limit (pieces_of t))) utf8.1.1 (text_front utf8.0 utf8.1.0 limit) in
     IsCharBoundary-from_take text _ utf8 front.0 front.1
 
--- what stands behind more text than has room changes nothing
+-- bytes after a text that is too long change nothing
 same_room : (characters : List ℕ) → scalars characters ≡ true → (limit : ℕ) (more : List ℕ) → limit < length (encodes characters)
     → room_for limit (pieces_of (encodes characters ++ more)) ≡ room_for limit (pieces_of (encodes characters))
 same_room [] all limit more short = absurd (omega arith)

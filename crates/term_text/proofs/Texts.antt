@@ -58,7 +58,7 @@ unfolding encode_utf8
 readable_piece-unwrap None = refl
 readable_piece-unwrap (Some character) = refl
 
--- one more piece behind what was added, in front of what is left
+-- one more piece, between the appended text and the rest
 pub added-more : (before text rest whole : List ℕ) (character : Option ℕ) (size : ℕ) → 0 < length rest
     → character ≡ (first_piece rest).char → size ≡ (first_piece rest).size
     → text ≡ before ++ shown_piece character → before ++ shown_text rest ≡ whole
@@ -93,8 +93,8 @@ IsOk-utf8 bytes P Q (Ok text) said utf8 = refl
 IsOk-utf8 bytes P Q (Err e) said utf8 = absurd (said.0 utf8)
 
 -- what a text had can be cut off again
-pub kept_split : (old text : List ℕ) → IsUtf8 old → IsUtf8 text → take (length old) text ≡ old → IsCharBoundary text (length old)
-kept_split old text old_utf8 utf8 kept =
+pub preserved_split : (old text : List ℕ) → IsUtf8 old → IsUtf8 text → take (length old) text ≡ old → IsCharBoundary text (length old)
+preserved_split old text old_utf8 utf8 kept =
     let long : length old ≤ length text = omega (arith, length-take (length old) text, ap length kept) in
     IsCharBoundary-from_take text (length old) utf8 long (rw kept old_utf8)
 

@@ -1,5 +1,5 @@
 pub mod Columns
-pub mod Escaped
+pub mod Markup
 pub mod Fitted
 pub mod Fitting
 pub mod Fronts

@@ -1,4 +1,4 @@
--- What bytes from outside look like where they are said to people.
+-- Bytes from outside with control characters escaped, and as readable text.
 use Rattle.std.specs.Prelude.{ℕ, ◌/◌, ◌%◌, Bool, ◌||◌, ◌==◌, List, [], ◌∷◌, codes, if◌then◌else◌, Option, Some, None}
 use Rattle.std.specs.List.{flat_map}
 use Rattle.std.specs.Char.{encode_utf8, digit_char}
@@ -7,8 +7,8 @@ use Rattle.std.specs.Str.Lossy.{replacement_bytes}
 use Rattle.bstr.specs.Utf8.{Decoded}
 use Rattle.term_text.specs.Pieces.{pieces_of}
 
--- a control, a separator of lines, a mark that turns the direction of a line, a character with no width, or a code
--- that is no character (Unicode)
+-- Characters that are escaped: controls, line separators, direction marks, zero-width characters,
+-- and codes that are no character (Unicode).
 unfoldable pub is_hidden : ℕ → Bool
 is_hidden character =
     is_in_range 0 0x1F character || is_in_range 0x7F 0x9F character || character == 0x61C
@@ -20,12 +20,13 @@ abbrev pub escape : ℕ → List ℕ
 escape code =
     92 ∷ 117 ∷ digit_char (code / 4096) ∷ digit_char (code / 256 % 16) ∷ digit_char (code / 16 % 16) ∷ digit_char (code % 16) ∷ []
 
--- a character as it is shown
+-- A character of escaped text: `
+-- ` and `\t` for line feed and tab, an escape for the other hidden characters.
 unfoldable pub shown_character : ℕ → List ℕ
 shown_character character =
     if character == 10 then codes "\\n" else (if character == 9 then codes "\\t" else (if is_hidden character then escape character else encode_utf8 character))
 
--- a character as it is shown, and U+FFFD as an escape for a byte that belongs to none
+-- a piece of escaped text, with the escape of U+FFFD for a byte that belongs to no character
 abbrev pub shown_piece : Option ℕ → List ℕ
 shown_piece None = escape 0xFFFD
 shown_piece (Some character) = shown_character character
@@ -33,7 +34,7 @@ shown_piece (Some character) = shown_character character
 unfoldable pub shown_text : List ℕ → List ℕ
 shown_text bytes = flat_map (λ (piece : Decoded). shown_piece piece.char) (pieces_of bytes)
 
--- a character as it stands, and U+FFFD for a byte that belongs to none
+-- a piece of readable text, with U+FFFD for a byte that belongs to no character
 abbrev pub readable_piece : Option ℕ → List ℕ
 readable_piece None = replacement_bytes
 readable_piece (Some character) = encode_utf8 character

@@ -1,16 +1,16 @@
-//! Texts as they are shown where there is little room.
+//! Escapes control characters within a limit of bytes. Each `Err` means that memory was refused.
 
 ghost use Rattle.std.specs.Prelude.{◌≡◌, ◌<◌, ◌++◌, ◌-◌, ◌≤◌, IfOk, OnOk, string_bytes, string_len, codes, take};
 ghost use Rattle.term_text.specs.Shown.{shown_text};
 ghost use Rattle.term_text.specs.Fronts.{front_of, cut_text};
 
+use crate::controls::push_until;
 use crate::fronts::front_size;
-use crate::showing::push_until;
 use std::alloc::{AllocError, Global};
 
 const DOTS: usize = 3;
 
-// Adds three dots, or as many as have room.
+// Appends three dots, or as many as fit into `limit`.
 fn push_dots(text: &mut String, limit: usize) -> Result<(), AllocError>
     ensures { OnOk result (string_bytes text.new ≡ string_bytes text.old ++ take limit (codes "...")) }
 {
@@ -22,7 +22,7 @@ fn push_dots(text: &mut String, limit: usize) -> Result<(), AllocError>
     }
 }
 
-// The text, cut to `limit` bytes, with dots at its end.
+// Cuts the text to `limit` bytes, with dots at its end.
 fn cut(mut text: String, limit: usize) -> Result<String, AllocError>
     ensures { IfOk result (λ short. string_bytes short ≡ front_of (limit - 3) (string_bytes text) ++ take limit (codes "...")) }
 {
@@ -31,12 +31,17 @@ fn cut(mut text: String, limit: usize) -> Result<String, AllocError>
     Ok(text)
 }
 
-/// The bytes as they are shown to people (see [`push_shown`](crate::push_shown)), in at most `limit` bytes. A longer
-/// text is cut between two characters, three bytes early, and three dots follow; below three bytes, as many dots as
-/// have room. The memory that is taken depends on `limit`, and not on how many bytes there are.
+/// Returns the bytes with control characters escaped, in at most `limit` bytes (see
+/// [`push_controls_escaped`](crate::push_controls_escaped)).
 ///
-/// `Err` where memory is refused.
-pub fn shown_within(alloc: Global, limit: usize, bytes: &[u8]) -> Result<String, AllocError>
+/// A longer text is cut between two characters, three bytes early, and three dots follow. A limit
+/// below three gives as many dots. The memory in use depends on `limit`, not on the length of the
+/// input.
+pub fn escape_controls_within(
+    alloc: Global,
+    limit: usize,
+    bytes: &[u8],
+) -> Result<String, AllocError>
     ensures { IfOk result (λ text. string_bytes text ≡ cut_text limit (shown_text bytes.now)) }
 {
     let mut text = String::new(alloc);

@@ -1,4 +1,4 @@
-//! Texts that have little room.
+//! Fits texts into a limited number of columns. Each `Err` means that memory was refused.
 
 ghost use Rattle.std.specs.Prelude.{◌≡◌, ◌<◌, ◌≤◌, ◌+◌, ◌-◌, IfOk, drop, length, take};
 ghost use Rattle.term_text.specs.Columns.{columns_of};
@@ -8,12 +8,14 @@ use crate::columns::{columns, columns_of};
 use crate::shown_text::ShownText;
 use std::alloc::{AllocError, Global};
 
-/// How many characters that take no column are kept one behind another.
+/// How many zero-width characters may stand in a row.
 const MOST_MARKS: usize = 4;
 
-/// The text in at most so many columns. Of characters without a column the first four are kept of those that stand one behind
-/// another. Where it is wider then, its begin and its end stand round `…`: two fifths of what room there is for the begin, and
-/// the rest for the end. `Err` where memory is refused.
+/// Returns the text in at most `limit` columns. At most four zero-width characters in a row are
+/// retained.
+///
+/// A wider text becomes its start, `…` and its end. The start gets two fifths of the room, the end
+/// gets the rest.
 pub fn fitted(alloc: Global, text: &ShownText, limit: usize) -> Result<ShownText, AllocError>
     ensures { IfOk result (λ short. short ≡ fitted limit text.now) }
 {
@@ -26,7 +28,7 @@ pub fn fitted(alloc: Global, text: &ShownText, limit: usize) -> Result<ShownText
     })
 }
 
-/// The begin and the end of characters round `…`, which take so many columns together.
+/// Returns the start and the end of the characters around `…`. Start and end share `room` columns.
 fn cut_short(alloc: Global, characters: &[char], room: usize) -> Result<Vec<char>, AllocError>
     ensures { IfOk result (λ short. short.items ≡ cut_short room characters.now) }
 {
@@ -40,7 +42,7 @@ fn cut_short(alloc: Global, characters: &[char], room: usize) -> Result<Vec<char
     Ok(short)
 }
 
-/// The characters, but of those without a column no more than four that stand one behind another.
+/// Returns the characters, with at most four zero-width ones in a row.
 fn with_few_marks(alloc: Global, characters: &[char]) -> Result<Vec<char>, AllocError>
     ensures { IfOk result (λ few. few.items ≡ few_marks 0 characters.now) }
 {
@@ -59,7 +61,7 @@ fn with_few_marks(alloc: Global, characters: &[char]) -> Result<Vec<char>, Alloc
     Ok(few)
 }
 
-/// How many of the first characters fit into so many columns.
+/// Returns how many of the first characters fit into `limit` columns.
 fn front_len(characters: &[char], limit: usize) -> usize
     ensures within { result ≤ length characters.now }
     ensures fits { columns_of (take result characters.now) ≤ limit }
@@ -76,7 +78,7 @@ fn front_len(characters: &[char], limit: usize) -> usize
     characters.len()
 }
 
-/// How many of the last characters fit into so many columns.
+/// Returns how many of the last characters fit into `limit` columns.
 fn back_len(characters: &[char], limit: usize) -> usize
     ensures within { result ≤ length characters.now }
     ensures fits { columns_of (drop (length characters.now - result) characters.now) ≤ limit }

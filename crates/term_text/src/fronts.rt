@@ -6,7 +6,7 @@ ghost use Rattle.term_text.specs.Fronts.{room_for, front_of};
 
 use crate::piece::first_piece;
 
-// How many bytes the longest front of at most `limit` bytes has that cuts no character.
+// Returns the length of the longest front of at most `limit` bytes that cuts no character.
 pub(crate) fn front_size(bytes: &[u8], limit: usize) -> usize
     ensures size { result ≡ room_for limit (pieces_of bytes.now) }
     ensures within { result ≤ length bytes.now }
@@ -22,8 +22,8 @@ pub(crate) fn front_size(bytes: &[u8], limit: usize) -> usize
     size
 }
 
-/// The longest front of at most `limit` bytes that cuts no character of UTF-8 (RFC 3629, section 4). A byte that
-/// belongs to no character can end it.
+/// Returns the longest front of at most `limit` bytes that cuts no character of UTF-8 (RFC 3629,
+/// section 4). A byte that belongs to no character may end the front.
 pub fn front(bytes: &[u8], limit: usize) -> &[u8]
     ensures { result.now ≡ front_of limit bytes.now }
 {

@@ -1,4 +1,4 @@
-//! The characters that are shown as an escape, and their escapes.
+//! The characters that are escaped, and their escapes.
 
 ghost use Rattle.std.specs.Prelude.{◌≡◌, ◌<◌, IsTrue, if◌then◌else◌, is_ok, ◌++◌, string_bytes};
 ghost use Rattle.std.specs.Char.{digit_char};
@@ -7,7 +7,8 @@ ghost use Rattle.term_text.specs.Shown.{is_hidden as is_hidden_character, escape
 use std::alloc::AllocError;
 use std::str;
 
-// Whether the character is shown as an escape. The code of each such character has at most four hexadecimal digits.
+// Whether the character is escaped. The code of each such character has at most four hexadecimal
+// digits.
 #[tactic(auto, unfolding(crate::specs::Shown::is_hidden))]
 pub(crate) fn is_hidden(character: char) -> bool
     ensures value { result ≡ is_hidden_character character }
@@ -26,7 +27,7 @@ pub(crate) fn is_hidden(character: char) -> bool
     )
 }
 
-// The hexadecimal digit, in small letters.
+// Returns the hexadecimal digit, as a small letter from 10 on.
 fn digit(value: u32) -> u8
     requires { value < 16 }
     ensures { result ≡ digit_char value }
@@ -39,7 +40,8 @@ fn digit(value: u32) -> u8
     }
 }
 
-// Adds `\u` and the four digits of the code. The text is unchanged where memory is refused.
+// Appends `\u` and the four digits of the code. `Err` where memory is refused: the text is
+// unchanged then.
 pub(crate) fn push_escape(text: &mut String, code: u32) -> Result<(), AllocError>
     requires { code < 0x1_0000 }
     ensures { string_bytes text.new ≡ (if is_ok result then string_bytes text.old ++ escape code else string_bytes text.old) }

@@ -1,11 +1,12 @@
-//! The pieces of bytes: characters, and bytes that belong to none.
+//! Splits bytes into pieces: characters, and bytes that belong to no character.
 
 ghost use Rattle.std.specs.Prelude.{◌≡◌, ◌<◌, ◌≤◌, length};
 ghost use Rattle.term_text.specs.Pieces.{first_piece as piece_in_front};
 
 use bstr::decode_utf8;
 
-// The character that begins the bytes, and how many bytes it has; or none, and one byte that belongs to no character.
+// Returns the first character of the bytes and its length. Returns no character and 1 where the
+// first byte belongs to none.
 #[tactic(auto, unfolding(crate::specs::Pieces::first_piece))]
 pub(crate) fn first_piece(bytes: &[u8]) -> (Option<char>, usize)
     requires { 0 < length bytes.now }

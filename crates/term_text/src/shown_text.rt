@@ -1,4 +1,4 @@
-//! Texts of a stream as they are shown.
+//! Escaped texts, as characters. Each `Err` means that memory was refused.
 
 ghost use Rattle.std.specs.Prelude.{◌≡◌, IfOk, min};
 ghost use Rattle.std.specs.Str.{chars};
@@ -7,11 +7,12 @@ ghost use Rattle.term_text.specs.Fitting.{without_blanks};
 ghost use Rattle.term_text.specs.Fitted.{shown_characters};
 
 use crate::columns::columns;
-use crate::showing::shown;
+use crate::controls::escape_controls;
 use std::alloc::{AllocError, Global};
 use std::marker::Model;
 
-/// A text as it is shown to people, so that it steers no terminal. Contracts see its characters.
+/// A text with control characters escaped, so that it steers no terminal. Contracts see its
+/// characters.
 #[derive(Drop)]
 pub struct ShownText {
     pub(crate) characters: Vec<char>,
@@ -26,16 +27,16 @@ impl Model for ShownText {
 }
 
 impl ShownText {
-    /// The bytes as they are shown. `Err` where memory is refused.
+    /// Escapes the bytes.
     pub fn of(alloc: Global, bytes: &[u8]) -> Result<ShownText, AllocError>
         ensures { IfOk result (λ text. text ≡ shown_characters bytes.now) }
     {
-        let text = shown(alloc, bytes)?;
+        let text = escape_controls(alloc, bytes)?;
         let characters = characters_of(alloc, text.as_str())?;
         Ok(ShownText { characters })
     }
 
-    /// One of these characters.
+    /// Copies characters that are escaped already.
     pub(crate) fn copied(alloc: Global, characters: &[char]) -> Result<ShownText, AllocError>
         ensures { IfOk result (λ text. text ≡ characters.now) }
     {
@@ -44,14 +45,14 @@ impl ShownText {
         })
     }
 
-    /// Its characters.
+    /// The characters of the text.
     pub fn characters(&self) -> &[char]
         ensures { result.now ≡ self.now }
     {
         self.characters.as_slice()
     }
 
-    /// How many columns of a terminal it takes; no more than there are numbers.
+    /// The columns of a terminal that the text takes, at most `usize::MAX`.
     pub fn columns(&self) -> usize
         ensures { result ≡ min (columns_of self.now) usize.MAX }
     {
@@ -59,14 +60,14 @@ impl ShownText {
     }
 }
 
-/// The characters of a text.
+/// Collects the characters of a text.
 fn characters_of(alloc: Global, text: &str) -> Result<Vec<char>, AllocError>
     ensures { IfOk result (λ characters. characters.items ≡ chars text.now) }
 {
     text.chars().collect(alloc)
 }
 
-/// Characters without the blanks at their end.
+/// Returns the characters without the blanks at their end.
 pub fn without_blanks(characters: &[char]) -> &[char]
     ensures { result.now ≡ without_blanks characters.now }
 {

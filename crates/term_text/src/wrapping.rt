@@ -1,4 +1,4 @@
-//! Texts that take several lines.
+//! Wraps texts over several lines.
 
 ghost use Rattle.std.specs.Prelude.{◌≡◌, ◌≤◌, ◌<◌, ◌∷◌, [], IfOk, length};
 ghost use Rattle.term_text.specs.Columns.{columns_of};
@@ -8,8 +8,8 @@ use crate::columns::columns_of;
 use crate::shown_text::{ShownText, without_blanks};
 use std::alloc::{AllocError, Global};
 
-/// The text in lines of at most so many columns each: broken at the last blank that fits, else where a line is full. There is
-/// one line at least. `Err` where memory is refused.
+/// Breaks the text into lines of at most `limit` columns. A line ends at the last blank that fits,
+/// else where it is full. There is at least one line. `Err` where memory is refused.
 pub fn wrapped(alloc: Global, text: &ShownText, limit: usize) -> Result<Vec<ShownText>, AllocError>
     ensures { IfOk result (λ lines. columns_of text.now ≤ limit → lines.items ≡ without_blanks text.now ∷ []) }
 {
@@ -24,7 +24,7 @@ pub fn wrapped(alloc: Global, text: &ShownText, limit: usize) -> Result<Vec<Show
     Ok(lines)
 }
 
-/// The first line of characters, and those behind it; blanks between them are dropped.
+/// Splits off the first line. Blanks between the line and the rest are dropped.
 fn split_line(characters: &[char], limit: usize) -> (&[char], &[char])
     ensures line { columns_of characters.now ≤ limit → result.0.now ≡ without_blanks characters.now }
     ensures rest { columns_of characters.now ≤ limit → result.1.now ≡ [] }
@@ -35,7 +35,7 @@ fn split_line(characters: &[char], limit: usize) -> (&[char], &[char])
     (line, without_front_blanks(&characters[len..]))
 }
 
-/// How many of the first characters fit, and one at least.
+/// Returns how many of the first characters fit into `limit` columns, and 1 where none fits.
 fn full_len(characters: &[char], limit: usize) -> usize
     ensures within { result ≤ length characters.now }
     ensures some { 1 ≤ length characters.now → 1 ≤ result }
@@ -52,7 +52,8 @@ fn full_len(characters: &[char], limit: usize) -> usize
     characters.len()
 }
 
-/// How many characters stand on a line into which so many fit: those before the last blank of these.
+/// Returns the length of a line with room for `full` characters: up to the last blank among them,
+/// else `full`.
 fn line_len(characters: &[char], full: usize) -> usize
     ensures within { result ≤ length characters.now }
     ensures some { 1 ≤ length characters.now → 1 ≤ full → 1 ≤ result }
@@ -71,7 +72,7 @@ fn line_len(characters: &[char], full: usize) -> usize
     full
 }
 
-/// Characters without the blanks at their front.
+/// Returns the characters without the blanks at their front.
 fn without_front_blanks(characters: &[char]) -> &[char]
     ensures { length result.now ≤ length characters.now }
 {

@@ -1,23 +1,24 @@
-//! What no clause says: that the definitions are the ones that were meant, and that calls succeed with ample memory.
+//! Tests of what no clause states: that the definitions are the intended ones, and that calls
+//! succeed with enough memory.
 //!
-//! A test is proved before it runs, and a proof grows with each literal and with each place at which something has to be
-//! dropped: rows are texts, and what they stand for is kept until the test ends.
+//! A test is proved before it runs. A proof grows with each literal and with each place that drops
+//! a value. So rows are texts, and their bytes live until the process ends.
 
 use std::alloc::{AllocError, Global};
 use std::process::Abort;
-use term_text::{front, push_shown, readable, shown, shown_within};
+use term_text::{escape_controls, escape_controls_within, front, push_controls_escaped, readable};
 
-/// What stands before the first mark of a row, and behind it.
+/// The text before the first mark of a row, and the text after it.
 fn parted<'a>(rt: &impl Abort, row: &'a str) -> (&'a str, &'a str) {
     row.split_once(" => ").expect(rt, row)
 }
 
-/// Adds more bytes.
+/// Appends bytes.
 fn push(rt: &impl Abort, bytes: &mut Vec<u8>, more: &[u8]) {
     bytes.extend_from_slice(more).expect(rt, "memory");
 }
 
-/// Adds the byte whose number the first two digits are, and gives what stands behind them.
+/// Appends the byte of the first two hexadecimal digits, and returns the text after them.
 fn push_byte<'a>(rt: &impl Abort, bytes: &mut Vec<u8>, part: &'a str) -> &'a str {
     let (digits, rest) = part.split_at_checked(2).expect(rt, part);
     let byte = u8::from_str_radix(digits, 16).ok().expect(rt, part);
@@ -25,7 +26,7 @@ fn push_byte<'a>(rt: &impl Abort, bytes: &mut Vec<u8>, part: &'a str) -> &'a str
     rest
 }
 
-/// Adds what a part of a cell stands for, which begins with the number of a byte where it stands behind a mark.
+/// Appends the bytes of a part of a cell. A part after a mark starts with the number of a byte.
 fn push_part(rt: &impl Abort, bytes: &mut Vec<u8>, part: &str, is_marked: bool) {
     let plain = if is_marked {
         push_byte(rt, bytes, part)
@@ -35,7 +36,7 @@ fn push_part(rt: &impl Abort, bytes: &mut Vec<u8>, part: &str, is_marked: bool) 
     push(rt, bytes, plain.as_bytes());
 }
 
-/// The bytes that a cell stands for: `\xHH` for the byte of that number, and anything else for itself.
+/// The bytes of a cell: `\xHH` is the byte of that number, and all else stands for itself.
 fn bytes_of(rt: &impl Abort, alloc: Global, cell: &str) -> &'static [u8] {
     let mut bytes = Vec::new(alloc);
     let mut is_marked = false;
@@ -46,13 +47,13 @@ fn bytes_of(rt: &impl Abort, alloc: Global, cell: &str) -> &'static [u8] {
     &*bytes.leak()
 }
 
-/// The bytes of a row, and those that are wanted.
+/// The input bytes of a row, and the expected bytes.
 fn cells(rt: &impl Abort, alloc: Global, row: &str) -> (&'static [u8], &'static [u8]) {
     let (bytes, wanted) = parted(rt, row);
     (bytes_of(rt, alloc, bytes), bytes_of(rt, alloc, wanted))
 }
 
-/// The number; the greatest one for `max`.
+/// The limit as a number; `max` is the greatest one.
 fn limit_of(rt: &impl Abort, limit: &str) -> usize {
     match limit {
         "max" => usize::MAX,
@@ -60,25 +61,25 @@ fn limit_of(rt: &impl Abort, limit: &str) -> usize {
     }
 }
 
-/// The limit of a row, its bytes, and those that are wanted.
+/// The limit of a row, its input bytes, and the expected bytes.
 fn limited(rt: &impl Abort, alloc: Global, row: &str) -> (usize, &'static [u8], &'static [u8]) {
     let (limit, rest) = parted(rt, row);
     let (bytes, wanted) = cells(rt, alloc, rest);
     (limit_of(rt, limit), bytes, wanted)
 }
 
-/// The bytes of a text that has to have its memory.
+/// The bytes of a text; fails where memory was refused.
 fn made(rt: &impl Abort, text: Result<String, AllocError>) -> &'static [u8] {
     &*text.expect(rt, "memory").into_bytes().leak()
 }
 
-/// Fails where other bytes were found in the row.
+/// Fails where the bytes differ from the expected ones.
 fn compare(rt: &impl Abort, row: &str, found: &[u8], wanted: &[u8]) {
     assert!(rt; found == wanted, "at {row}");
 }
 
-/// Bytes, and what they are shown as: plain text, controls, characters that are not seen, no characters, and bytes of no
-/// character, each of which is one escape. One text has a character of one byte, of two, three and four, and five of one.
+/// Bytes, and their escaped text: plain text, controls, invisible characters, codes that are no
+/// character, and bytes of no character. One text has characters of one, two, three and four bytes.
 const SHOWN: &str = r#"
 a \n "b" ~ => a \n "b" ~
  => 
@@ -106,11 +107,11 @@ fn bytes_are_shown(rt: HostRuntime) {
     let alloc = rt.alloc();
     for row in SHOWN.trim().lines() {
         let (bytes, wanted) = cells(&rt, alloc, row);
-        compare(&rt, row, made(&rt, shown(alloc, bytes)), wanted);
+        compare(&rt, row, made(&rt, escape_controls(alloc, bytes)), wanted);
     }
 }
 
-/// Bytes, and the text that they are.
+/// Bytes, and their readable text.
 const READABLE: &str = r#"
 a\x0A\x1B[2J => a\x0A\x1B[2J
  => 
@@ -130,7 +131,7 @@ fn each_byte_of_no_character_reads_as_one(rt: HostRuntime) {
     }
 }
 
-/// A limit, bytes, and what they are shown as within so many bytes. Dots have little room in the last rows.
+/// A limit, bytes, and their escaped text within the limit. In the last rows, the dots hardly fit.
 const WITHIN: &str = r#"
 max => a\xC3\xA9\xE2\x82\xAC\xF0\x9F\x98\x80bcdef => a\xC3\xA9\xE2\x82\xAC\xF0\x9F\x98\x80bcdef
 15 => a\xC3\xA9\xE2\x82\xAC\xF0\x9F\x98\x80bcdef => a\xC3\xA9\xE2\x82\xAC\xF0\x9F\x98\x80bcdef
@@ -156,7 +157,7 @@ fn long_texts_are_cut_between_characters(rt: HostRuntime) {
     let alloc = rt.alloc();
     for row in WITHIN.trim().lines() {
         let (limit, bytes, wanted) = limited(&rt, alloc, row);
-        let found = made(&rt, shown_within(alloc, limit, bytes));
+        let found = made(&rt, escape_controls_within(alloc, limit, bytes));
         compare(&rt, row, found, wanted);
     }
 }
@@ -181,9 +182,9 @@ fn fronts_cut_no_character(rt: HostRuntime) {
     }
 }
 
-/// Adds the bytes as they are shown.
+/// Appends the bytes with control characters escaped.
 fn push_bytes(rt: &impl Abort, text: &mut String, bytes: &[u8]) {
-    push_shown(text, bytes).expect(rt, "memory");
+    push_controls_escaped(text, bytes).expect(rt, "memory");
 }
 
 #[test]

@@ -25,7 +25,7 @@ fn bus_of_two(rt: &impl Abort, alloc: Global, capacity: u16) -> (Tx, Tx, Rx)
     (first, second, rx)
 }
 
-/// Takes an item, which has to be that one.
+/// Takes an item, which must be that one.
 fn expect_item<R: Wait + Abort>(rt: &R, rx: &mut Rx, wanted: Item)
     ensures { rx.new.bus ≡ rx.old.bus }
 {
@@ -33,7 +33,7 @@ fn expect_item<R: Wait + Abort>(rt: &R, rx: &mut Rx, wanted: Item)
     assert!(rt; rx.take(rt) == Ok(wanted));
 }
 
-/// Fails where the event was not delivered.
+/// Fails if the event was not delivered.
 fn is_sent(rt: &impl Abort, sent: Result<(), Undelivered>) {
     holds(rt, "an event that was delivered", sent.is_ok());
 }
@@ -56,7 +56,7 @@ fn salvage_two(rt: &impl Abort, alloc: Global, taken: Taken, first: Tx, second: 
     let _salvaged = salvage(taken, Vec::new(alloc), open);
 }
 
-/// Fails where the closes of another number of workers are still to come.
+/// Fails if the closes of another number of workers are still to come.
 fn left_is(rt: &impl Abort, after: &str, rx: &Rx, wanted: u8)
     ensures { wanted + closes rx.now.taken ≡ rx.now.workers }
 {
@@ -81,7 +81,7 @@ fn bus_by_hand(rt: HostRuntime) {
     settle_one(&rt, alloc, rx, closed);
 }
 
-/// Fails where the event was delivered, or another one came back.
+/// Fails if the event was delivered, or another one came back.
 fn is_refused(rt: &impl Abort, sent: Result<(), Undelivered>, event: Event) {
     holds(
         rt,
@@ -105,7 +105,7 @@ fn receiving_ends_early(rt: HostRuntime) {
     salvage_two(&rt, alloc, taken, first, second);
 }
 
-/// Fails where something could be taken.
+/// Fails if something could be taken.
 fn nothing_is_taken<R: Wait + Abort>(rt: &R, rx: &mut Rx) {
     assert!(rt; rx.open_left() == 1);
     holds(rt, "nothing to take", rx.take(rt) == Err(Lost));
@@ -136,7 +136,8 @@ fn place_of<'a>(rt: &impl Abort, places: &'a mut [u32], worker: u8) -> &'a mut u
     places.get_mut(usize::from(worker)).expect(rt, "a worker")
 }
 
-/// Fails where the event is not the next of its worker, or the close comes before or after that many of them.
+/// Fails if the event is not the next of its worker, or the close comes before or after that many
+/// of them.
 fn note_item(rt: &impl Abort, next: &mut [u32], item: Item, events: u32) {
     match item {
         Item::Event(event) => {
@@ -150,7 +151,8 @@ fn note_item(rt: &impl Abort, next: &mut [u32], item: Item, events: u32) {
     }
 }
 
-/// Takes all items, and sees that each worker's events come in order, that many, and then its close. The number of takes.
+/// Takes all items, and sees that each worker's events come in order, that many, and then its
+/// close. The number of takes.
 fn take_all<R: Wait + Abort>(rt: &R, rx: &mut Rx, events: u32) -> u32 {
     let mut next = [0u32; 8];
     let mut takes = 0u32;
@@ -165,7 +167,8 @@ fn take_all<R: Wait + Abort>(rt: &R, rx: &mut Rx, events: u32) -> u32 {
     takes
 }
 
-/// The number of takes of a bus with a thread for each of its workers, which sends that many events.
+/// The number of takes of a bus with a thread for each of its workers, which sends that many
+/// events.
 fn takes_from_threads<R: Threads + Wait + Abort + Sync>(
     rt: &R,
     alloc: Global,

@@ -26,14 +26,14 @@ fn finish_two(rt: &impl Abort, alloc: Global, claims: Claims, first: Drawer, sec
     let _shared = finish(claims, drawers);
 }
 
-/// Fails where another number was drawn.
-fn is_drawn(rt: &impl Abort, found: Option<u32>, wanted: u32) {
-    holds(rt, "a number", found == Some(wanted));
+/// Fails if another number was drawn.
+fn is_drawn(rt: &impl Abort, actual: Option<u32>, wanted: u32) {
+    holds(rt, "a number", actual == Some(wanted));
 }
 
-/// Fails where a number was drawn.
-fn is_none(rt: &impl Abort, found: Option<u32>) {
-    holds(rt, "no number", found.is_none());
+/// Fails if a number was drawn.
+fn is_none(rt: &impl Abort, actual: Option<u32>) {
+    holds(rt, "no number", actual.is_none());
 }
 
 #[test]

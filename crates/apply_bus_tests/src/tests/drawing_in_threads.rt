@@ -42,7 +42,7 @@ fn meet_three_others(rt: &impl Abort, come: &AtomicU64) {
 }
 
 /// Draws until nothing is left, once all four threads have come.
-fn draw_beside_others(
+fn draw_with_others(
     rt: &impl Abort,
     alloc: Global,
     claims: &Claims,
@@ -72,8 +72,8 @@ fn draw_by_two<R: Threads + Abort + Sync>(
 {
     thread::join(
         rt,
-        || draw_beside_others(rt, alloc, claims, come, first),
-        || draw_beside_others(rt, alloc, claims, come, second),
+        || draw_with_others(rt, alloc, claims, come, first),
+        || draw_with_others(rt, alloc, claims, come, second),
     )
 }
 
@@ -83,7 +83,7 @@ fn count(rt: &impl Abort, number: u32, times: &mut [u8]) {
     *place = place.wrapping_add(1);
 }
 
-/// Fails where the numbers do not rise, and counts each of them.
+/// Fails if the numbers do not rise, and counts each of them.
 fn note(rt: &impl Abort, drawn: &[u32], times: &mut [u8]) {
     let mut least = 0u32;
     for number in drawn {
@@ -93,8 +93,8 @@ fn note(rt: &impl Abort, drawn: &[u32], times: &mut [u8]) {
     }
 }
 
-/// Fails where the numbers of a thread do not rise, or its drawer has not met the end. Counts the numbers, and gives back the
-/// drawer.
+/// Fails if the numbers of a thread do not rise, or its drawer has not met the end. Counts the
+/// numbers, and gives back the drawer.
 fn noted(rt: &impl Abort, drew: Drew, times: &mut [u8]) -> Drawer
     ensures { result ≡ drew.drawer }
 {
@@ -144,7 +144,7 @@ fn finish_four(
     let _shared = finish(claims, drawers.ok().expect(rt, "memory"));
 }
 
-/// Fails where a number was not drawn once.
+/// Fails if a number was not drawn once.
 fn all_once(rt: &impl Abort, times: &[u8]) {
     assert!(rt; times.iter().all(|count| *count == 1));
 }

@@ -1,14 +1,21 @@
-//! What is answered to words that say no settings.
+//! Answers to arguments that state no settings.
 
 use super::*;
 
-/// Fails where the usage has another status, or other texts are printed or said of it.
-fn answer_is(rt: &impl Abort, alloc: Global, usage: Usage, status: u8, printed: &str, said: &str) {
-    let usage = kept(rt, alloc, usage);
+/// Fails if the usage has another status or prints other texts.
+fn answer_is(
+    rt: &impl Abort,
+    alloc: Global,
+    usage: Usage,
+    status: u8,
+    printed: &str,
+    errors: &str,
+) {
+    let usage = leaked(rt, alloc, usage);
     let (mut out, mut faults) = (Vec::new(alloc), Vec::new(alloc));
-    let found = answer_usage(usage, &mut out, &mut faults);
-    let outcome = outcome_of(rt, alloc, found, out, faults);
-    outcome_is(rt, name_of(usage), outcome, status, printed, said);
+    let actual = answer_usage(usage, &mut out, &mut faults);
+    let outcome = outcome_of(rt, alloc, actual, out, faults);
+    outcome_is(rt, name_of(usage), outcome, status, printed, errors);
 }
 
 /// A usage that asks for help, with that text.
@@ -21,23 +28,23 @@ fn words_with(rt: &impl Abort, alloc: Global, text: &str) -> Usage {
     Usage::Words(Text::new(alloc, text).expect(rt, "memory"))
 }
 
-/// Help, words that are refused and what stands beside a parallelism are rows of the built program.
+/// Help, refused arguments and conflicts with a parallelism are tested on the built program.
 #[test]
 fn each_usage_has_its_answer(rt: HostRuntime) {
     let alloc = rt.alloc();
     let line = version_of(&rt, alloc);
     answer_is(&rt, alloc, Usage::Version, 0, line, "");
-    let said = "applystream: out of memory\n";
-    answer_is(&rt, alloc, Usage::Memory, 3, "", said);
+    let errors = "applystream: out of memory\n";
+    answer_is(&rt, alloc, Usage::Memory, 3, "", errors);
 }
 
-/// Fails where the status is another when neither stream takes anything.
+/// Fails if the status differs when neither stream accepts anything.
 fn is_dropped(rt: &impl Abort, alloc: Global, usage: Usage, status: u8) {
-    let usage = kept(rt, alloc, usage);
+    let usage = leaked(rt, alloc, usage);
     let mut printed = unflushed(alloc, 0, ErrorKind::StorageFull);
-    let mut said = unflushed(alloc, 0, ErrorKind::StorageFull);
-    let found = answer_usage(usage, &mut printed, &mut said);
-    status_is(rt, name_of(usage), found, status);
+    let mut errors = unflushed(alloc, 0, ErrorKind::StorageFull);
+    let actual = answer_usage(usage, &mut printed, &mut errors);
+    status_is(rt, name_of(usage), actual, status);
 }
 
 #[test]
@@ -50,26 +57,26 @@ fn an_answer_that_cannot_be_printed_is_dropped(rt: HostRuntime) {
     is_dropped(&rt, alloc, Usage::Memory, 3);
 }
 
-/// Fails where the next byte of the input is another.
+/// Fails if the next byte of the input differs.
 fn reads<R: Read>(rt: &impl Abort, input: &mut R, wanted: u8) {
     let mut bytes = [0u8; 1];
     let read = input.read(&mut bytes).ok().expect(rt, "a read");
     holds(rt, "a byte", read == 1 && bytes[0] == wanted);
 }
 
-/// What is said when the input is read twice, where there is such a text.
-fn said_of_reads(rt: &impl Abort, alloc: Global, text: Option<&'static str>) -> &'static str {
-    let mut said = Vec::new(alloc);
-    let mut input = Awaited::new(b"ab".as_slice(), &mut said, text);
+/// What is printed when the input is read twice, if there is such a text.
+fn errors_of_reads(rt: &impl Abort, alloc: Global, text: Option<&'static str>) -> &'static str {
+    let mut errors = Vec::new(alloc);
+    let mut input = PromptingReader::new(b"ab".as_slice(), &mut errors, text);
     reads(rt, &mut input, b'a');
     reads(rt, &mut input, b'b');
-    kept_bytes(rt, alloc, said)
+    leaked_bytes(rt, alloc, errors)
 }
 
 #[test]
-fn what_is_awaited_is_said_once(rt: HostRuntime) {
+fn what_is_awaited_is_printed_once(rt: HostRuntime) {
     let alloc = rt.alloc();
-    let said = said_of_reads(&rt, alloc, Some("a plan"));
-    text_is(&rt, "a text", said, "applystream: a plan\n");
-    text_is(&rt, "no text", said_of_reads(&rt, alloc, None), "");
+    let errors = errors_of_reads(&rt, alloc, Some("a plan"));
+    text_is(&rt, "a text", errors, "applystream: a plan\n");
+    text_is(&rt, "no text", errors_of_reads(&rt, alloc, None), "");
 }

@@ -1,4 +1,4 @@
-//! Outputs that fail at each byte, and faults that go out in one write.
+//! Outputs that fail at each byte, and errors that go out in one write.
 
 use super::*;
 use std::fmt::Display;
@@ -11,7 +11,7 @@ pub(super) const FAILED_DESTROY: &str =
 pub(super) const FAILED_DESTROY_SCRIPT: &str =
     r#"{"changes":[{"address":"null_resource.a","steps":[{"seconds":0},{"seconds":4,"failed":{"summary":"boom"}}]}]}"#;
 
-/// What is written of both.
+/// The stream of plan and script.
 const FAILED_DESTROY_STREAM: &str =
     r#"{"@level":"info","@message":"Terraform 1.9.0","@module":"terraform.ui","@timestamp":"1970-01-01T00:00:00Z","terraform":"1.9.0","type":"version","ui":"1.0"}
 {"@level":"info","@message":"null_resource.a: Creating...","@module":"terraform.ui","@timestamp":"1970-01-01T00:00:00Z","hook":{"action":"create","resource":{"addr":"null_resource.a","implied_provider":"null","module":"","resource":"null_resource.a","resource_key":null,"resource_name":"a","resource_type":"null_resource"}},"type":"apply_start"}
@@ -22,8 +22,8 @@ const FAILED_DESTROY_STREAM: &str =
 {"@level":"info","@message":"Apply complete! Resources: 1 added, 0 changed, 0 destroyed.","@module":"terraform.ui","@timestamp":"1970-01-01T00:00:04Z","changes":{"add":1,"change":0,"operation":"apply","remove":0},"type":"change_summary"}
 "#;
 
-/// Fails where so many workers write something else than the first bytes of the stream, so many, or the status or what is
-/// said is another.
+/// Fails unless so many workers write just the first `room` bytes of the stream, with this status
+/// and these errors.
 fn fails_so<T: Threads + Wait + Sync + Abort>(
     rt: &T,
     alloc: Global,
@@ -33,19 +33,20 @@ fn fails_so<T: Threads + Wait + Sync + Abort>(
     status: u8,
     text: &str,
 ) {
-    let settings = kept(rt, alloc, with_sizes(alloc, workers, 64));
+    let settings = leaked(rt, alloc, with_sizes(alloc, workers, 64));
     let (plan, script) = (
         FAILED_DESTROY.as_bytes(),
         Some(FAILED_DESTROY_SCRIPT.as_bytes()),
     );
-    let mut said = Vec::new(alloc);
-    let (output, found) = command(rt, alloc, settings, script, plan, output, &mut said);
-    let outcome = outcome_of(rt, alloc, found, output.taken, said);
+    let mut errors = Vec::new(alloc);
+    let (output, actual) = command(rt, alloc, settings, script, plan, output, &mut errors);
+    let outcome = outcome_of(rt, alloc, actual, output.taken, errors);
     let front = front_of(rt, FAILED_DESTROY_STREAM, room);
     outcome_is(rt, front, outcome, status, front, text);
 }
 
-/// Fails where an output with room for so many bytes gets others, or the status or what is said is another.
+/// Fails if an output with room for so many bytes gets others, or if the status or the errors
+/// differ.
 fn takes_so_many<T: Threads + Wait + Sync + Abort>(
     rt: &T,
     alloc: Global,
@@ -61,8 +62,8 @@ fn takes_so_many<T: Threads + Wait + Sync + Abort>(
     }
 }
 
-/// Whatever byte is the first that an output which takes so many with each write does not take: it has all before it and
-/// nothing more.
+/// Whichever byte is the first that the output refuses, it has all bytes before it and nothing
+/// more.
 fn fails_with_each_write<T: Threads + Wait + Sync + Abort>(
     rt: &T,
     alloc: Global,
@@ -74,7 +75,7 @@ fn fails_with_each_write<T: Threads + Wait + Sync + Abort>(
     }
 }
 
-/// The same, by however many it takes: single bytes, few, and whole lines.
+/// Tests each number of bytes for a write: single bytes, few, and whole lines.
 fn fails_at_each_byte<T: Threads + Wait + Sync + Abort>(rt: &T, alloc: Global, workers: u8) {
     fails_with_each_write(rt, alloc, workers, 1);
     fails_with_each_write(rt, alloc, workers, 7);
@@ -91,7 +92,7 @@ fn an_output_fails_under_two_workers(rt: HostRuntime) {
     fails_at_each_byte(&rt, rt.alloc(), 2);
 }
 
-/// Eight threads for each byte take their time, so these are apart.
+/// A test of its own, since eight threads for each byte take their time.
 #[test]
 fn an_output_of_single_bytes_fails_under_eight_workers(rt: HostRuntime) {
     fails_with_each_write(&rt, rt.alloc(), 8, 1);
@@ -107,9 +108,10 @@ fn an_output_of_whole_lines_fails_under_eight_workers(rt: HostRuntime) {
     fails_with_each_write(&rt, rt.alloc(), 8, 4096);
 }
 
-/// An output that takes all is not flushed: that is said, unless its reader is gone.
+/// An output accepts all bytes, but its flush fails: the error is reported, unless the reader is
+/// gone.
 #[test]
-fn a_flush_that_fails_is_said_so(rt: HostRuntime) {
+fn a_flush_that_fails_is_reported(rt: HostRuntime) {
     let (alloc, room) = (rt.alloc(), FAILED_DESTROY_STREAM.len());
     for workers in [1, 2, 8] {
         let output = unflushed(alloc, room, ErrorKind::StorageFull);
@@ -119,7 +121,7 @@ fn a_flush_that_fails_is_said_so(rt: HostRuntime) {
     fails_so(&rt, alloc, 1, output, room, 3, "");
 }
 
-/// Keeps what it is given, and counts the writes.
+/// Stores what is written, and counts the writes.
 #[derive(Drop)]
 struct Counting {
     taken: Vec<u8>,
@@ -138,15 +140,15 @@ impl Write for Counting {
     }
 }
 
-/// Fails where the fault has another text. By how many writes it went out.
+/// Fails if the error has another text. Returns in how many writes it went out.
 fn goes_out<D: Display + Drop>(rt: &impl Abort, alloc: Global, fault: D, wanted: &str) -> u64 {
-    let mut said = Counting {
+    let mut errors = Counting {
         taken: Vec::new(alloc),
         writes: 0,
     };
-    report(&mut said, fault);
-    let (said, writes) = (kept_bytes(rt, alloc, said.taken), said.writes);
-    line_is(rt, wanted, said, wanted, "\n");
+    report(&mut errors, fault);
+    let (errors, writes) = (leaked_bytes(rt, alloc, errors.taken), errors.writes);
+    line_is(rt, wanted, errors, wanted, "\n");
     writes
 }
 
@@ -159,12 +161,12 @@ fn a_fault_goes_out_in_one_write(rt: HostRuntime) {
     holds(&rt, "nothing", goes_out(&rt, alloc, "", "") == 1);
 }
 
-/// A text that is longer than any fault's goes out whole all the same.
+/// A text longer than any error still goes out whole.
 #[test]
 fn a_long_fault_goes_out_whole(rt: HostRuntime) {
     let alloc = rt.alloc();
     let text = "a".repeat(alloc, 260).expect(&rt, "memory");
-    let text = kept_text(&rt, alloc, text);
+    let text = leaked_text(&rt, alloc, text);
     for length in 240..260 {
         let text = front_of(&rt, text, length);
         let _writes = goes_out(&rt, alloc, text, text);

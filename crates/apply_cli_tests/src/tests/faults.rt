@@ -1,4 +1,4 @@
-//! Inputs and outputs that fail, and what is said of it.
+//! Inputs and outputs that fail, and their errors.
 
 use super::*;
 
@@ -6,13 +6,13 @@ use super::*;
 const ONE_CREATE: &str =
     r#"{"format_version":"1.2","terraform_version":"1.9.0","resource_changes":[{"address":"random_pet.animal","mode":"managed","type":"random_pet","name":"animal","change":{"actions":["create"]}}]}"#;
 
-/// What is read of an input, which has to be read.
+/// Reads an input, which must succeed.
 fn read_of_input<R: Read + Drop>(rt: &impl Abort, alloc: Global, input: R) -> &'static [u8] {
     let bytes = read_all(alloc, input).ok().expect(rt, "all bytes");
-    kept(rt, alloc, bytes).as_slice()
+    leaked(rt, alloc, bytes).as_slice()
 }
 
-/// Fails where a reader that fails so, after so many bytes, is read to an end, or another fault is told of it.
+/// Fails unless a reader that fails after so many bytes gives this error.
 fn is_unread(rt: &impl Abort, alloc: Global, before: usize, fault: ErrorKind) {
     let failing = FailingReader {
         bytes: b"ab",
@@ -38,7 +38,8 @@ fn all_of_the_input_is_read(rt: HostRuntime) {
     }
 }
 
-/// Fails where settings with so many workers and such a queue, which no words say, are not refused.
+/// Fails if settings with so many workers and such a queue, which no arguments state, are not
+/// refused.
 fn sizes_are_refused<T: Threads + Wait + Sync + Abort>(
     rt: &T,
     alloc: Global,
@@ -46,7 +47,7 @@ fn sizes_are_refused<T: Threads + Wait + Sync + Abort>(
     workers: u8,
     queue: u16,
 ) {
-    let settings = kept(rt, alloc, with_sizes(alloc, workers, queue));
+    let settings = leaked(rt, alloc, with_sizes(alloc, workers, queue));
     let outcome = run_with(rt, alloc, settings, ONE_CREATE.as_bytes());
     let fault = "the sizes are out of range";
     outcome_fails(rt, case, outcome, 2, fault);
@@ -60,7 +61,7 @@ fn sizes_out_of_range_are_refused(rt: HostRuntime) {
     sizes_are_refused(&rt, alloc, "a queue of 1,025 messages", 1, 1_025);
 }
 
-/// Fails where an input that was not read has another status, or another fault is said of it.
+/// Fails if an input that could not be read has another status, or another error.
 fn input_fails<T: Threads + Wait + Sync + Abort>(
     rt: &T,
     alloc: Global,
@@ -68,10 +69,10 @@ fn input_fails<T: Threads + Wait + Sync + Abort>(
     status: u8,
     fault: &str,
 ) {
-    let settings = kept(rt, alloc, defaults(alloc));
+    let settings = leaked(rt, alloc, defaults(alloc));
     let (registry, output) = (no_hooks(rt, alloc), empty(alloc));
-    let mut said = Vec::new(alloc);
-    let (output, found) = run_input(
+    let mut errors = Vec::new(alloc);
+    let (output, actual) = run_input(
         rt,
         alloc,
         settings,
@@ -80,9 +81,9 @@ fn input_fails<T: Threads + Wait + Sync + Abort>(
         None,
         Err(input),
         output,
-        &mut said,
+        &mut errors,
     );
-    let outcome = outcome_of(rt, alloc, found, output.into_inner(), said);
+    let outcome = outcome_of(rt, alloc, actual, output.into_inner(), errors);
     outcome_fails(rt, fault, outcome, status, fault);
 }
 

@@ -1,4 +1,4 @@
-//! What is done with the words, from the first to the exit status.
+//! The main command, from its arguments to the exit status.
 
 use super::*;
 
@@ -6,8 +6,8 @@ use super::*;
 const REPLACEMENT: &str =
     r#"{"format_version":"1.2","terraform_version":"1.9.0","resource_changes":[{"address":"null_resource.a","mode":"managed","type":"null_resource","name":"a","change":{"actions":["delete","create"],"before":{"id":"41"}}}]}"#;
 
-/// Fails where following the words over this output, with the replacement as the input, has another status, or other texts
-/// are printed or said.
+/// Fails if the command, with these arguments and the replacement as input, has another status or
+/// prints other texts.
 fn follows_so<T: Threads + Wait + Sync + Abort + Files>(
     rt: &T,
     alloc: Global,
@@ -15,13 +15,13 @@ fn follows_so<T: Threads + Wait + Sync + Abort + Files>(
     output: FailingWriter,
     status: u8,
     printed: &str,
-    said: &str,
+    errors: &str,
 ) {
     let words = words_of(rt, alloc, words);
-    let (input, mut found) = (REPLACEMENT.as_bytes(), Vec::new(alloc));
-    let (output, ended) = follow(rt, rt, alloc, words, input, output, &mut found);
-    let outcome = outcome_of(rt, alloc, ended, output.into_inner().taken, found);
-    outcome_is(rt, printed, outcome, status, printed, said);
+    let (input, mut actual) = (REPLACEMENT.as_bytes(), Vec::new(alloc));
+    let (output, ended) = follow(rt, rt, alloc, words, input, output, &mut actual);
+    let outcome = outcome_of(rt, alloc, ended, output.into_inner().taken, actual);
+    outcome_is(rt, printed, outcome, status, printed, errors);
 }
 
 #[test]
@@ -36,29 +36,37 @@ fn the_version_is_printed(rt: HostRuntime) {
     }
 }
 
-/// Follows settings, with the replacement as the input.
+/// Runs the command with settings, and the replacement as input.
 fn invoked<T: Threads + Wait + Sync + Abort + Files>(
     rt: &T,
     alloc: Global,
     settings: &Settings,
 ) -> Outcome {
-    let mut said = Vec::new(alloc);
+    let mut errors = Vec::new(alloc);
     let (input, output) = (REPLACEMENT.as_bytes(), empty(alloc));
     let form = Form::Applystream;
     let (output, status) = follow_invocation(
-        rt, rt, alloc, settings, None, form, input, output, &mut said,
+        rt,
+        rt,
+        alloc,
+        settings,
+        None,
+        form,
+        input,
+        output,
+        &mut errors,
     );
-    outcome_of(rt, alloc, status, output.into_inner(), said)
+    outcome_of(rt, alloc, status, output.into_inner(), errors)
 }
 
-/// Settings that no words say, with a halt more than there may be hooks.
+/// Settings that no arguments state: one halt more than hooks are allowed.
 fn with_33_halts(rt: &impl Abort, alloc: Global) -> &'static Settings {
     let mut settings = defaults(alloc);
     for _ in 0..33 {
         let halt = Halt::Before(StepKind::Read);
         settings.halts.push(halt).expect(rt, "memory");
     }
-    kept(rt, alloc, settings)
+    leaked(rt, alloc, settings)
 }
 
 #[test]

@@ -7,7 +7,7 @@ use apply_cli::{run_command_in_form, run_in_form_and_lanes};
 const PLAN: &str =
     r#"{"format_version":"1.2","terraform_version":"1.11.4","resource_changes":[{"address":"random_pet.animal","mode":"managed","type":"random_pet","name":"animal","change":{"actions":["create"],"after":{"id":"<pet>"}}}],"output_changes":{"pet":{"actions":["create"],"after_unknown":true}}}"#;
 
-/// What is written of it, where it took four seconds.
+/// The stream of the create, which took four seconds.
 const STREAM: &str =
     r#"{"@level":"info","@message":"Terraform 1.11.4","@module":"terraform.ui","@timestamp":"1970-01-01T00:00:00.000000Z","terraform":"1.11.4","type":"version","ui":"1.2"}
 {"@level":"info","@message":"random_pet.animal: Plan to create","@module":"terraform.ui","@timestamp":"1970-01-01T00:00:00.000000Z","change":{"resource":{"addr":"random_pet.animal","module":"","resource":"random_pet.animal","implied_provider":"random","resource_type":"random_pet","resource_name":"animal","resource_key":null},"action":"create"},"type":"planned_change"}
@@ -17,20 +17,20 @@ const STREAM: &str =
 {"@level":"info","@message":"Outputs: 1","@module":"terraform.ui","@timestamp":"1970-01-01T00:00:04.000000Z","outputs":{"pet":{"sensitive":false,"type":"string","value":"a\u0026b"}},"type":"outputs"}
 "#;
 
-/// A script that tells the output, of a create of four seconds.
+/// A script that states the output, for a create of four seconds.
 const SCRIPT: &str =
     r#"{"changes":[{"address":"random_pet.animal","steps":[{"seconds":4}]}],"outputs":{"pet":{"type":"string","value":"a&b"}}}"#;
 
-/// What one worker makes of them in Terraform's form, with that output.
-fn told_by_worker<T: Threads + Wait + Sync + Abort>(
+/// The stream of one worker in Terraform's form, with that output.
+fn streamed_by_worker<T: Threads + Wait + Sync + Abort>(
     rt: &T,
     alloc: Global,
     output: FailingWriter,
 ) -> Outcome {
-    let settings = kept(rt, alloc, defaults(alloc));
+    let settings = leaked(rt, alloc, defaults(alloc));
     let (registry, sink) = (no_hooks(rt, alloc), StdSink::new(output));
     let (input, script) = (PLAN.as_bytes(), Some(SCRIPT.as_bytes()));
-    let mut said = Vec::new(alloc);
+    let mut errors = Vec::new(alloc);
     let (sink, status) = run_command_in_form(
         rt,
         alloc,
@@ -40,17 +40,17 @@ fn told_by_worker<T: Threads + Wait + Sync + Abort>(
         script,
         input,
         sink,
-        &mut said,
+        &mut errors,
     );
-    outcome_of(rt, alloc, status, sink.into_inner().taken, said)
+    outcome_of(rt, alloc, status, sink.into_inner().taken, errors)
 }
 
-/// What two lanes make of them.
-fn told_in_lanes(rt: &impl Abort, alloc: Global, output: FailingWriter) -> Outcome {
-    let settings = kept(rt, alloc, defaults(alloc));
+/// The stream of two lanes.
+fn streamed_in_lanes(rt: &impl Abort, alloc: Global, output: FailingWriter) -> Outcome {
+    let settings = leaked(rt, alloc, defaults(alloc));
     let (registry, sink) = (no_hooks(rt, alloc), StdSink::new(output));
     let (input, script) = (PLAN.as_bytes(), Some(SCRIPT.as_bytes()));
-    let mut said = Vec::new(alloc);
+    let mut errors = Vec::new(alloc);
     let (sink, status) = run_in_form_and_lanes(
         alloc,
         settings,
@@ -60,19 +60,19 @@ fn told_in_lanes(rt: &impl Abort, alloc: Global, output: FailingWriter) -> Outco
         script,
         input,
         sink,
-        &mut said,
+        &mut errors,
     );
-    outcome_of(rt, alloc, status, sink.into_inner().taken, said)
+    outcome_of(rt, alloc, status, sink.into_inner().taken, errors)
 }
 
-/// Fails where an output with so little room gets no front of the stream, or the status is not 3.
+/// Fails unless an output with so little room gets a prefix of the stream, and the status is 3.
 fn front_is<T: Threads + Wait + Sync + Abort>(rt: &T, alloc: Global, room: usize) {
     let front = front_of(rt, STREAM, room);
     let output = with_room(alloc, 7, room);
-    let outcome = told_by_worker(rt, alloc, output);
+    let outcome = streamed_by_worker(rt, alloc, output);
     outcome_is(rt, "a worker", outcome, 3, front, UNWRITTEN);
     let output = unflushed(alloc, room, ErrorKind::BrokenPipe);
-    let outcome = told_in_lanes(rt, alloc, output);
+    let outcome = streamed_in_lanes(rt, alloc, output);
     outcome_is(rt, "two lanes", outcome, 3, front, "");
 }
 

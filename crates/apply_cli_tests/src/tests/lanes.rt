@@ -1,4 +1,4 @@
-//! Runs with so many changes under way at once in the stream's own time.
+//! Runs in lanes.
 
 use super::*;
 use apply_cli::run_in_lanes;
@@ -7,11 +7,11 @@ use apply_cli::run_in_lanes;
 const CREATES: &str =
     r#"{"format_version":"1.2","terraform_version":"1.9.0","resource_changes":[{"address":"null_resource.a","mode":"managed","type":"null_resource","name":"a","change":{"actions":["create"]}},{"address":"null_resource.b","mode":"managed","type":"null_resource","name":"b","change":{"actions":["create"]}}]}"#;
 
-/// The first one takes longer, and fails.
+/// A script: the first create takes longer, and fails.
 const SCRIPT: &str =
     r#"{"changes":[{"address":"null_resource.a","steps":[{"seconds":4,"failed":{"summary":"boom"}}]},{"address":"null_resource.b","steps":[{"seconds":2,"id":"7"}]}]}"#;
 
-/// What is written of both, where both are under way at once.
+/// The stream of both, which run at once.
 const STREAM: &str =
     r#"{"@level":"info","@message":"Terraform 1.9.0","@module":"terraform.ui","@timestamp":"1970-01-01T00:00:00Z","terraform":"1.9.0","type":"version","ui":"1.0"}
 {"@level":"info","@message":"null_resource.a: Creating...","@module":"terraform.ui","@timestamp":"1970-01-01T00:00:00Z","hook":{"action":"create","resource":{"addr":"null_resource.a","implied_provider":"null","module":"","resource":"null_resource.a","resource_key":null,"resource_name":"a","resource_type":"null_resource"}},"type":"apply_start"}
@@ -22,7 +22,7 @@ const STREAM: &str =
 {"@level":"info","@message":"Apply complete! Resources: 1 added, 0 changed, 0 destroyed.","@module":"terraform.ui","@timestamp":"1970-01-01T00:00:04Z","changes":{"add":1,"change":0,"operation":"apply","remove":0},"type":"change_summary"}
 "#;
 
-/// Runs an input in so many lanes into an output, with a place for faults.
+/// Runs an input in so many lanes, with this output and these errors.
 fn run_at_once<R: Read + Drop, W: Write + Drop>(
     rt: &impl Abort,
     alloc: Global,
@@ -30,12 +30,14 @@ fn run_at_once<R: Read + Drop, W: Write + Drop>(
     script: &str,
     input: R,
     output: W,
-    said: &mut Vec<u8>,
+    errors: &mut Vec<u8>,
 ) -> (W, u8) {
-    let settings = kept(rt, alloc, defaults(alloc));
+    let settings = leaked(rt, alloc, defaults(alloc));
     let (registry, sink) = (no_hooks(rt, alloc), StdSink::new(output));
     let script = script_bytes(script);
-    let (sink, status) = run_in_lanes(alloc, settings, lanes, registry, script, input, sink, said);
+    let (sink, status) = run_in_lanes(
+        alloc, settings, lanes, registry, script, input, sink, errors,
+    );
     (sink.into_inner(), status)
 }
 
@@ -47,19 +49,19 @@ pub(super) fn run_lanes<R: Read + Drop>(
     script: &str,
     input: R,
 ) -> Outcome {
-    let mut said = Vec::new(alloc);
+    let mut errors = Vec::new(alloc);
     let output = Vec::new(alloc);
-    let (printed, status) = run_at_once(rt, alloc, lanes, script, input, output, &mut said);
-    outcome_of(rt, alloc, status, printed, said)
+    let (printed, status) = run_at_once(rt, alloc, lanes, script, input, output, &mut errors);
+    outcome_of(rt, alloc, status, printed, errors)
 }
 
-/// Fails where so many lanes do not refuse the texts with this fault.
+/// Fails if so many lanes do not refuse the texts with this error.
 fn is_refused(rt: &impl Abort, alloc: Global, lanes: u8, plan: &str, script: &str, fault: &str) {
     let outcome = run_lanes(rt, alloc, lanes, script, plan.as_bytes());
     outcome_fails(rt, fault, outcome, 2, fault);
 }
 
-/// Numbers of lanes that are out of range are looked at last.
+/// The number of lanes is checked last.
 fn lanes_are_looked_at_last(rt: &impl Abort, alloc: Global, lanes: u8) {
     let sizes = "the sizes are out of range";
     let plan = CREATES;
@@ -68,7 +70,7 @@ fn lanes_are_looked_at_last(rt: &impl Abort, alloc: Global, lanes: u8) {
     is_refused(rt, alloc, lanes, "", "{", "the plan is not JSON");
 }
 
-/// The plan is looked at before the script, and both before the lanes.
+/// The plan is checked before the script, and both before the lanes.
 #[test]
 fn what_is_refused_in_lanes_is_refused_in_its_order(rt: HostRuntime) {
     let alloc = rt.alloc();
@@ -79,22 +81,23 @@ fn what_is_refused_in_lanes_is_refused_in_its_order(rt: HostRuntime) {
 
 /// Runs both creates at once into an output that fails.
 fn run_to_failure(rt: &impl Abort, alloc: Global, output: FailingWriter) -> Outcome {
-    let mut said = Vec::new(alloc);
+    let mut errors = Vec::new(alloc);
     let input = CREATES.as_bytes();
-    let (output, status) = run_at_once(rt, alloc, 2, SCRIPT, input, output, &mut said);
-    outcome_of(rt, alloc, status, output.taken, said)
+    let (output, status) = run_at_once(rt, alloc, 2, SCRIPT, input, output, &mut errors);
+    outcome_of(rt, alloc, status, output.taken, errors)
 }
 
-/// Fails where an output with so little room gets no front of the stream, or the status is not 3.
+/// Fails unless an output with so little room gets a prefix of the stream, and the status is 3.
 fn front_is(rt: &impl Abort, alloc: Global, room: usize) {
     let outcome = run_to_failure(rt, alloc, with_room(alloc, 7, room));
     let front = front_of(rt, STREAM, room);
     outcome_is(rt, "a front", outcome, 3, front, UNWRITTEN);
 }
 
-/// Whatever the output does not take first, among places of each line: it has all before it and nothing more.
+/// Whichever byte is the first that the output refuses, it has all bytes before it and nothing
+/// more. Some places of each line are tested.
 #[test]
-fn an_output_that_fails_in_lanes_is_said_so(rt: HostRuntime) {
+fn an_output_that_fails_in_lanes_is_reported(rt: HostRuntime) {
     let (alloc, stream) = (rt.alloc(), STREAM);
     let whole = stream.len();
     for room in (0..whole).step_by(61) {

@@ -1,16 +1,18 @@
-//! What is left of an input whose plan was refused: it is read to its end and dropped, behind what is said.
+//! The rest of an input whose plan was refused: it is read to its end and dropped, after the error
+//! was reported.
 
 use super::lanes::run_lanes;
 use super::*;
-use apply_cli::drop_rest;
+use apply_cli::drain;
 
 /// The most bytes that a plan may have.
 const MOST: usize = 67_108_864;
 
-/// How many stand behind them here: much more than a pipe holds.
+/// How many bytes follow them here: much more than a pipe holds.
 const BEHIND: usize = 1_048_576;
 
-/// Gives blanks, and counts what is left of them and how often its end was met. One read fails, where just so many are left.
+/// Gives blanks, and counts how many are left and how often the end was met. One read fails, when
+/// just so many are left.
 #[derive(Drop)]
 struct Blanks {
     left: usize,
@@ -50,16 +52,17 @@ fn failing(count: usize, fails_at: Option<usize>, fault: ErrorKind) -> Blanks {
     }
 }
 
-/// Fails where others are left than so many, or the end was not met so often.
+/// Fails if another number is left, or the end was met another number of times.
 fn left_are(rt: &impl Abort, case: &str, input: &Blanks, left: usize, ends: usize) {
     number_is(rt, case, input.left, left);
     number_is(rt, case, input.ends, ends);
 }
 
-/// What is said of a plan that is too large.
+/// The error of a plan that is too large.
 const TOO_LARGE: &str = "the plan is larger than 67108864 bytes";
 
-/// Fails where a worker does not refuse the blanks with this fault, or others are left, or the end was not met so often.
+/// Fails unless one worker refuses the blanks with this error, so many are left, and the end was
+/// met so often.
 fn blanks_fail<T: Threads + Wait + Sync + Abort>(
     rt: &T,
     alloc: Global,
@@ -102,7 +105,7 @@ fn the_rest_is_read_where_a_read_of_the_plan_failed(rt: HostRuntime) {
     blanks_fail(&rt, rt.alloc(), input, fault, 0, 1);
 }
 
-/// A terminal would have to say its end twice.
+/// The end is met once: a person at a terminal would have to signal it twice.
 #[test]
 fn a_plan_that_was_read_whole_is_not_read_on(rt: HostRuntime) {
     let fault = "the plan is not JSON";
@@ -112,10 +115,10 @@ fn a_plan_that_was_read_whole_is_not_read_on(rt: HostRuntime) {
 #[test]
 fn a_rest_is_dropped(rt: HostRuntime) {
     let mut input = all_of(BEHIND);
-    holds(&rt, "a rest", drop_rest(&mut input));
+    holds(&rt, "a rest", drain(&mut input));
     left_are(&rt, "a rest", &input, 0, 1);
-    holds(&rt, "no rest", drop_rest(&mut input));
+    holds(&rt, "no rest", drain(&mut input));
     let mut input = failing(BEHIND, Some(BEHIND), ErrorKind::WouldBlock);
-    holds(&rt, "a rest that would wait", !drop_rest(&mut input));
+    holds(&rt, "a rest that would wait", !drain(&mut input));
     left_are(&rt, "a rest that would wait", &input, BEHIND, 0);
 }

@@ -1,8 +1,8 @@
-//! Which words say which settings, which form, and how many changes at once.
+//! Which arguments state which settings, which form, and how many changes run at once.
 
 use super::*;
 
-/// Words, and the settings that they say, or what is answered to them.
+/// Arguments, and the settings that they state, or the answer to them.
 const SETTINGS: &str =
     r#" => Settings { at: Start { seconds: 0 }, script: None, workers: 1, queue: 64, operation: Apply, halts: [] }
 --workers 1 => Settings { at: Start { seconds: 0 }, script: None, workers: 1, queue: 64, operation: Apply, halts: [] }
@@ -67,7 +67,7 @@ plan.json => Words
 --help --workers 9 => Help
 --workers 9 --help => Words"#;
 
-/// Words, and the form that they say.
+/// Arguments, and the form that they state.
 const FORMS: &str = " => Applystream
 --form applystream => Applystream
 --form terraform => Terraform
@@ -86,7 +86,7 @@ const FORMS: &str = " => Applystream
 --form terraform --version => Version
 --help --form x => Help";
 
-/// Words, and how many changes at once they ask for.
+/// Arguments, and how many changes at once they ask for.
 const LANES: &str = " => None
 --parallelism 1 => Some(1)
 --parallelism 10 => Some(10)
@@ -112,7 +112,7 @@ const LANES: &str = " => None
 -V --parallelism 2 => Version
 --help => Help";
 
-/// Words of a parallelism or a form, and what they are answered by the options without them.
+/// Arguments with a parallelism or a form, and the answer of the options without them.
 const OTHERS: &str = "--parallelism 2 => Words
 --parallelism 2 --workers 2 => Words
 --parallelism=x --at x => Words
@@ -122,33 +122,33 @@ const OTHERS: &str = "--parallelism 2 => Words
 --form x --at x => Words
 -h --form terraform => Help";
 
-/// What the words are answered: what they say of that, or the fault.
+/// The answer to the arguments: what they state for `what`, or the error.
 fn answer_to(rt: &impl Abort, alloc: Global, what: &str, text: &str) -> &'static str {
     match read_of(rt, alloc, text) {
-        Ok(invocation) => said_of(rt, alloc, what, invocation),
+        Ok(invocation) => stated_by(rt, alloc, what, invocation),
         Err(usage) => fault_of(rt, alloc, usage),
     }
 }
 
-/// What words say of that.
-fn said_of(rt: &impl Abort, alloc: Global, what: &str, said: &Invocation) -> &'static str {
+/// What the invocation states for `what`.
+fn stated_by(rt: &impl Abort, alloc: Global, what: &str, invocation: &Invocation) -> &'static str {
     match what {
-        "form" => shown(rt, alloc, &said.form),
-        "lanes" => shown(rt, alloc, &said.parallelism),
-        _ => shown(rt, alloc, &said.settings),
+        "form" => shown(rt, alloc, &invocation.form),
+        "lanes" => shown(rt, alloc, &invocation.parallelism),
+        _ => shown(rt, alloc, &invocation.settings),
     }
 }
 
-/// What they are answered by the options without a parallelism and a form.
+/// The answer of the options without a parallelism and a form.
 fn settings_answer_to(rt: &impl Abort, alloc: Global, text: &str) -> &'static str {
     let words = words_of(rt, alloc, text);
-    match kept(rt, alloc, read_words(alloc, words)) {
+    match leaked(rt, alloc, read_words(alloc, words)) {
         Ok(settings) => shown(rt, alloc, settings),
         Err(usage) => fault_of(rt, alloc, usage),
     }
 }
 
-/// The fault of a moment, or the name of any other usage.
+/// The error of a timestamp, or the name of any other usage.
 fn fault_of(rt: &impl Abort, alloc: Global, usage: &Usage) -> &'static str {
     match usage {
         Usage::Moment(error) => shown(rt, alloc, error),
@@ -156,8 +156,8 @@ fn fault_of(rt: &impl Abort, alloc: Global, usage: &Usage) -> &'static str {
     }
 }
 
-/// Fails where words are answered otherwise. Those of which nothing but settings is asked are given to the options without a
-/// parallelism and a form too, and others to these alone.
+/// Fails if arguments are answered otherwise. Arguments that only state settings are also given to
+/// the options without a parallelism and a form.
 fn row_is_answered(rt: &impl Abort, alloc: Global, what: &str, row: &str) {
     let (words, wanted) = parted(rt, row, " => ");
     if what != "others" {
@@ -168,30 +168,30 @@ fn row_is_answered(rt: &impl Abort, alloc: Global, what: &str, row: &str) {
     }
 }
 
-/// The same of each row.
-fn words_say(rt: &impl Abort, alloc: Global, what: &str, table: &str) {
+/// Tests each row.
+fn words_state(rt: &impl Abort, alloc: Global, what: &str, table: &str) {
     for row in table.lines() {
         row_is_answered(rt, alloc, what, row);
     }
 }
 
 #[test]
-fn words_say_settings(rt: HostRuntime) {
-    words_say(&rt, rt.alloc(), "settings", SETTINGS);
-    words_say(&rt, rt.alloc(), "form", FORMS);
-    words_say(&rt, rt.alloc(), "lanes", LANES);
-    words_say(&rt, rt.alloc(), "others", OTHERS);
+fn words_state_settings(rt: HostRuntime) {
+    words_state(&rt, rt.alloc(), "settings", SETTINGS);
+    words_state(&rt, rt.alloc(), "form", FORMS);
+    words_state(&rt, rt.alloc(), "lanes", LANES);
+    words_state(&rt, rt.alloc(), "others", OTHERS);
 }
 
-/// Fails where the option takes another number than a run.
+/// Fails if the option and a run accept different numbers.
 fn number_is_taken(rt: &impl Abort, alloc: Global, option: &str, number: u16, in_range: bool) {
     let words = format!(in alloc; "{option} {number}").expect(rt, "memory");
-    let words = kept_text(rt, alloc, words);
+    let words = leaked_text(rt, alloc, words);
     let taken = read_of(rt, alloc, words).is_ok();
     holds(rt, words, taken == in_range);
 }
 
-/// Whether a run takes so many workers and such a queue.
+/// Whether a run accepts so many workers and such a queue.
 fn is_size(workers: u8, capacity: u16) -> bool {
     let options = Options {
         workers,
@@ -202,7 +202,7 @@ fn is_size(workers: u8, capacity: u16) -> bool {
     options.in_range()
 }
 
-/// The parser's bounds are numbers of their own: they are those of a run.
+/// The parser's bounds are written separately; they must be those of a run.
 #[test]
 fn options_take_the_numbers_that_a_run_takes(rt: HostRuntime) {
     let alloc = rt.alloc();
@@ -222,7 +222,7 @@ fn options_take_the_numbers_that_a_run_takes(rt: HostRuntime) {
 
 /// The words, so many times.
 fn repeated(rt: &impl Abort, alloc: Global, words: &str, count: usize) -> &'static str {
-    kept_text(rt, alloc, words.repeat(alloc, count).expect(rt, "memory"))
+    leaked_text(rt, alloc, words.repeat(alloc, count).expect(rt, "memory"))
 }
 
 /// Words for so many halts before deletes, and so many inside `a`.
@@ -230,16 +230,16 @@ fn halts_of(rt: &impl Abort, alloc: Global, before: usize, inside: usize) -> &'s
     let inside = repeated(rt, alloc, "--halt-in a ", inside);
     let before = repeated(rt, alloc, "--halt-before delete ", before);
     let words = format!(in alloc; "{inside}{before}");
-    kept_text(rt, alloc, words.expect(rt, "memory"))
+    leaked_text(rt, alloc, words.expect(rt, "memory"))
 }
 
-/// Fails where words for so many halts are answered otherwise.
+/// Fails if words for so many halts are answered otherwise.
 fn halts_are_answered(rt: &impl Abort, alloc: Global, before: usize, inside: usize, wanted: &str) {
     let words = halts_of(rt, alloc, before, inside);
-    let found = answer_to(rt, alloc, "settings", words);
-    holds(rt, words, found.starts_with(wanted));
-    let found = settings_answer_to(rt, alloc, words);
-    holds(rt, words, found.starts_with(wanted));
+    let actual = answer_to(rt, alloc, "settings", words);
+    holds(rt, words, actual.starts_with(wanted));
+    let actual = settings_answer_to(rt, alloc, words);
+    holds(rt, words, actual.starts_with(wanted));
 }
 
 #[test]

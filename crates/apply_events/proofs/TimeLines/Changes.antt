@@ -1,4 +1,4 @@
--- The events of changes one after another: each names the lane, and no moment falls.
+-- The events of changes one after another. Each names the lane, and the seconds never fall.
 use Rattle.std.proofs.Common.{◌≡◌, ℕ, ◌+◌, ◌≤◌, All, List, [], ◌∷◌, ◌++◌, cond, map, Option, Some, None, refl, arith}
 use Rattle.std.specs.Prelude.{is_some, option_map, option_to_list}
 use Rattle.std.proofs.lemmas.List.Elements.{All-append, All-cons, All-head, All-nil, All-tail}
@@ -9,9 +9,9 @@ use Rattle.apply_events.specs.declared.what.What.{What}
 use Rattle.apply_events.specs.declared.what.What.TheVariants.{Halted, Start}
 use Rattle.apply_events.specs.ChangeEvents.{begun, change_events, in_turn, span_of}
 use Rattle.apply_events.specs.Step.{Step, Work, steps_of}
-use Rattle.apply_events.specs.StepEvents.{between, endings, event, halts, phase_after, seconds_of, started, step_events, step_time}
+use Rattle.apply_events.specs.StepEvents.{between, endings, event, halts, phase_after, seconds_of, start_events, step_events, step_time}
 use Rattle.apply_events.proofs.Rising as rising
-use Rattle.apply_events.proofs.Moments.{change_rises, moment_of}
+use Rattle.apply_events.proofs.Moments.{change_rises, lane_time_of}
 use Rattle.apply_events.specs.Lanes.Runs.{Runs}
 use Rattle.apply_events.proofs.TimeLines.Merge.{Rises, rises_lower}
 
@@ -22,11 +22,11 @@ names_map : {X : Type 0} (w : ℕ) (g : X → Event) (xs : List X) → ((x : X) 
 names_map w g [] h = All-nil (Names w)
 names_map w g (x ∷ xs) h = All-cons (Names w) (g x) (map g xs) (h x) (names_map w g xs h)
 
-names_halts : (w : ℕ) (s : Step) (phase : Phase) (at : ℕ) (found : Option ℕ) → All (Names w) (option_to_list (option_map (λ hook. event w s at (Halted phase hook)) found))
+names_halts : (w : ℕ) (s : Step) (phase : Phase) (at : ℕ) (answer : Option ℕ) → All (Names w) (option_to_list (option_map (λ hook. event w s at (Halted phase hook)) answer))
 names_halts w s phase at None = All-nil (Names w)
 names_halts w s phase at (Some hook) = All-cons (Names w) (event w s at (Halted phase hook)) [] refl (All-nil (Names w))
 
-names_started : (w : ℕ) (s : Step) (at : ℕ) → All (Names w) (started w s at)
+names_started : (w : ℕ) (s : Step) (at : ℕ) → All (Names w) (start_events w s at)
 names_started w s at =
     let progress = map (λ (p : ℕ × What). event w s (at + p.0) p.1) (between s) in
     let ends = map (λ what. event w s (at + (seconds_of s)) what) (endings s) in
@@ -41,7 +41,7 @@ names_started w s at =
 names_step : (w : ℕ) (s : Step) (at : ℕ) → All (Names w) (step_events w s at)
 names_step w s at = names_step_at w s at (s.halts Pre)
   where
-    names_step_at : (w : ℕ) (s : Step) (at : ℕ) (found : Option ℕ) → All (Names w) (cond (is_some found) (option_to_list (option_map (λ hook. event w s at (Halted Pre hook)) found)) (started w s at))
+    names_step_at : (w : ℕ) (s : Step) (at : ℕ) (answer : Option ℕ) → All (Names w) (cond (is_some answer) (option_to_list (option_map (λ hook. event w s at (Halted Pre hook)) answer)) (start_events w s at))
     names_step_at w s at None = names_started w s at
     names_step_at w s at (Some hook) = names_halts w s Pre at (Some hook)
 
@@ -52,7 +52,7 @@ names_turn w events time (x ∷ xs) at h = All-append (Names w) (events x at) (i
 names_change : (work : Work) (w c at : ℕ) → All (Names w) (change_events work w c at)
 names_change work w c at = names_turn w (step_events w) step_time (begun (steps_of work c)) at (names_step w)
 
-runs_from : (w low high : ℕ) (es : List Event) → rising.Rises moment_of low high es → All (Names w) es → Runs w low high es
+runs_from : (w low high : ℕ) (es : List Event) → rising.Rises lane_time_of low high es → All (Names w) es → Runs w low high es
 runs_from w low high [] h named = h
 runs_from w low high (e ∷ es) h named = (All-head (Names w) e es named, h.0, runs_from w e.at high es h.1 (All-tail (Names w) e es named))
 

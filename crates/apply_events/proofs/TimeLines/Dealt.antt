@@ -4,7 +4,7 @@ use Rattle.std.proofs.lemmas.Bool.{le-leb, lt-leb, and_from, and_left, and_right
 use Rattle.std.proofs.lemmas.List.{length-map, length-set}
 use Rattle.std.specs.List.{list_all}
 use Rattle.apply_events.specs.Step.{Work}
-use Rattle.apply_events.specs.Lanes.Dealing.{dealt, first_least, kept}
+use Rattle.apply_events.specs.Lanes.Dealing.{dealt, first_least, occupied}
 
 all_no_less : (x : ℕ) (xs : List ℕ) → ((k : ℕ) → k < length xs → x ≤ get_or xs k 0) → list_all (leb x) xs ≡ true
 all_no_less x [] h = refl
@@ -26,6 +26,6 @@ least_is (x ∷ xs) (suc w) lt low first =
 pub length_dealt : (work : Work) (free : List ℕ) (changes : List ℕ) → length (dealt work free changes) ≡ length free
 length_dealt work free [] = length-map free (λ at. [])
 length_dealt work free (c ∷ changes) =
-    length-set (dealt work (kept work c free) changes) (first_least free) (c ∷ get_or (dealt work (kept work c free) changes) (first_least free) [])
-    ∙ length_dealt work (kept work c free) changes
+    length-set (dealt work (occupied work c free) changes) (first_least free) (c ∷ get_or (dealt work (occupied work c free) changes) (first_least free) [])
+    ∙ length_dealt work (occupied work c free) changes
     ∙ length-set free (first_least free) _

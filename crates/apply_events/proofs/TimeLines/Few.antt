@@ -19,7 +19,7 @@ use Rattle.apply_events.specs.declared.what.What.{What}
 use Rattle.apply_events.specs.declared.what.What.TheVariants.{Halted, Start, WarnNote}
 use Rattle.apply_events.specs.ChangeEvents.{begun, change_events, in_turn}
 use Rattle.apply_events.specs.Step.{Step, Work, kinds_applied, kinds_of, step_of}
-use Rattle.apply_events.specs.StepEvents.{between, end_of, endings, event, goes_on, halts, notes, phase_after, seconds_of, started, step_events, step_time, tells_end}
+use Rattle.apply_events.specs.StepEvents.{between, end_of, endings, event, goes_on, halts, notes, phase_after, seconds_of, start_events, step_events, step_time, emits_end}
 use Rattle.apply_events.proofs.AppliedSteps.{few_applied}
 use Rattle.apply_events.proofs.MidSteps.{ran_all, ran_few, took_short}
 use Rattle.apply_events.proofs.Provisions.{few_along}
@@ -31,14 +31,14 @@ few_notes true warns = omega arith
 few_notes false true = omega arith
 few_notes false false = omega arith
 
-few_found : (w : ℕ) (s : Step) (phase : Phase) (at : ℕ) (found : Option ℕ) → length (option_to_list (option_map (λ hook. event w s at (Halted phase hook)) found)) ≤ 1
-few_found w s phase at None = omega arith
-few_found w s phase at (Some hook) = omega arith
+few_answers : (w : ℕ) (s : Step) (phase : Phase) (at : ℕ) (answer : Option ℕ) → length (option_to_list (option_map (λ hook. event w s at (Halted phase hook)) answer)) ≤ 1
+few_answers w s phase at None = omega arith
+few_answers w s phase at (Some hook) = omega arith
 
 few_endings : (s : Step) → length (endings s) ≤ 2
 few_endings s =
     let note : length (notes s.fails s.warns) ≤ 1 = few_notes s.fails s.warns in
-    elim (tells_end s.fails s.only_warns) as (λ b. length (cond b (end_of s.fails (seconds_of s) ∷ notes s.fails s.warns) (WarnNote ∷ [])) ≤ 2) [ true ↦ omega arith | false ↦ omega arith ]
+    elim (emits_end s.fails s.only_warns) as (λ b. length (cond b (end_of s.fails (seconds_of s) ∷ notes s.fails s.warns) (WarnNote ∷ [])) ≤ 2) [ true ↦ omega arith | false ↦ omega arith ]
 
 -- a start, what lies between, and what comes at the end
 few_joined : (e : Event) (progress ends halt : List Event) → length progress ≤ 9455 → length ends ≤ 2 → length halt ≤ 1 → length (e ∷ (progress ++ ends ++ halt)) ≤ 9459
@@ -53,20 +53,20 @@ pub record IsSmall (s : Step) : Type 0 where
   pub few : length s.ran ≤ 8
   pub little : All (λ p. length p.output ≤ 100) s.ran
 
-few_started : (w : ℕ) (s : Step) (at : ℕ) → IsSmall s → length (started w s at) ≤ 9459
+few_started : (w : ℕ) (s : Step) (at : ℕ) → IsSmall s → length (start_events w s at) ≤ 9459
 few_started w s at small =
     let beat : ℕ × What → Event = (λ p. event w s (at + p.0) p.1) in
-    let tell : What → Event = (λ what. event w s (at + seconds_of s) what) in
+    let emit : What → Event = (λ what. event w s (at + seconds_of s) what) in
     let inside : length (between s) ≤ 9455 = few_along (seconds_of s) s.seconds_before s.ran small.little small.few (omega arith) small.short in
     let same : length (map beat (between s)) ≡ length (between s) = length-map (between s) beat in
-    let last : length (map tell (endings s)) ≡ length (endings s) = length-map (endings s) tell in
+    let last : length (map emit (endings s)) ≡ length (endings s) = length-map (endings s) emit in
     let two : length (endings s) ≤ 2 = few_endings s in
-    few_joined (event w s at Start) (map beat (between s)) (map tell (endings s)) (halts w s (phase_after s.fails) (at + seconds_of s))
-    (omega arith) (omega arith) (few_found w s (phase_after s.fails) (at + seconds_of s) (s.halts (phase_after s.fails)))
+    few_joined (event w s at Start) (map beat (between s)) (map emit (endings s)) (halts w s (phase_after s.fails) (at + seconds_of s))
+    (omega arith) (omega arith) (few_answers w s (phase_after s.fails) (at + seconds_of s) (s.halts (phase_after s.fails)))
 
-pub few_step : (w : ℕ) (s : Step) (at : ℕ) (found : Option ℕ) → IsSmall s → length (cond (is_some found) (option_to_list (option_map (λ hook. event w s at (Halted Pre hook)) found)) (started w s at)) ≤ 9459
+pub few_step : (w : ℕ) (s : Step) (at : ℕ) (answer : Option ℕ) → IsSmall s → length (cond (is_some answer) (option_to_list (option_map (λ hook. event w s at (Halted Pre hook)) answer)) (start_events w s at)) ≤ 9459
 few_step w s at None short = few_started w s at short
-few_step w s at (Some hook) short = let one = few_found w s Pre at (Some hook) in omega arith
+few_step w s at (Some hook) short = let one = few_answers w s Pre at (Some hook) in omega arith
 
 -- ---- a change
 
@@ -96,10 +96,10 @@ few_steps work w c n (kind ∷ kinds) at few short =
 
 -- the steps of a change that the plan has
 pub few_kinds : (plan : SavedPlan) (c : ℕ) (change : ResourceChange) → Some change ≡ slice_get plan.changes c → length change.steps ≤ 2 → length (kinds_of plan c) ≤ 2
-few_kinds plan c change is few = subst (λ found. length (option_map_or (λ (change : ResourceChange). change.steps) found []) ≤ 2) is few
+few_kinds plan c change is few = subst (λ answer. length (option_map_or (λ (change : ResourceChange). change.steps) answer []) ≤ 2) is few
 
--- each outcome is within the limits, also where nothing is said
-pub bounded : (found : Option Outcome) → IfSome found IsBounded → IsBounded (unwrap_or found default_outcome)
+-- each outcome is within the limits, a default one too
+pub bounded : (answer : Option Outcome) → IfSome answer IsBounded → IsBounded (unwrap_or answer default_outcome)
 bounded None within = record { short = omega arith; few_provisioners = omega arith; little_output = All-nil (λ (p : Provisioner). length p.output ≤ 100); few_waits = omega arith }
 bounded (Some outcome) within = within
 
@@ -113,6 +113,6 @@ few_events work w c at few first second =
     short_at (suc zero) lt = second
     short_at (suc (suc k)) lt = absurd (omega arith)
 
-pub if_some_any : {X P : Type 0} (found : Option X) → P → IfSome found (λ _. P)
+pub if_some_any : {X P : Type 0} (answer : Option X) → P → IfSome answer (λ _. P)
 if_some_any None h = tt
 if_some_any (Some x) h = h

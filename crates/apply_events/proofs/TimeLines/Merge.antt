@@ -1,4 +1,5 @@
--- Sorting the joined lists of lanes gives an interleaving of them in order, if no moment falls along any.
+-- Sorting the joined lists of lanes gives an ordered interleaving of them, if the seconds of no
+-- list fall.
 use Rattle.std.proofs.Common.{◌≡◌, ◌≢◌, ℕ, zero, suc, ◌+◌, ◌<◌, ◌≤◌, Bool, true, false, List, [], ◌∷◌, ◌++◌, All, cond, sym, refl, ap, ◌∙◌, subst, ⊎_elim, ◌⊎◌, inl, inr, lt_of_not-le, arith, eq-eqb, ne_eqb, lt-ltb, le-ltb, leb, eqb, ◌&&◌, ◌||◌}
 use Rattle.std.proofs.lemmas.Bool.Decides.{eqb_tells}
 use Rattle.std.proofs.lemmas.Bool.{cases_lt, cases_eq, le-leb, lt-leb, cond-true, cond-false}
@@ -14,12 +15,12 @@ use Rattle.apply_events.proofs.TimeLines.Order.{here, elsewhere, nobody_else, un
 
 -- ---- one event is put into its place
 
--- what the test tells
-abbrev Tells : Event → Event → Bool → Type 0
-Tells e f b = ((b ≡ true) × Precedes e f) ⊎ ((b ≡ false) × (f.at ≤ e.at) × (f.at ≡ e.at → f.worker < e.worker))
+-- what the result of the test means
+abbrev Emits : Event → Event → Bool → Type 0
+Emits e f b = ((b ≡ true) × Precedes e f) ⊎ ((b ≡ false) × (f.at ≤ e.at) × (f.at ≡ e.at → f.worker < e.worker))
 
-tells : (e f : Event) → Tells e f (may_precede e f)
-tells e f = ⊎_elim
+emits : (e f : Event) → Emits e f (may_precede e f)
+emits e f = ⊎_elim
     (λ (lt : e.at < f.at). inl ((ap (λ b. b || (eqb e.at f.at && leb e.worker f.worker)) (lt-ltb e.at f.at lt), (omega arith, λ is. absurd (omega arith)))))
     (λ (ge : f.at ≤ e.at).
     let first = ap (λ b. b || (eqb e.at f.at && leb e.worker f.worker)) (le-ltb e.at f.at ge) in ⊎_elim
@@ -56,7 +57,7 @@ insert_in_order e (f ∷ fs) h = ⊎_elim
     (λ (c : (may_precede e f ≡ false) × (f.at ≤ e.at) × (f.at ≡ e.at → f.worker < e.worker)).
     subst InOrder (sym (cond-false (may_precede e f) (e ∷ f ∷ fs) (f ∷ insert e fs) c.0))
     (all_insert (Precedes f) e fs (c.1, λ is. let low = c.2 is in omega arith) h.0, insert_in_order e fs h.1))
-    (tells e f)
+    (emits e f)
 
 -- e is no later than f where both are of one lane
 abbrev Leads : Event → Event → Type 0
@@ -79,11 +80,11 @@ insert_parts w e (f ∷ fs) h = ⊎_elim
     (λ (k : _ × (e.worker ≢ w)). elsewhere w e fs k.1 ∙ sym (elsewhere w f fs d.1) ∙ sym (elsewhere w e (f ∷ fs) k.1))
     (eqb_tells e.worker w))
     (eqb_tells f.worker w))
-    (tells e f)
+    (emits e f)
 
 -- ---- all of them
 
--- no event is later than one of its lane behind it
+-- no event is later than a later event of its lane
 abbrev pub Own : List Event → Type 0
 Own [] = Unit {0}
 Own (e ∷ es) = All (Leads e) es × Own es
@@ -107,7 +108,7 @@ sorted_parts w (e ∷ es) own =
 
 -- ---- the lists of lanes
 
--- the events of a lane: from a moment on, no moment falls, and each names the lane
+-- the events of a lane from second `low` on: the seconds never fall, and each event names the lane
 abbrev pub Rises : (lane low : ℕ) → List Event → Type 0
 Rises lane low [] = Unit {0}
 Rises lane low (e ∷ es) = (e.worker ≡ lane) × (low ≤ e.at) × Rises lane e.at es

@@ -1,4 +1,4 @@
--- A queue of turns none of which was taken: one turn more.
+-- A queue from which no turn was taken, with one turn more.
 use Rattle.std.proofs.Common.{◌≡◌, ◌≢◌, ℕ, ◌+◌, ◌<◌, ◌≤◌, All, List, [], ◌∷◌, ◌++◌, cond, length, refl, sym, ap, ◌∙◌, ⊎_elim, ◌⊎◌, inl, inr, arith, eqb, eq-eqb, ne_eqb, length-append}
 use Rattle.std.specs.BinaryHeap.{IsHeap}
 use Rattle.std.specs.List.Sorted.{IsPermutation}
@@ -12,17 +12,17 @@ use Rattle.apply_model.specs.declared.script.wait.Wait.{Wait}
 use Rattle.apply_events.specs.declared.lanes.queue.ReadyTurn.{ReadyTurn}
 use Rattle.apply_events.specs.declared.lanes.queue.Waiting.{Waiting}
 use Rattle.apply_events.specs.declared.lanes.queue.followers.Followers.{Followers}
-use Rattle.apply_events.specs.Waits.Moment.{first_moment}
-use Rattle.apply_events.specs.Waits.Queue.{Follow, IsRipe, Stands, also, counts_of, late_of, named, names_at, none_done, one_if, open_of, reverse_cmp, standing, waiting_at}
+use Rattle.apply_events.specs.Waits.LaneTime.{first_lane_time}
+use Rattle.apply_events.specs.Waits.Queue.{Follow, IsRipe, Stands, with_waits_of, counts_of, ready_round_of, named, names_at, none_done, one_if, missing_count, reverse_cmp, standing, waiting_at}
 use Rattle.apply_events.proofs.Waits.Followers.{same_counts}
 use Rattle.apply_events.proofs.Waits.ReadyFirst.{none_stand}
 use Rattle.apply_events.proofs.Waits.Standing.{beyond}
 
-open_at_first : (names : List Wait) → open_of none_done names ≡ length names
+open_at_first : (names : List Wait) → missing_count none_done names ≡ length names
 open_at_first [] = refl
 open_at_first (name ∷ names) = let rest = open_at_first names in omega arith
 
-late_at_first : (names : List Wait) → late_of none_done names ≡ first_moment
+late_at_first : (names : List Wait) → ready_round_of none_done names ≡ first_lane_time
 late_at_first [] = refl
 late_at_first (name ∷ names) = late_at_first names
 
@@ -41,7 +41,7 @@ module _ (names : List (List Wait)) (turn : List Wait) where
   new_names : names_at (names ++ turn ∷ []) (length names) ≡ turn
   new_names = get_or-append_seam names turn [] []
 
-  counts_more : (name : Wait) (k : ℕ) → also (counts_of names) (length names) turn name k ≡ counts_of (names ++ turn ∷ []) name k
+  counts_more : (name : Wait) (k : ℕ) → with_waits_of (counts_of names) (length names) turn name k ≡ counts_of (names ++ turn ∷ []) name k
   counts_more name k = ⊎_elim
       (λ (is : k ≡ length names).
       let mine = ap (λ t. cond t (named name turn) 0) (eq-eqb k (length names) is) in
@@ -57,46 +57,46 @@ module _ (names : List (List Wait)) (turn : List Wait) where
       (cases_lt k (length names)) in omega arith)
       (cases_eq k (length names))
 
-  pub follow_turn : (limit number : ℕ) (f : Followers) → number ≡ length names → Follow limit (also (counts_of names) number turn) f → Follow limit (counts_of (names ++ turn ∷ [])) f
-  follow_turn limit number f is h = same_counts limit (also (counts_of names) number turn) (counts_of (names ++ turn ∷ [])) f
-      (λ name k. ap (λ n. also (counts_of names) n turn name k) is ∙ counts_more name k) h
+  pub follow_turn : (limit number : ℕ) (f : Followers) → number ≡ length names → Follow limit (with_waits_of (counts_of names) number turn) f → Follow limit (counts_of (names ++ turn ∷ [])) f
+  follow_turn limit number f is h = same_counts limit (with_waits_of (counts_of names) number turn) (counts_of (names ++ turn ∷ [])) f
+      (λ name k. ap (λ n. with_waits_of (counts_of names) n turn name k) is ∙ counts_more name k) h
 
-  module _ (waiting after : List Waiting) (ready : List (Reverse ReadyTurn)) (missing : ℕ) (h : Stands names none_done [] first_moment [] waiting ready)
-      (next : after ≡ waiting ++ (record { missing = missing; at = first_moment }) ∷ []) (count : missing ≡ length turn) where
+  module _ (waiting after : List Waiting) (ready : List (Reverse ReadyTurn)) (missing : ℕ) (h : Stands names none_done [] first_lane_time [] waiting ready)
+      (next : after ≡ waiting ++ (record { missing = missing; at = first_lane_time }) ∷ []) (count : missing ≡ length turn) where
     new : Waiting
-    new = record { missing = missing; at = first_moment }
+    new = record { missing = missing; at = first_lane_time }
 
     old_at : (k : ℕ) → k < length names → waiting_at after k ≡ waiting_at waiting k
-    old_at k lt = let size = h.size in ap (λ l. waiting_at l k) next ∙ get_or_append_left waiting (record { missing = missing; at = first_moment } ∷ []) (record { missing = 0; at = first_moment }) k (omega arith)
+    old_at k lt = let size = h.size in ap (λ l. waiting_at l k) next ∙ get_or_append_left waiting (record { missing = missing; at = first_lane_time } ∷ []) (record { missing = 0; at = first_lane_time }) k (omega arith)
 
-    new_at : waiting_at after (length names) ≡ record { missing = missing; at = first_moment }
-    new_at = ap (λ l. waiting_at l (length names)) next ∙ ap (waiting_at (waiting ++ record { missing = missing; at = first_moment } ∷ [])) (sym h.size)
-        ∙ get_or-append_seam waiting (record { missing = missing; at = first_moment }) [] (record { missing = 0; at = first_moment })
+    new_at : waiting_at after (length names) ≡ record { missing = missing; at = first_lane_time }
+    new_at = ap (λ l. waiting_at l (length names)) next ∙ ap (waiting_at (waiting ++ record { missing = missing; at = first_lane_time } ∷ [])) (sym h.size)
+        ∙ get_or-append_seam waiting (record { missing = missing; at = first_lane_time }) [] (record { missing = 0; at = first_lane_time })
 
     sizes : length after ≡ length (names ++ turn ∷ [])
     sizes =
         let size = h.size in let one = length-append names (turn ∷ []) in
-        let two = length-append waiting ((let w : Waiting = record { missing = missing; at = first_moment } in w) ∷ []) in
+        let two = length-append waiting ((let w : Waiting = record { missing = missing; at = first_lane_time } in w) ∷ []) in
         let is = ap length next in omega arith
 
-    missing_more : (k : ℕ) → k < length (names ++ turn ∷ []) → (waiting_at after k).missing ≡ open_of none_done (names_at (names ++ turn ∷ []) k) + 0
+    missing_more : (k : ℕ) → k < length (names ++ turn ∷ []) → (waiting_at after k).missing ≡ missing_count none_done (names_at (names ++ turn ∷ []) k) + 0
     missing_more k lt = ⊎_elim
         (λ (less : k < length names).
         let old = h.missing k less in
         let same = ap (λ (x : Waiting). x.missing) (old_at k less) in
-        let its = ap (open_of none_done) (old_names k less) in omega arith)
+        let its = ap (missing_count none_done) (old_names k less) in omega arith)
         (λ (is : k ≡ length names).
         let mine : (waiting_at after k).missing ≡ missing = ap (λ j. (waiting_at after j).missing) is ∙ ap (λ (x : Waiting). x.missing) new_at in
-        let its : open_of none_done (names_at (names ++ turn ∷ []) k) ≡ length turn =
-        ap (λ j. open_of none_done (names_at (names ++ turn ∷ []) j)) is ∙ ap (open_of none_done) new_names ∙ open_at_first turn in omega arith)
+        let its : missing_count none_done (names_at (names ++ turn ∷ []) k) ≡ length turn =
+        ap (λ j. missing_count none_done (names_at (names ++ turn ∷ []) j)) is ∙ ap (missing_count none_done) new_names ∙ open_at_first turn in omega arith)
         (last_cases names turn k lt)
 
-    late_more : (k : ℕ) → k < length (names ++ turn ∷ []) → (waiting_at after k).at ≡ late_of none_done (names_at (names ++ turn ∷ []) k)
+    late_more : (k : ℕ) → k < length (names ++ turn ∷ []) → (waiting_at after k).at ≡ ready_round_of none_done (names_at (names ++ turn ∷ []) k)
     late_more k lt = ⊎_elim
-        (λ (less : k < length names). ap (λ (x : Waiting). x.at) (old_at k less) ∙ h.late k less ∙ sym (ap (late_of none_done) (old_names k less)))
+        (λ (less : k < length names). ap (λ (x : Waiting). x.at) (old_at k less) ∙ h.late k less ∙ sym (ap (ready_round_of none_done) (old_names k less)))
         (λ (is : k ≡ length names).
         ap (λ j. (waiting_at after j).at) is ∙ ap (λ (x : Waiting). x.at) new_at ∙ sym (late_at_first turn)
-        ∙ sym (ap (λ j. late_of none_done (names_at (names ++ turn ∷ []) j)) is ∙ ap (late_of none_done) new_names))
+        ∙ sym (ap (λ j. ready_round_of none_done (names_at (names ++ turn ∷ []) j)) is ∙ ap (ready_round_of none_done) new_names))
         (last_cases names turn k lt)
 
     still_ripe : All (IsRipe after) ready
@@ -109,7 +109,7 @@ module _ (names : List (List Wait)) (turn : List Wait) where
     none_yet : standing (length names) ready ≡ 0
     none_yet = let size = h.size in none_stand waiting (length names) ready (omega arith) (recursion_from_All (IsRipe waiting) ready h.ripe)
 
-    pub stands_waiting : missing ≢ 0 → Stands (names ++ turn ∷ []) none_done [] first_moment [] after ready
+    pub stands_waiting : missing ≢ 0 → Stands (names ++ turn ∷ []) none_done [] first_lane_time [] after ready
     stands_waiting some = record {
       size = sizes;
       known = tt;
@@ -128,13 +128,13 @@ module _ (names : List (List Wait)) (turn : List Wait) where
     }
 
     pub stands_ready : (more : List (Reverse ReadyTurn)) (number : ℕ) → missing ≡ 0 → number ≡ length names
-        → IsPermutation ((record { 0 = record { at = first_moment; number = number } }) ∷ ready) more → IsHeap reverse_cmp more
-        → Stands (names ++ turn ∷ []) none_done [] first_moment [] after more
+        → IsPermutation ((record { 0 = record { at = first_lane_time; number = number } }) ∷ ready) more → IsHeap reverse_cmp more
+        → Stands (names ++ turn ∷ []) none_done [] first_lane_time [] after more
     stands_ready more number none last moved heap =
-        let one : Reverse ReadyTurn = record { 0 = record { at = first_moment; number = number } } in
+        let one : Reverse ReadyTurn = record { 0 = record { at = first_lane_time; number = number } } in
         let size = sizes in
         let longer = length-append names (turn ∷ []) in
-        let here : waiting_at after number ≡ record { missing = missing; at = first_moment } = ap (waiting_at after) last ∙ new_at in
+        let here : waiting_at after number ≡ record { missing = missing; at = first_lane_time } = ap (waiting_at after) last ∙ new_at in
         record {
           size = sizes;
           known = tt;

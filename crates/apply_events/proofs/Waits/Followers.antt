@@ -11,7 +11,7 @@ use Rattle.apply_model.specs.Script.Waits.{waits_of}
 use Rattle.apply_events.specs.declared.lanes.queue.followers.Follower.{Follower}
 use Rattle.apply_events.specs.declared.lanes.queue.followers.Followers.{Followers}
 use Rattle.apply_events.specs.declared.lanes.turn.Turn.{Turn}
-use Rattle.apply_events.specs.Waits.Queue.{Follow, HasPlace, IsChain, also, follower_at, is_same_wait, last_at, named, one_if, place_of, step_before, times, turn_waits}
+use Rattle.apply_events.specs.Waits.Queue.{Follow, HasPlace, IsChain, with_waits_of, follower_at, is_same_wait, last_at, named, one_if, place_of, step_before, times, turn_waits}
 
 -- ---- steps
 
@@ -58,14 +58,14 @@ chain_on all more place (turn ∷ turns) h =
 
 -- ---- counts
 
-also_other : (count : Wait → ℕ → ℕ) (turn : ℕ) (step name : Wait) (number : ℕ) → is_same_wait step name ≡ false → also count turn (step ∷ []) name number ≡ count name number
+also_other : (count : Wait → ℕ → ℕ) (turn : ℕ) (step name : Wait) (number : ℕ) → is_same_wait step name ≡ false → with_waits_of count turn (step ∷ []) name number ≡ count name number
 also_other count turn step name number differ = by_test (eqb number turn) (named name (step ∷ [])) (count name number) (ap (λ t. one_if t + 0) differ)
   where
     by_test : (t : Bool) (n c : ℕ) → n ≡ 0 → cond t n 0 + c ≡ c
     by_test true n c h = omega arith
     by_test false n c h = omega arith
 
-pub also_none : (count : Wait → ℕ → ℕ) (turn : ℕ) (name : Wait) (number : ℕ) → also count turn [] name number ≡ count name number
+pub also_none : (count : Wait → ℕ → ℕ) (turn : ℕ) (name : Wait) (number : ℕ) → with_waits_of count turn [] name number ≡ count name number
 also_none count turn name number = by_test (eqb number turn) (count name number)
   where
     by_test : (t : Bool) (c : ℕ) → cond t 0 0 + c ≡ c
@@ -76,8 +76,8 @@ pub named-append : (name : Wait) (xs ys : List Wait) → named name (xs ++ ys) �
 named-append name [] ys = omega arith
 named-append name (x ∷ xs) ys = let rest = named-append name xs ys in omega arith
 
-pub also-append : (count : Wait → ℕ → ℕ) (turn : ℕ) (xs ys : List Wait) (name : Wait) (number : ℕ) → also (also count turn xs) turn ys name number ≡ also count turn (xs ++ ys) name number
-also-append count turn xs ys name number = by_test (eqb number turn) (named name xs) (named name ys) (named name (xs ++ ys)) (count name number) (named-append name xs ys)
+pub with_waits_of-append : (count : Wait → ℕ → ℕ) (turn : ℕ) (xs ys : List Wait) (name : Wait) (number : ℕ) → with_waits_of (with_waits_of count turn xs) turn ys name number ≡ with_waits_of count turn (xs ++ ys) name number
+with_waits_of-append count turn xs ys name number = by_test (eqb number turn) (named name xs) (named name ys) (named name (xs ++ ys)) (count name number) (named-append name xs ys)
   where
     by_test : (t : Bool) (a b ab c : ℕ) → ab ≡ a + b → cond t b 0 + (cond t a 0 + c) ≡ cond t ab 0 + c
     by_test true a b ab c h = omega arith
@@ -91,7 +91,7 @@ same_counts limit count other f same h = record {
 
 -- ---- one more
 
-pub follow_other : (limit : ℕ) (count : Wait → ℕ → ℕ) (turn : ℕ) (step : Wait) (f : Followers) → (HasPlace step limit → ⊥) → Follow limit count f → Follow limit (also count turn (step ∷ [])) f
+pub follow_other : (limit : ℕ) (count : Wait → ℕ → ℕ) (turn : ℕ) (step : Wait) (f : Followers) → (HasPlace step limit → ⊥) → Follow limit count f → Follow limit (with_waits_of count turn (step ∷ [])) f
 follow_other limit count turn step f none h = record {
   size = h.size;
   chains = λ name place. (
@@ -106,8 +106,8 @@ follow_other limit count turn step f none h = record {
 module _ (limit : ℕ) (count : Wait → ℕ → ℕ) (turn : ℕ) (step : Wait) (f g : Followers) (place : HasPlace step limit) (h : Follow limit count f)
     (all : g.all.items ≡ f.all.items ++ (record { turn = turn; before = last_at f step }) ∷ [])
     (last : g.last.items ≡ set f.last.items (place_of step) (length f.all.items + 1)) where
-  abbrev IsKept : Wait → Type 0
-  IsKept name = (turns : List ℕ) × IsChain g.all.items (last_at g name) turns × ((number : ℕ) → times number turns ≡ also count turn (step ∷ []) name number)
+  abbrev IsPreserved : Wait → Type 0
+  IsPreserved name = (turns : List ℕ) × IsChain g.all.items (last_at g name) turns × ((number : ℕ) → times number turns ≡ with_waits_of count turn (step ∷ []) name number)
 
   counted : (number more old : ℕ) → more ≡ old → one_if (eqb turn number) + more ≡ cond (eqb number turn) (one_if (is_same_wait step step) + 0) 0 + old
   counted number more old same =
@@ -120,7 +120,7 @@ module _ (limit : ℕ) (count : Wait → ℕ → ℕ) (turn : ℕ) (step : Wait)
       let none = ap (λ t. cond t (one_if (is_same_wait step step) + 0) 0) (ne_eqb number turn (λ is. ne (sym is))) in omega arith)
       (cases_eq turn number)
 
-  at_step : IsKept step
+  at_step : IsPreserved step
   at_step =
       let F = f.all.items in
       let x : Follower = record { turn = turn; before = last_at f step } in
@@ -129,8 +129,8 @@ module _ (limit : ℕ) (count : Wait → ℕ → ℕ) (turn : ℕ) (step : Wait)
       let low = chain_low F (last_at f step) old.0 old.1 in
       let sizes = length-append F (x ∷ []) in
       let at : last_at g step ≡ length F + 1 = ap (λ l. get_or l (place_of step) 0) last ∙ get_or-set_same f.last.items (place_of step) (length F + 1) 0 (omega arith) in
-      let behind : length F + 1 - 1 ≡ length F = omega arith in
-      let here : follower_at (F ++ x ∷ []) (length F + 1 - 1) ≡ x = ap (follower_at (F ++ x ∷ [])) behind ∙ get_or-append_seam F x [] (record { turn = 0; before = 0 }) in
+      let later_events : length F + 1 - 1 ≡ length F = omega arith in
+      let here : follower_at (F ++ x ∷ []) (length F + 1 - 1) ≡ x = ap (follower_at (F ++ x ∷ [])) later_events ∙ get_or-append_seam F x [] (record { turn = 0; before = 0 }) in
       let chain : IsChain (F ++ x ∷ []) (length F + 1) (turn ∷ old.0) = (
         omega arith,
         omega arith,
@@ -143,7 +143,7 @@ module _ (limit : ℕ) (count : Wait → ℕ → ℕ) (turn : ℕ) (step : Wait)
         λ number. counted number (times number old.0) (count step number) (old.2 number),
       )
 
-  at_other : (name : Wait) → HasPlace name limit → is_same_wait step name ≡ false → IsKept name
+  at_other : (name : Wait) → HasPlace name limit → is_same_wait step name ≡ false → IsPreserved name
   at_other name there differ =
       let F = f.all.items in
       let x : Follower = record { turn = turn; before = last_at f step } in
@@ -155,11 +155,11 @@ module _ (limit : ℕ) (count : Wait → ℕ → ℕ) (turn : ℕ) (step : Wait)
         λ number. old.2 number ∙ sym (also_other count turn step name number differ),
       )
 
-  pub follow_more : Follow limit (also count turn (step ∷ [])) g
+  pub follow_more : Follow limit (with_waits_of count turn (step ∷ [])) g
   follow_more = record {
     size = ap length last ∙ length-set f.last.items (place_of step) (length f.all.items + 1) ∙ h.size;
     chains = λ name there. ⊎_elim
-        (λ (same : is_same_wait step name ≡ true). subst IsKept (same_wait step name same) at_step)
+        (λ (same : is_same_wait step name ≡ true). subst IsPreserved (same_wait step name same) at_step)
         (λ (differ : is_same_wait step name ≡ false). at_other name there differ)
         (cases_Bool (is_same_wait step name));
   }
@@ -171,8 +171,8 @@ first_items [] k x is = absurd cc
 first_items (y ∷ xs) zero x is = let same : y ≡ x = cc in ap (λ z. z ∷ []) same
 first_items (y ∷ xs) (suc k) x is = ap (λ l. y ∷ l) (first_items xs k x is)
 
-pub waits_behind : (script : OutcomeMap) (turn : Turn) → turn.count ≢ 0 → turn_waits script turn ≡ step_before turn ++ (outcome_of script turn.change turn.first).after
-waits_behind script turn some =
+pub waits_after : (script : OutcomeMap) (turn : Turn) → turn.count ≢ 0 → turn_waits script turn ≡ step_before turn ++ (outcome_of script turn.change turn.first).after
+waits_after script turn some =
     ap (λ t. cond t [] (waits_of script turn.change turn.first)) (ne_eqb turn.count 0 some) ∙ by_first turn.change turn.first
   where
     by_first : (c k : ℕ) → waits_of script c k ≡ cond (eqb k 0) [] (record { change = c; step = k - 1 } ∷ []) ++ (outcome_of script c k).after

@@ -21,7 +21,7 @@ in_at y xs x (suc k) lt is = inr (k, omega arith, is)
 pub in_cases : {X : Type 0} (y : X) (xs : List X) (x : X) → Contains (y ∷ xs) x → (y ≡ x) ⊎ Contains xs x
 in_cases y xs x h = in_at y xs x h.0 h.1 h.2
 
--- an element has elements before it and behind it
+-- an element has elements before it and after it
 pub in_split : {X : Type 0} (xs : List X) (x : X) → Contains xs x → (before : List X) × (after : List X) × (xs ≡ before ++ x ∷ after)
 in_split [] x h = absurd (not_in_none x h)
 in_split (y ∷ xs) x h = ⊎_elim
@@ -44,7 +44,7 @@ pub flat_map_in : {X Y : Type 0} (f : X → List Y) (xs : List X) (y : Y) → Co
 flat_map_in f [] y h = absurd (not_in_none y h)
 flat_map_in f (z ∷ xs) y h = ⊎_elim
     (λ (first : Contains (f z) y). (z, in_head z xs, first))
-    (λ (later : Contains (flat_map f xs) y). let found = flat_map_in f xs y later in (found.0, in_tail z xs found.0 found.1, found.2))
+    (λ (later : Contains (flat_map f xs) y). let answer = flat_map_in f xs y later in (answer.0, in_tail z xs answer.0 answer.1, answer.2))
     (Contains-append_cases (f z) (flat_map f xs) y h)
 
 -- ---- tests
@@ -64,7 +64,7 @@ pub in_any : {X : Type 0} (p : X → Bool) (xs : List X) → list_any p xs ≡ t
 in_any p [] is = absurd cc
 in_any p (y ∷ xs) is = ⊎_elim
     (λ (here : p y ≡ true). (y, in_head y xs, here))
-    (λ (no : p y ≡ false). let found = in_any p xs (sym (ap (λ t. t || list_any p xs) no) ∙ is) in (found.0, in_tail y xs found.0 found.1, found.2))
+    (λ (no : p y ≡ false). let answer = in_any p xs (sym (ap (λ t. t || list_any p xs) no) ∙ is) in (answer.0, in_tail y xs answer.0 answer.1, answer.2))
     (cases_Bool (p y))
 
 pub all_in : {X : Type 0} (p : X → Bool) (xs : List X) → ((x : X) → Contains xs x → p x ≡ true) → list_all p xs ≡ true
@@ -122,7 +122,7 @@ filter_within p q (y ∷ xs) h =
     let rest = filter_within p q xs (λ x there. h x (in_tail y xs x there)) in ⊎_elim
     (λ (yes : q y ≡ true). ap (λ t. filter p (cond t (y ∷ filter q xs) (filter q xs))) yes ∙ ap (λ l. cond (p y) (y ∷ l) l) rest)
     (λ (no : q y ≡ false). ap (λ t. filter p (cond t (y ∷ filter q xs) (filter q xs))) no ∙ rest ∙ ⊎_elim
-    (λ (taken : p y ≡ true). let both : q y ≡ true = h y (in_head y xs) taken in absurd cc)
+    (λ (started : p y ≡ true). let both : q y ≡ true = h y (in_head y xs) started in absurd cc)
     (λ (not : p y ≡ false). sym (ap (λ t. cond t (y ∷ filter p xs) (filter p xs)) not))
     (cases_Bool (p y)))
     (cases_Bool (q y))

@@ -1,4 +1,5 @@
--- Sorting the joined lists of lanes by moment and lane gives an interleaving of them in order, if no moment falls along any.
+-- Sorting the joined lists of lanes by time and lane gives an ordered interleaving of them, if the
+-- times of no list fall.
 use Rattle.std.proofs.Common.{◌≡◌, ◌≢◌, ℕ, zero, suc, ◌+◌, ◌<◌, ◌≤◌, Bool, true, false, List, [], ◌∷◌, ◌++◌, All, cond, sym, refl, ap, ◌∙◌, subst, ⊎_elim, ◌⊎◌, inl, inr, arith, eq-eqb, ne_eqb, le-ltb, leb, ltb, eqb, ◌&&◌, ◌||◌}
 use Rattle.std.proofs.lemmas.Bool.Decides.{eqb_tells}
 use Rattle.std.proofs.lemmas.Bool.{cases_lt, le-leb, lt-leb, cond-true, cond-false, true≢false}
@@ -8,41 +9,41 @@ use Rattle.std.specs.List.{Contains, range_with_len, flat_map}
 use Rattle.apply_events.specs.Interleaving.{IsInterleaving}
 use Rattle.apply_events.specs.declared.event.Event.{Event}
 use Rattle.apply_events.specs.OfWorker.{of_worker}
-use Rattle.apply_events.specs.Waits.Merging.{insert, is_same_moment, may_precede, merged, sorted}
-use Rattle.apply_events.specs.declared.lanes.moment.Moment.{Moment}
-use Rattle.apply_events.specs.Waits.Moment.{IsNoLater, is_earlier}
+use Rattle.apply_events.specs.Waits.Merging.{insert, is_same_lane_time, may_precede, merged, sorted}
+use Rattle.apply_events.specs.declared.lanes.lane_time.LaneTime.{LaneTime}
+use Rattle.apply_events.specs.Waits.LaneTime.{IsNoLater, is_earlier}
 use Rattle.apply_events.specs.Waits.TimeLine.{InOrder, Precedes}
 use Rattle.apply_events.proofs.TimeLines.Order.{elsewhere, here, nobody_else}
 use Rattle.apply_events.proofs.TimeLines.Merge.{all_parts}
 use Rattle.apply_events.proofs.Waits.Members.{in_head, in_tail}
-use Rattle.apply_events.proofs.Waits.Moments.{no_later_both, no_later_on, no_later_refl, same_moment, tells}
+use Rattle.apply_events.proofs.Waits.Moments.{no_later_both, no_later_on, no_later_refl, same_lane_time, emits}
 use Rattle.apply_events.proofs.Waits.Order.{unique}
 
 -- ---- tests
 
-pub not_before_itself : (a : Moment) → is_earlier a a ≡ false
+pub not_before_itself : (a : LaneTime) → is_earlier a a ≡ false
 not_before_itself a =
     ap (λ t. t || (eqb a.second a.second && ltb a.round a.round)) (le-ltb a.second a.second (omega arith))
     ∙ ap (λ t. t && ltb a.round a.round) (eq-eqb a.second a.second refl) ∙ le-ltb a.round a.round (omega arith)
 
-same_tells : (a b : Moment) → ((is_same_moment a b ≡ true) × (a ≡ b)) ⊎ ((is_same_moment a b ≡ false) × (a ≢ b))
-same_tells a b = ⊎_elim
+same_emits : (a b : LaneTime) → ((is_same_lane_time a b ≡ true) × (a ≡ b)) ⊎ ((is_same_lane_time a b ≡ false) × (a ≢ b))
+same_emits a b = ⊎_elim
     (λ (c : _ × (a.second ≡ b.second)). ⊎_elim
-    (λ (d : _ × (a.round ≡ b.round)). inl ((ap (λ t. t && eqb a.round b.round) (eq-eqb a.second b.second c.1) ∙ eq-eqb a.round b.round d.1, same_moment a b c.1 d.1)))
-    (λ (d : _ × (a.round ≢ b.round)). inr ((ap (λ t. t && eqb a.round b.round) (eq-eqb a.second b.second c.1) ∙ ne_eqb a.round b.round d.1, λ is. d.1 (ap (λ (m : Moment). m.round) is))))
+    (λ (d : _ × (a.round ≡ b.round)). inl ((ap (λ t. t && eqb a.round b.round) (eq-eqb a.second b.second c.1) ∙ eq-eqb a.round b.round d.1, same_lane_time a b c.1 d.1)))
+    (λ (d : _ × (a.round ≢ b.round)). inr ((ap (λ t. t && eqb a.round b.round) (eq-eqb a.second b.second c.1) ∙ ne_eqb a.round b.round d.1, λ is. d.1 (ap (λ (m : LaneTime). m.round) is))))
     (eqb_tells a.round b.round))
-    (λ (c : _ × (a.second ≢ b.second)). inr ((ap (λ t. t && eqb a.round b.round) (ne_eqb a.second b.second c.1), λ is. c.1 (ap (λ (m : Moment). m.second) is))))
+    (λ (c : _ × (a.second ≢ b.second)). inr ((ap (λ t. t && eqb a.round b.round) (ne_eqb a.second b.second c.1), λ is. c.1 (ap (λ (m : LaneTime). m.second) is))))
     (eqb_tells a.second b.second)
 
-module _ (when : Event → Moment) where
-  -- what the test tells
+module _ (when : Event → LaneTime) where
+  -- what the result of the test means
   abbrev Before : Event → Event → Bool → Type 0
   Before e f t = ((t ≡ true) × Precedes when e f) ⊎ ((t ≡ false) × IsNoLater (when f) (when e) × (when f ≡ when e → f.worker < e.worker))
 
   before_is : (e f : Event) → Before e f (may_precede when e f)
   before_is e f =
       let a = when e in let b = when f in
-      let rest = is_same_moment a b && leb e.worker f.worker in ⊎_elim
+      let rest = is_same_lane_time a b && leb e.worker f.worker in ⊎_elim
       (λ (c : (is_earlier a b ≡ true) × IsNoLater a b).
       inl ((ap (λ t. t || rest) c.0, (c.1, λ is. absurd (true≢false (sym c.0 ∙ ap (is_earlier a) (sym is) ∙ not_before_itself a))))))
       (λ (c : (is_earlier a b ≡ false) × IsNoLater b a). ⊎_elim
@@ -52,8 +53,8 @@ module _ (when : Event → Moment) where
       (λ (low : e.worker ≤ f.worker). inl ((test ∙ le-leb e.worker f.worker low, (subst (IsNoLater a) d.1 (no_later_refl a), λ _. low))))
       (cases_lt f.worker e.worker))
       (λ (d : _ × (a ≢ b)). inr ((ap (λ t. t || rest) c.0 ∙ ap (λ t. t && leb e.worker f.worker) d.0, c.1, λ is. absurd (d.1 (sym is)))))
-      (same_tells a b))
-      (tells a b)
+      (same_emits a b))
+      (emits a b)
 
   -- ---- one event is put into its place
 
@@ -107,7 +108,7 @@ module _ (when : Event → Moment) where
 
   -- ---- all of them
 
-  -- no event is later than one of its lane behind it
+  -- no event is later than a later event of its lane
   abbrev Own : List Event → Type 0
   Own [] = Unit {0}
   Own (e ∷ es) = All (Leads e) es × Own es
@@ -131,7 +132,7 @@ module _ (when : Event → Moment) where
 
   -- ---- the lists of lanes
 
-  -- the events of a lane, along which no moment falls
+  -- the events of a lane, whose times never fall
   abbrev pub Rises : (lane : ℕ) → List Event → Type 0
   Rises lane [] = Unit {0}
   Rises lane (e ∷ es) = (e.worker ≡ lane) × All (λ f. IsNoLater (when e) (when f)) es × Rises lane es

@@ -7,13 +7,13 @@ use Rattle.std.proofs.lemmas.Bool.Decides.{eqb_tells}
 use Rattle.std.proofs.lemmas.List.{drop_all, drop_more}
 use Rattle.std.proofs.lemmas.List.Elements.{Contains-get_or}
 use Rattle.apply_events.specs.declared.lanes.lane.UnderWay.{UnderWay}
-use Rattle.apply_events.specs.declared.lanes.taken.Taken.{Taken}
+use Rattle.apply_events.specs.declared.lanes.turn.StartedTurn.{StartedTurn}
 use Rattle.apply_events.specs.declared.lanes.turn.Turn.{Turn}
 use Rattle.apply_events.specs.Lanes.Lane.{IsBegun, begin_of, events_of}
-use Rattle.apply_events.specs.Lanes.LaneState.{HasGoneOn, told_by}
+use Rattle.apply_events.specs.Lanes.LaneState.{HasGoneOn, emitted_by}
 use Rattle.apply_events.specs.Lanes.Startable.{has_turn, is_that_turn}
 use Rattle.apply_events.specs.Step.{Work}
-use Rattle.apply_events.specs.Waits.Moment.{first_moment}
+use Rattle.apply_events.specs.Waits.LaneTime.{first_lane_time}
 use Rattle.apply_events.specs.Waits.TimeLine.{turn_events}
 use Rattle.apply_events.specs.Waits.Turn.{turns}
 use Rattle.apply_events.proofs.Waits.Members.{in_any}
@@ -39,60 +39,61 @@ that_is a b same =
 
 pub known_is : (w : Work) (turn : Turn) → has_turn w turn ≡ true → Contains (turns w) turn
 known_is w turn has =
-    let found = in_any (λ other. is_that_turn other turn) (turns w) has in
-    subst (Contains (turns w)) (that_is found.0 turn found.2) found.1
+    let answer = in_any (λ other. is_that_turn other turn) (turns w) has in
+    subst (Contains (turns w)) (that_is answer.0 turn answer.2) answer.1
 
 -- ---- the lane's next turn
 
--- what it reports of the turns from a place on: of the one that stands there, if that is the lane's, and of those behind it
-told_here : (w : Work) (lane place : ℕ) (taken : List Taken) (one : Taken) → place < length taken → one ≡ get_or taken place one
-    → told_by w lane (drop place taken) ≡ cond (eqb one.lane lane) (turn_events w one) [] ++ told_by w lane (drop (place + 1) taken)
-told_here w lane place taken one lt is =
-    ap (told_by w lane) (drop_more taken place one lt)
-    ∙ ap (λ (x : Taken). cond (eqb x.lane lane) (turn_events w x) [] ++ told_by w lane (drop (place + 1) taken)) (sym is)
+-- the lane's events of the turns from a position on: of the turn at that position, if the lane
+-- started it, and of the turns after it
+emitted_here : (w : Work) (lane place : ℕ) (started : List StartedTurn) (one : StartedTurn) → place < length started → one ≡ get_or started place one
+    → emitted_by w lane (drop place started) ≡ cond (eqb one.lane lane) (turn_events w one) [] ++ emitted_by w lane (drop (place + 1) started)
+emitted_here w lane place started one lt is =
+    ap (emitted_by w lane) (drop_more started place one lt)
+    ∙ ap (λ (x : StartedTurn). cond (eqb x.lane lane) (turn_events w x) [] ++ emitted_by w lane (drop (place + 1) started)) (sym is)
 
-pub other_lane : (w : Work) (lane place : ℕ) (taken : List Taken) (one : Taken) → place < length taken → one ≡ get_or taken place one → one.lane ≢ lane
-    → told_by w lane (drop place taken) ≡ told_by w lane (drop (place + 1) taken)
-other_lane w lane place taken one lt is ne =
-    told_here w lane place taken one lt is ∙ ap (λ t. cond t (turn_events w one) [] ++ told_by w lane (drop (place + 1) taken)) (ne_eqb one.lane lane ne)
+pub other_lane : (w : Work) (lane place : ℕ) (started : List StartedTurn) (one : StartedTurn) → place < length started → one ≡ get_or started place one → one.lane ≢ lane
+    → emitted_by w lane (drop place started) ≡ emitted_by w lane (drop (place + 1) started)
+other_lane w lane place started one lt is ne =
+    emitted_here w lane place started one lt is ∙ ap (λ t. cond t (turn_events w one) [] ++ emitted_by w lane (drop (place + 1) started)) (ne_eqb one.lane lane ne)
 
-own_turn : (w : Work) (lane place : ℕ) (taken : List Taken) (one : Taken) → place < length taken → one ≡ get_or taken place one → one.lane ≡ lane
-    → told_by w lane (drop place taken) ≡ turn_events w one ++ told_by w lane (drop (place + 1) taken)
-own_turn w lane place taken one lt is own =
-    told_here w lane place taken one lt is ∙ ap (λ t. cond t (turn_events w one) [] ++ told_by w lane (drop (place + 1) taken)) (eq-eqb one.lane lane own)
+own_turn : (w : Work) (lane place : ℕ) (started : List StartedTurn) (one : StartedTurn) → place < length started → one ≡ get_or started place one → one.lane ≡ lane
+    → emitted_by w lane (drop place started) ≡ turn_events w one ++ emitted_by w lane (drop (place + 1) started)
+own_turn w lane place started one lt is own =
+    emitted_here w lane place started one lt is ∙ ap (λ t. cond t (turn_events w one) [] ++ emitted_by w lane (drop (place + 1) started)) (eq-eqb one.lane lane own)
 
-begun_none : {a b : _} {g : _} (w : Work) (one : Taken) (turn : Option (UnderWay a b g)) → IsBegun w one turn → is_some turn ≡ false → turn_events w one ≡ []
+begun_none : {a b : _} {g : _} (w : Work) (one : StartedTurn) (turn : Option (UnderWay a b g)) → IsBegun w one turn → is_some turn ≡ false → turn_events w one ≡ []
 begun_none w one None begun none = begun
 begun_none w one (Some turn) begun none = absurd (true≢false none)
 
 -- a turn without events
-pub no_events : {a b : _} {g : _} (w : Work) (lane place : ℕ) (taken : List Taken) (one : Taken) (turn : Option (UnderWay a b g)) → place < length taken → one ≡ get_or taken place one → one.lane ≡ lane
-    → IsBegun w one turn → is_some turn ≡ false → told_by w lane (drop place taken) ≡ told_by w lane (drop (place + 1) taken)
-no_events w lane place taken one turn lt is own begun none =
-    own_turn w lane place taken one lt is own ∙ ap (λ es. es ++ told_by w lane (drop (place + 1) taken)) (begun_none w one turn begun none)
+pub no_events : {a b : _} {g : _} (w : Work) (lane place : ℕ) (started : List StartedTurn) (one : StartedTurn) (turn : Option (UnderWay a b g)) → place < length started → one ≡ get_or started place one → one.lane ≡ lane
+    → IsBegun w one turn → is_some turn ≡ false → emitted_by w lane (drop place started) ≡ emitted_by w lane (drop (place + 1) started)
+no_events w lane place started one turn lt is own begun none =
+    own_turn w lane place started one lt is own ∙ ap (λ es. es ++ emitted_by w lane (drop (place + 1) started)) (begun_none w one turn begun none)
 
-begun_events : {a b : _} {g : _} (w : Work) (one : Taken) (turn : Option (UnderWay a b g)) → IsBegun w one turn → is_some turn ≡ true
+begun_events : {a b : _} {g : _} (w : Work) (one : StartedTurn) (turn : Option (UnderWay a b g)) → IsBegun w one turn → is_some turn ≡ true
     → (events_of turn ≡ turn_events w one) × (begin_of turn ≡ one.begin) × (events_of turn ≢ [])
 begun_events w one None begun some = absurd (true≢false (sym some))
 begun_events w one (Some turn) begun some = (sym begun.1, begun.0, λ none. absurd cc)
 
-pub gone_on : {a b : _} {g : _} (w : Work) (lane from place : ℕ) (taken : List Taken) (one : Taken) (turn : Option (UnderWay a b g)) → place < length taken → one ≡ get_or taken place one → one.lane ≡ lane
-    → IsBegun w one turn → is_some turn ≡ true → told_by w lane (drop place taken) ≡ told_by w lane (drop from taken)
-    → HasGoneOn w taken lane from (record { number = lane; events = events_of turn; begin = begin_of turn; place = place + 1 })
-gone_on w lane from place taken one turn lt is own begun some so_far =
+pub gone_on : {a b : _} {g : _} (w : Work) (lane from place : ℕ) (started : List StartedTurn) (one : StartedTurn) (turn : Option (UnderWay a b g)) → place < length started → one ≡ get_or started place one → one.lane ≡ lane
+    → IsBegun w one turn → is_some turn ≡ true → emitted_by w lane (drop place started) ≡ emitted_by w lane (drop from started)
+    → HasGoneOn w started lane from (record { number = lane; events = events_of turn; begin = begin_of turn; place = place + 1 })
+gone_on w lane from place started one turn lt is own begun some so_far =
     let has = begun_events w one turn begun some in record {
       number = refl;
-      left = sym so_far ∙ own_turn w lane place taken one lt is own ∙ ap (λ es. es ++ told_by w lane (drop (place + 1) taken)) (sym has.0);
+      left = sym so_far ∙ own_turn w lane place started one lt is own ∙ ap (λ es. es ++ emitted_by w lane (drop (place + 1) started)) (sym has.0);
       over = λ none. absurd (has.2 none);
-      turn = inr (one, subst (Contains taken) (sym is) (Contains-get_or taken place one lt), has.1, has.0);
+      turn = inr (one, subst (Contains started) (sym is) (Contains-get_or started place one lt), has.1, has.0);
     }
 
-pub none_left : (w : Work) (lane from place : ℕ) (taken : List Taken) → length taken ≤ place → told_by w lane (drop place taken) ≡ told_by w lane (drop from taken)
-    → HasGoneOn w taken lane from (record { number = lane; events = []; begin = first_moment; place = length taken })
-none_left w lane from place taken over so_far =
+pub none_left : (w : Work) (lane from place : ℕ) (started : List StartedTurn) → length started ≤ place → emitted_by w lane (drop place started) ≡ emitted_by w lane (drop from started)
+    → HasGoneOn w started lane from (record { number = lane; events = []; begin = first_lane_time; place = length started })
+none_left w lane from place started over so_far =
     record {
       number = refl;
-      left = sym so_far ∙ ap (told_by w lane) (drop_all place taken over) ∙ sym (ap (told_by w lane) (drop_all (length taken) taken (omega arith)));
+      left = sym so_far ∙ ap (emitted_by w lane) (drop_all place started over) ∙ sym (ap (emitted_by w lane) (drop_all (length started) started (omega arith)));
       over = λ none. omega arith;
       turn = inl refl;
     }

@@ -1,16 +1,16 @@
--- Lists of events in order of their moments, whatever these are: there is one for the parts of each lane.
+-- Lists of events in order of any times. There is one such list for the parts of all lanes.
 use Rattle.std.proofs.Common.{◌≡◌, ◌≢◌, ℕ, ◌<◌, ◌≤◌, List, [], ◌∷◌, sym, refl, ap, ◌∙◌, ⊎_elim, arith}
 use Rattle.std.proofs.lemmas.Bool.Decides.{eqb_tells}
 use Rattle.std.proofs.lemmas.Bool.{cases_lt}
 use Rattle.apply_events.specs.Interleaving.{IsInterleaving}
 use Rattle.apply_events.specs.declared.event.Event.{Event}
 use Rattle.apply_events.specs.OfWorker.{of_worker}
-use Rattle.apply_events.specs.declared.lanes.moment.Moment.{Moment}
+use Rattle.apply_events.specs.declared.lanes.lane_time.LaneTime.{LaneTime}
 use Rattle.apply_events.specs.Waits.TimeLine.{InOrder, Precedes}
 use Rattle.apply_events.proofs.TimeLines.Order.{elsewhere, here, nobody_else, none_is_one, of_part}
 use Rattle.apply_events.proofs.Waits.Moments.{no_later_both}
 
-module _ (when : Event → Moment) where
+module _ (when : Event → LaneTime) where
   pub precedes_both : (e f : Event) → Precedes when e f → Precedes when f e → e.worker ≡ f.worker
   precedes_both e f p q =
       let same : when e ≡ when f = no_later_both (when e) (when f) p.0 q.0 in

@@ -11,11 +11,11 @@ use Rattle.std.proofs.lemmas.List.Elements.{All-head, All-tail}
 use Rattle.std.proofs.lemmas.List.Sorted.{All-permutation, sum_by_popped}
 use Rattle.std.proofs.lemmas.List.Sums.{sum_by-cons}
 use Rattle.apply_model.specs.declared.script.wait.Wait.{Wait}
-use Rattle.apply_events.specs.declared.lanes.moment.Moment.{Moment}
+use Rattle.apply_events.specs.declared.lanes.lane_time.LaneTime.{LaneTime}
 use Rattle.apply_events.specs.declared.lanes.queue.ReadyTurn.{ReadyTurn}
 use Rattle.apply_events.specs.declared.lanes.queue.Waiting.{Waiting}
-use Rattle.apply_events.specs.Waits.Moment.{IsNoLater, first_moment}
-use Rattle.apply_events.specs.Waits.Queue.{IsDue, IsFirstDue, IsRipe, Stands, late_of, names_at, one_if, ready_cmp, reverse_cmp, standing, waiting_at}
+use Rattle.apply_events.specs.Waits.LaneTime.{IsNoLater, first_lane_time}
+use Rattle.apply_events.specs.Waits.Queue.{IsDue, IsFirstDue, IsRipe, Stands, ready_round_of, names_at, one_if, ready_cmp, reverse_cmp, standing, waiting_at}
 use Rattle.apply_events.proofs.Waits.Members.{in_cases, in_head, in_tail, not_in_none}
 use Rattle.apply_events.proofs.Waits.TurnSteps.{all_at}
 
@@ -37,7 +37,7 @@ none_stand waiting number (one ∷ ready) high ripe =
     let off = ap one_if (ne_eqb one.0.number number (omega arith)) in
     let rest = none_stand waiting number ready high ripe.1 in omega arith
 
--- what the order of those that are ready tells
+-- what the order of ready turns means
 three : (a b : ℕ) → ((a < b) × (nat_cmp a b ≡ Less)) ⊎ ((a ≡ b) × (nat_cmp a b ≡ Equal)) ⊎ ((b < a) × (nat_cmp a b ≡ Greater))
 three a b = ⊎_elim
     (λ (lt : a < b). inl (lt, ap (λ t. cond t Less (cond (eqb a b) Equal Greater)) (lt-ltb a b lt)))
@@ -75,7 +75,7 @@ module _ (a b : ReadyTurn) (late : is_lt (ready_cmp b a) ≡ false) where
       (λ (other : ((b.at.round ≡ a.at.round) × (nat_cmp b.at.round a.at.round ≡ Equal)) ⊎ ((a.at.round < b.at.round) × (nat_cmp b.at.round a.at.round ≡ Greater))). ⊎_elim
       (λ (same : (b.at.round ≡ a.at.round) × (nat_cmp b.at.round a.at.round ≡ Equal)). by_number second same.0 seconds same.1)
       (λ (less : (a.at.round < b.at.round) × (nat_cmp b.at.round a.at.round ≡ Greater)).
-      let is = less.0 in ((omega arith, λ _. omega arith), λ same. (let round = ap (λ (m : Moment). m.round) same in absurd (omega arith))))
+      let is = less.0 in ((omega arith, λ _. omega arith), λ same. (let round = ap (λ (m : LaneTime). m.round) same in absurd (omega arith))))
       other)
       (three b.at.round a.at.round)
 
@@ -86,7 +86,7 @@ module _ (a b : ReadyTurn) (late : is_lt (ready_cmp b a) ≡ false) where
       (λ (other : ((b.at.second ≡ a.at.second) × (nat_cmp b.at.second a.at.second ≡ Equal)) ⊎ ((a.at.second < b.at.second) × (nat_cmp b.at.second a.at.second ≡ Greater))). ⊎_elim
       (λ (same : (b.at.second ≡ a.at.second) × (nat_cmp b.at.second a.at.second ≡ Equal)). by_round same.0 same.1)
       (λ (less : (a.at.second < b.at.second) × (nat_cmp b.at.second a.at.second ≡ Greater)).
-      let is = less.0 in ((omega arith, λ same. absurd (omega arith)), λ same. (let second = ap (λ (m : Moment). m.second) same in absurd (omega arith))))
+      let is = less.0 in ((omega arith, λ same. absurd (omega arith)), λ same. (let second = ap (λ (m : LaneTime). m.second) same in absurd (omega arith))))
       other)
       (three b.at.second a.at.second)
 
@@ -97,9 +97,9 @@ bounded x (y ∷ ready) one bound there = ⊎_elim
     (λ (later : Contains ready one). bounded x ready one bound.1 later)
     (in_cases y ready one there)
 
-module _ (names : List (List Wait)) (done : Wait → Option Moment) (taken : List ℕ) (waiting : List Waiting) (ready : List (Reverse ReadyTurn)) (h : Stands names done [] first_moment taken waiting ready) where
-  -- what is due stands among those that are ready, and its moment is known
-  due_stands : (number : ℕ) → IsDue names done taken number → 0 < standing number ready
+module _ (names : List (List Wait)) (done : Wait → Option LaneTime) (started : List ℕ) (waiting : List Waiting) (ready : List (Reverse ReadyTurn)) (h : Stands names done [] first_lane_time started waiting ready) where
+  -- a due turn is in the list of ready turns, and its time is known
+  due_stands : (number : ℕ) → IsDue names done started number → 0 < standing number ready
   due_stands number due =
       let lt = due.0 in
       let missing = h.missing number lt in
@@ -109,7 +109,7 @@ module _ (names : List (List Wait)) (done : Wait → Option Moment) (taken : Lis
       let zero : (waiting_at waiting number).missing ≡ 0 = omega arith in
       let one = ap one_if (eq-eqb (waiting_at waiting number).missing 0 zero) in omega arith
 
-  pub none_due : ready ≡ [] → (number : ℕ) → IsDue names done taken number → ⊥
+  pub none_due : ready ≡ [] → (number : ℕ) → IsDue names done started number → ⊥
   none_due empty number due = let some = due_stands number due in let none = ap (standing number) empty in absurd (omega arith)
 
   module _ (one : ReadyTurn) (rest : List (Reverse ReadyTurn)) (moved : IsPermutation ready (record { 0 = one } ∷ rest)) where
@@ -119,8 +119,8 @@ module _ (names : List (List Wait)) (done : Wait → Option Moment) (taken : Lis
     popped : (number : ℕ) → standing number rest + one_if (eqb one.number number) ≡ standing number ready
     popped number = sum_by_popped (λ (x : Reverse ReadyTurn). one_if (eqb x.0.number number)) (record { 0 = one }) ready rest moved
 
-    pub is_taken_first : IsUpperBound reverse_cmp (record { 0 = one }) ready → IsFirstDue names done taken one
-    is_taken_first bound =
+    pub is_started_first : IsUpperBound reverse_cmp (record { 0 = one }) ready → IsFirstDue names done started one
+    is_started_first bound =
         let size = h.size in
         let low = first_ripe.0 in
         let number = one.number in
@@ -134,16 +134,16 @@ module _ (names : List (List Wait)) (done : Wait → Option Moment) (taken : Lis
           due = (omega arith, omega arith, omega arith);
           at = sym (h.late number (omega arith)) ∙ first_ripe.2;
           first = λ other due. (
-              let found = some_stand other ready (due_stands other due) in
-              let ripe = all_at (IsRipe waiting) ready found.0 h.ripe found.1 in
-              let late : found.0.0.at ≡ late_of done (names_at names other) = sym ripe.2 ∙ ap (λ j. (waiting_at waiting j).at) found.2 ∙ h.late other due.0 in
-              let order = not_before one found.0.0 (bounded (record { 0 = one }) ready found.0 bound found.1) in
-              let is = found.2 in
+              let answer = some_stand other ready (due_stands other due) in
+              let ripe = all_at (IsRipe waiting) ready answer.0 h.ripe answer.1 in
+              let late : answer.0.0.at ≡ ready_round_of done (names_at names other) = sym ripe.2 ∙ ap (λ j. (waiting_at waiting j).at) answer.2 ∙ h.late other due.0 in
+              let order = not_before one answer.0.0 (bounded (record { 0 = one }) ready answer.0 bound answer.1) in
+              let is = answer.2 in
               (subst (IsNoLater one.at) late order.0, λ same. (let before = order.1 (same ∙ sym late) in omega arith)));
         }
 
-    pub is_taken_out : IsHeap reverse_cmp rest → Stands names done [] first_moment (one.number ∷ taken) waiting rest
-    is_taken_out heap = record {
+    pub is_started_out : IsHeap reverse_cmp rest → Stands names done [] first_lane_time (one.number ∷ started) waiting rest
+    is_started_out heap = record {
       size = h.size;
       known = tt;
       missing = h.missing;

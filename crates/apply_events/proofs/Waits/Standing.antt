@@ -8,25 +8,25 @@ use Rattle.std.proofs.lemmas.List.{get_or-set_other, get_or-set_same, length-set
 use Rattle.std.proofs.lemmas.List.Elements.{All-cons, All-weaker}
 use Rattle.std.proofs.lemmas.List.Sorted.{All-permutation, sum_by_pushed}
 use Rattle.apply_model.specs.declared.script.wait.Wait.{Wait}
-use Rattle.apply_events.specs.declared.lanes.moment.Moment.{Moment}
+use Rattle.apply_events.specs.declared.lanes.lane_time.LaneTime.{LaneTime}
 use Rattle.apply_events.specs.declared.lanes.queue.ReadyTurn.{ReadyTurn}
 use Rattle.apply_events.specs.declared.lanes.queue.Waiting.{Waiting}
-use Rattle.apply_events.specs.Waits.Moment.{first_moment, later_of, next_round}
-use Rattle.apply_events.specs.Waits.Queue.{IsRipe, Stands, is_same_wait, late_after, late_if, late_of, named, names_at, one_if, open_if, open_of, put, reverse_cmp, times, waiting_at}
+use Rattle.apply_events.specs.Waits.LaneTime.{first_lane_time, later_of, next_round}
+use Rattle.apply_events.specs.Waits.Queue.{IsRipe, Stands, is_same_wait, late_after, later_round_if, ready_round_of, named, names_at, one_if, missing_if, missing_count, with_step_done, reverse_cmp, times, waiting_at}
 use Rattle.apply_events.proofs.Waits.Followers.{same_wait}
 use Rattle.apply_events.proofs.Waits.Moments.{first_no_later, later_no_later, no_later_both, no_later_on, no_later_refl, second_no_later}
 
--- ---- the later of two moments
+-- ---- the later of two times
 
-later_same : (a : Moment) → later_of a a ≡ a
+later_same : (a : LaneTime) → later_of a a ≡ a
 later_same a = no_later_both (later_of a a) a (later_no_later a a a (no_later_refl a) (no_later_refl a)) (first_no_later a a)
 
-later_comm : (a b : Moment) → later_of a b ≡ later_of b a
+later_comm : (a b : LaneTime) → later_of a b ≡ later_of b a
 later_comm a b = no_later_both (later_of a b) (later_of b a)
     (later_no_later a b (later_of b a) (second_no_later b a) (first_no_later b a))
     (later_no_later b a (later_of a b) (second_no_later a b) (first_no_later a b))
 
-later_assoc : (a b c : Moment) → later_of (later_of a b) c ≡ later_of a (later_of b c)
+later_assoc : (a b c : LaneTime) → later_of (later_of a b) c ≡ later_of a (later_of b c)
 later_assoc a b c =
     let left = later_of (later_of a b) c in let right = later_of a (later_of b c) in
     no_later_both left right
@@ -37,7 +37,7 @@ later_assoc a b c =
     (later_no_later b c left (no_later_on b (later_of a b) left (second_no_later a b) (first_no_later (later_of a b) c)) (second_no_later (later_of a b) c)))
 
 -- what comes to be later once stays so
-after_once : (more : ℕ) (later at : Moment) → late_after more later (later_of at later) ≡ later_of at later
+after_once : (more : ℕ) (later at : LaneTime) → late_after more later (later_of at later) ≡ later_of at later
 after_once zero later at = refl
 after_once (suc more) later at = later_assoc at later later ∙ ap (later_of at) (later_same later)
 
@@ -52,63 +52,63 @@ other_way a b differ = ⊎_elim
     (cases_Bool (is_same_wait b a))
 
 -- one that was not
-module _ (done : Wait → Option Moment) (step : Wait) (at : Moment) (new : done step ≡ None) where
-  pub open_put : (names : List Wait) → open_of done names ≡ open_of (put done step at) names + named step names
+module _ (done : Wait → Option LaneTime) (step : Wait) (at : LaneTime) (new : done step ≡ None) where
+  pub open_put : (names : List Wait) → missing_count done names ≡ missing_count (with_step_done done step at) names + named step names
   open_put [] = refl
   open_put (name ∷ names) =
       let rest = open_put names in ⊎_elim
       (λ (same : is_same_wait step name ≡ true).
       let it : step ≡ name = same_wait step name same in
-      let before : open_if (done name) ≡ 1 = ap open_if (sym (ap done it) ∙ new) in
-      let after : open_if (put done step at name) ≡ 0 = ap (λ t. open_if (cond t (Some at) (done name))) same in
+      let before : missing_if (done name) ≡ 1 = ap missing_if (sym (ap done it) ∙ new) in
+      let after : missing_if (with_step_done done step at name) ≡ 0 = ap (λ t. missing_if (cond t (Some at) (done name))) same in
       let count : one_if (is_same_wait name step) ≡ 1 = ap one_if (ap (λ n. is_same_wait n step) (sym it) ∙ ap (is_same_wait step) it ∙ same) in omega arith)
       (λ (differ : is_same_wait step name ≡ false).
-      let after : open_if (put done step at name) ≡ open_if (done name) = ap (λ t. open_if (cond t (Some at) (done name))) differ in
+      let after : missing_if (with_step_done done step at name) ≡ missing_if (done name) = ap (λ t. missing_if (cond t (Some at) (done name))) differ in
       let count : one_if (is_same_wait name step) ≡ 0 = ap one_if (other_way step name differ) in omega arith)
       (cases_Bool (is_same_wait step name))
 
-  pub late_put : (names : List Wait) → late_of (put done step at) names ≡ late_after (named step names) (next_round at) (late_of done names)
+  pub late_put : (names : List Wait) → ready_round_of (with_step_done done step at) names ≡ late_after (named step names) (next_round at) (ready_round_of done names)
   late_put [] = refl
   late_put (name ∷ names) =
       let later = next_round at in
-      let before = late_of done names in
+      let before = ready_round_of done names in
       let rest = late_put names in ⊎_elim
       (λ (same : is_same_wait step name ≡ true).
       let it : step ≡ name = same_wait step name same in
-      let old : late_if (done name) before ≡ before = ap (λ d. late_if d before) (sym (ap done it) ∙ new) in
+      let old : later_round_if (done name) before ≡ before = ap (λ d. later_round_if d before) (sym (ap done it) ∙ new) in
       let mine : one_if (is_same_wait name step) ≡ 1 = ap one_if (ap (λ n. is_same_wait n step) (sym it) ∙ ap (is_same_wait step) it ∙ same) in
       let count : named step (name ∷ names) ≡ suc (named step names) = omega arith in
-      ap (λ t. late_if (cond t (Some at) (done name)) (late_of (put done step at) names)) same
+      ap (λ t. later_round_if (cond t (Some at) (done name)) (ready_round_of (with_step_done done step at) names)) same
       ∙ ap (later_of later) rest ∙ joined (named step names) later before
-      ∙ sym (ap (λ n. late_after n later (late_if (done name) before)) count ∙ ap (λ m. later_of m later) old))
+      ∙ sym (ap (λ n. late_after n later (later_round_if (done name) before)) count ∙ ap (λ m. later_of m later) old))
       (λ (differ : is_same_wait step name ≡ false).
       let mine : one_if (is_same_wait name step) ≡ 0 = ap one_if (other_way step name differ) in
       let count : named step (name ∷ names) ≡ named step names = omega arith in
-      ap (λ t. late_if (cond t (Some at) (done name)) (late_of (put done step at) names)) differ
-      ∙ ap (late_if (done name)) rest ∙ passed (done name) (named step names) later before
-      ∙ sym (ap (λ n. late_after n later (late_if (done name) before)) count))
+      ap (λ t. later_round_if (cond t (Some at) (done name)) (ready_round_of (with_step_done done step at) names)) differ
+      ∙ ap (later_round_if (done name)) rest ∙ passed (done name) (named step names) later before
+      ∙ sym (ap (λ n. late_after n later (later_round_if (done name) before)) count))
       (cases_Bool (is_same_wait step name))
     where
-      joined : (n : ℕ) (later before : Moment) → later_of later (late_after n later before) ≡ later_of before later
+      joined : (n : ℕ) (later before : LaneTime) → later_of later (late_after n later before) ≡ later_of before later
       joined zero later before = later_comm later before
       joined (suc n) later before = later_comm later (later_of before later) ∙ later_assoc before later later ∙ ap (later_of before) (later_same later)
 
-      passed : (found : Option Moment) (n : ℕ) (later before : Moment) → late_if found (late_after n later before) ≡ late_after n later (late_if found before)
+      passed : (answer : Option LaneTime) (n : ℕ) (later before : LaneTime) → later_round_if answer (late_after n later before) ≡ late_after n later (later_round_if answer before)
       passed None n later before = refl
       passed (Some m) zero later before = refl
       passed (Some m) (suc n) later before = sym (later_assoc (next_round m) before later)
 
 -- ---- the queue hears of one
 
-pub some_missing : (names : List (List Wait)) (done : Wait → Option Moment) (left : List ℕ) (later : Moment) (taken : List ℕ) (waiting : List Waiting) (ready : List (Reverse ReadyTurn))
-    (number : ℕ) → Stands names done (number ∷ left) later taken waiting ready → number < length waiting → 0 < (waiting_at waiting number).missing
-some_missing names done left later taken waiting ready number h known =
+pub some_missing : (names : List (List Wait)) (done : Wait → Option LaneTime) (left : List ℕ) (later : LaneTime) (started : List ℕ) (waiting : List Waiting) (ready : List (Reverse ReadyTurn))
+    (number : ℕ) → Stands names done (number ∷ left) later started waiting ready → number < length waiting → 0 < (waiting_at waiting number).missing
+some_missing names done left later started waiting ready number h known =
     let size = h.size in
     let is = h.missing number (omega arith) in
     let itself = ap one_if (eq-eqb number number refl) in omega arith
 
-module _ (names : List (List Wait)) (done : Wait → Option Moment) (left : List ℕ) (later : Moment) (taken : List ℕ) (waiting after : List Waiting) (ready : List (Reverse ReadyTurn))
-    (number : ℕ) (h : Stands names done (number ∷ left) later taken waiting ready) (known : number < length waiting)
+module _ (names : List (List Wait)) (done : Wait → Option LaneTime) (left : List ℕ) (later : LaneTime) (started : List ℕ) (waiting after : List Waiting) (ready : List (Reverse ReadyTurn))
+    (number : ℕ) (h : Stands names done (number ∷ left) later started waiting ready) (known : number < length waiting)
     (next : after ≡ set waiting number (record { missing = (waiting_at waiting number).missing - 1; at = later_of (waiting_at waiting number).at later })) where
   abbrev heard : Waiting
   heard = record { missing = (waiting_at waiting number).missing - 1; at = later_of (waiting_at waiting number).at later }
@@ -117,13 +117,13 @@ module _ (names : List (List Wait)) (done : Wait → Option Moment) (left : List
   itself = let same = ap one_if (eq-eqb number number refl) in omega arith
 
   is_missing : 0 < (waiting_at waiting number).missing
-  is_missing = some_missing names done left later taken waiting ready number h known
+  is_missing = some_missing names done left later started waiting ready number h known
 
   here : waiting_at after number ≡ heard
-  here = ap (λ l. waiting_at l number) next ∙ get_or-set_same waiting number heard (record { missing = 0; at = first_moment }) known
+  here = ap (λ l. waiting_at l number) next ∙ get_or-set_same waiting number heard (record { missing = 0; at = first_lane_time }) known
 
   there : (k : ℕ) → k ≢ number → waiting_at after k ≡ waiting_at waiting k
-  there k ne = ap (λ l. waiting_at l k) next ∙ get_or-set_other waiting number k heard (record { missing = 0; at = first_moment }) ne
+  there k ne = ap (λ l. waiting_at l k) next ∙ get_or-set_other waiting number k heard (record { missing = 0; at = first_lane_time }) ne
 
   other : (k : ℕ) → k ≢ number → times k (number ∷ left) ≡ times k left
   other k ne = let off = ap one_if (ne_eqb number k (λ is. ne (sym is))) in omega arith
@@ -131,26 +131,26 @@ module _ (names : List (List Wait)) (done : Wait → Option Moment) (left : List
   sizes : length after ≡ length waiting
   sizes = ap length next ∙ length-set waiting number heard
 
-  missing_heard : (k : ℕ) → k < length names → (waiting_at after k).missing ≡ open_of done (names_at names k) + times k left
+  missing_heard : (k : ℕ) → k < length names → (waiting_at after k).missing ≡ missing_count done (names_at names k) + times k left
   missing_heard k lt = ⊎_elim
       (λ (is : k ≡ number).
       let size = h.size in
       let old = h.missing number (omega arith) in
       let count = itself in
       let new : (waiting_at after number).missing ≡ (waiting_at waiting number).missing - 1 = ap (λ (x : Waiting). x.missing) here in
-      subst (λ j. (waiting_at after j).missing ≡ open_of done (names_at names j) + times j left) (sym is) (omega arith))
+      subst (λ j. (waiting_at after j).missing ≡ missing_count done (names_at names j) + times j left) (sym is) (omega arith))
       (λ (ne : k ≢ number).
       let old = h.missing k lt in
       let same : (waiting_at after k).missing ≡ (waiting_at waiting k).missing = ap (λ (x : Waiting). x.missing) (there k ne) in
       let count = other k ne in omega arith)
       (cases_eq k number)
 
-  late_heard : (k : ℕ) → k < length names → late_after (times k left) later (waiting_at after k).at ≡ late_of done (names_at names k)
+  late_heard : (k : ℕ) → k < length names → late_after (times k left) later (waiting_at after k).at ≡ ready_round_of done (names_at names k)
   late_heard k lt = ⊎_elim
       (λ (is : k ≡ number).
       let size = h.size in
       let at = (waiting_at waiting number).at in
-      subst (λ j. late_after (times j left) later (waiting_at after j).at ≡ late_of done (names_at names j)) (sym is)
+      subst (λ j. late_after (times j left) later (waiting_at after j).at ≡ ready_round_of done (names_at names j)) (sym is)
       (ap (λ (x : Waiting). late_after (times number left) later x.at) here ∙ after_once (times number left) later at
       ∙ sym (ap (λ n. late_after n later at) itself) ∙ h.late number (omega arith)))
       (λ (ne : k ≢ number).
@@ -165,7 +165,7 @@ module _ (names : List (List Wait)) (done : Wait → Option Moment) (left : List
       (omega arith, ap (λ (x : Waiting). x.missing) (there one.0.number apart) ∙ ripe.1, ap (λ (x : Waiting). x.at) (there one.0.number apart) ∙ ripe.2))
       ready h.ripe
 
-  pub hears : (waiting_at waiting number).missing - 1 ≢ 0 → Stands names done left later taken after ready
+  pub hears : (waiting_at waiting number).missing - 1 ≢ 0 → Stands names done left later started after ready
   hears more = record {
     size = sizes ∙ h.size;
     known = h.known.1;
@@ -184,9 +184,9 @@ module _ (names : List (List Wait)) (done : Wait → Option Moment) (left : List
     heap = h.heap;
   }
 
-  pub hears_last : (more : List (Reverse ReadyTurn)) (at : Moment) → (waiting_at waiting number).missing - 1 ≡ 0 → at ≡ later_of (waiting_at waiting number).at later
+  pub hears_last : (more : List (Reverse ReadyTurn)) (at : LaneTime) → (waiting_at waiting number).missing - 1 ≡ 0 → at ≡ later_of (waiting_at waiting number).at later
       → IsPermutation ((record { 0 = record { at = at; number = number } }) ∷ ready) more
-      → IsHeap reverse_cmp more → Stands names done left later taken after more
+      → IsHeap reverse_cmp more → Stands names done left later started after more
   hears_last more at last is_at moved heap =
       let new : Reverse ReadyTurn = record { 0 = record { at = at; number = number } } in
       let pushed = λ (k : ℕ). sum_by_pushed (λ (one : Reverse ReadyTurn). one_if (eqb one.0.number k)) new ready more moved in
@@ -222,7 +222,7 @@ any_default [] k d e lt = absurd (omega arith)
 any_default (x ∷ xs) zero d e lt = refl
 any_default (x ∷ xs) (suc k) d e lt = any_default xs k d e (omega arith)
 
-pub written : (waiting : List Waiting) (number : ℕ) (x : Waiting) (at later : Moment) → waiting_at waiting number ≡ x → at ≡ later_of x.at later
+pub written : (waiting : List Waiting) (number : ℕ) (x : Waiting) (at later : LaneTime) → waiting_at waiting number ≡ x → at ≡ later_of x.at later
     → set waiting number (let y : Waiting = record { missing = x.missing - 1; at = at } in y)
     ≡ set waiting number (let y : Waiting = record { missing = (waiting_at waiting number).missing - 1; at = later_of (waiting_at waiting number).at later } in y)
 written waiting number x at later same is =

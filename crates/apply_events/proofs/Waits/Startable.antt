@@ -1,4 +1,4 @@
--- Each turn that the schedule takes up can be begun when it is.
+-- Each turn of the schedule can begin when it starts.
 use Rattle.std.proofs.Common.{◌≡◌, ◌≢◌, ℕ, zero, suc, ◌+◌, ◌-◌, ◌*◌, ◌<◌, ◌≤◌, All, Bool, true, false, ◌&&◌, ◌||◌, List, [], ◌∷◌, ◌++◌, Option, Some, None, cond, drop, length, map, refl, sym, ap, ◌∙◌, subst, ⊎_elim, inl, inr, arith, eqb, eq-eqb, ne_eqb}
 use Rattle.std.specs.List.{Contains, enumerate_from, range_with_len}
 use Rattle.std.specs.Prelude.{is_some}
@@ -12,23 +12,23 @@ use Rattle.apply_model.specs.declared.plan.step_kind.StepKind.{StepKind}
 use Rattle.apply_model.specs.Script.Limits.{max_seconds}
 use Rattle.apply_model.specs.Script.Outcome.{IsBounded}
 use Rattle.apply_model.specs.Script.OutcomeMap.{outcome_of}
-use Rattle.apply_events.specs.declared.lanes.taken.Taken.{Taken}
+use Rattle.apply_events.specs.declared.lanes.turn.StartedTurn.{StartedTurn}
 use Rattle.apply_events.specs.declared.lanes.turn.Turn.{Turn}
 use Rattle.apply_events.specs.Lanes.Startable.{AreWithinLimits, IsStartable, has_turn, is_that_turn}
 use Rattle.apply_events.specs.Step.{Step, Work, kinds_applied, kinds_of, step_of, steps_of}
 use Rattle.apply_events.specs.StepEvents.{seconds_of, step_time}
 use Rattle.apply_events.specs.Waits.Done.{ready_at}
-use Rattle.apply_events.specs.Waits.Schedule.{is_same_turn, is_taken, schedule}
-use Rattle.apply_events.specs.Waits.TakenUp.{WereTakenUp}
+use Rattle.apply_events.specs.Waits.Schedule.{is_same_turn, is_started, schedule}
+use Rattle.apply_events.specs.Waits.StartedTurns.{WereStarted}
 use Rattle.apply_events.specs.Waits.Turn.{begun_steps, single, turns, turns_of, whole}
 use Rattle.apply_events.proofs.AppliedSteps.{few_applied}
 use Rattle.apply_events.proofs.TimeLines.Few.{IsSmall, small_step}
-use Rattle.apply_events.proofs.Waits.DoneBefore.{IsBehindFirst, behind_first}
+use Rattle.apply_events.proofs.Waits.DoneBefore.{IsAfterFirst, after_first}
 use Rattle.apply_events.proofs.Waits.Ends.{each_begins, time_of, total}
 use Rattle.apply_events.proofs.Waits.Members.{any_in, flat_map_in, in_any, in_cases, in_flat_map, in_head, in_split, in_tail, not_in_none}
 use Rattle.apply_events.proofs.Waits.Once.{IsTurnOf, is_split, turn_is}
-use Rattle.apply_events.proofs.Waits.Shares.{AreTwoEach, one_taken, open_shares, share, shares, two_behind}
-use Rattle.apply_events.proofs.Waits.TakenUp.{each_split, taken_up}
+use Rattle.apply_events.proofs.Waits.Shares.{AreTwoEach, one_more_started, open_shares, share, shares, two_after}
+use Rattle.apply_events.proofs.Waits.StartedTurns.{each_split, were_started}
 use Rattle.apply_events.proofs.Waits.TurnSteps.{all_at, begun_of_change, begun_within, length-begun, steps_of_turn}
 
 -- ---- a plan and a script within the limits
@@ -59,7 +59,7 @@ begun_small w turn limits =
 no_halt_longer : (w : Work) (s : Step) → IsSmall s → step_time s ≤ max_seconds
 no_halt_longer w s small = let short = small.short in halted (s.halts Pre) short
   where
-    halted : (found : Option ℕ) → seconds_of s ≤ 86400 → cond (is_some found) 0 (seconds_of s) ≤ max_seconds
+    halted : (answer : Option ℕ) → seconds_of s ≤ 86400 → cond (is_some answer) 0 (seconds_of s) ≤ max_seconds
     halted None short = omega arith
     halted (Some hook) short = omega arith
 
@@ -87,9 +87,9 @@ change_of w c turn false there = ⊎_elim
 
 pub known_change : (w : Work) (turn : Turn) → Contains (turns w) turn → turn.change < length w.plan.changes
 known_change w turn known =
-    let found = flat_map_in (turns_of w) (range_with_len 0 (length w.plan.changes)) turn known in
-    let high = (in_range 0 (length w.plan.changes) found.0 found.1).1 in
-    let is = change_of w found.0 turn (is_split w found.0) found.2 in omega arith
+    let answer = flat_map_in (turns_of w) (range_with_len 0 (length w.plan.changes)) turn known in
+    let high = (in_range 0 (length w.plan.changes) answer.0 answer.1).1 in
+    let is = change_of w answer.0 turn (is_split w answer.0) answer.2 in omega arith
 
 that_itself : (turn : Turn) → is_that_turn turn turn ≡ true
 that_itself turn =
@@ -132,85 +132,85 @@ turn_facts w turn few (inr (split, inr one)) =
 
 pub few_begun : (w : Work) (turn : Turn) → length (begun_steps w turn) ≤ turn.count
 few_begun w turn =
-    let less = length-begun (steps_of_turn w turn) in let taken = length-take turn.count (drop turn.first (steps_of w turn.change)) in omega arith
+    let less = length-begun (steps_of_turn w turn) in let started = length-take turn.count (drop turn.first (steps_of w turn.change)) in omega arith
 
-pub time_within : (w : Work) (one : Taken) → AreWithinLimits w.plan w.script one.turn.change → time_of w one ≤ max_seconds * one.turn.count
+pub time_within : (w : Work) (one : StartedTurn) → AreWithinLimits w.plan w.script one.turn.change → time_of w one ≤ max_seconds * one.turn.count
 time_within w one limits =
     let few = few_begun w one.turn in
     let each = All-weaker IsSmall (λ s. step_time s ≤ max_seconds) (no_halt_longer w) (begun_steps w one.turn) (begun_small w one.turn limits) in
     let all = sum_by-le step_time max_seconds (begun_steps w one.turn) each in omega arith
 
-pub total_within : (w : Work) (taken : List Taken) → length w.plan.changes ≤ 10000 → AllWithin w → ((one : Taken) → Contains taken one → Contains (turns w) one.turn) → total w taken ≤ max_seconds * shares w taken
+pub total_within : (w : Work) (started : List StartedTurn) → length w.plan.changes ≤ 10000 → AllWithin w → ((one : StartedTurn) → Contains started one → Contains (turns w) one.turn) → total w started ≤ max_seconds * shares w started
 total_within w [] few within known = omega arith
-total_within w (one ∷ taken) few within known =
-    let here = known one (in_head one taken) in
+total_within w (one ∷ started) few within known =
+    let here = known one (in_head one started) in
     let limits = within one.turn.change (known_change w one.turn here) in
     let facts = turn_facts w one.turn limits.few (turn_is w one.turn here) in
     let count = facts.share in
     let time = time_within w one limits in
-    let rest = total_within w taken few within (λ x there. known x (in_tail one taken x there)) in
-    let times : total w (one ∷ taken) ≡ time_of w one + total w taken = sum_by-cons (time_of w) one taken in
-    let sum : shares w (one ∷ taken) ≡ share w one.turn + shares w taken = sum_by-cons (λ (x : Taken). share w x.turn) one taken in omega arith
+    let rest = total_within w started few within (λ x there. known x (in_tail one started x there)) in
+    let times : total w (one ∷ started) ≡ time_of w one + total w started = sum_by-cons (time_of w) one started in
+    let sum : shares w (one ∷ started) ≡ share w one.turn + shares w started = sum_by-cons (λ (x : StartedTurn). share w x.turn) one started in omega arith
 
--- ---- a turn that is taken up
+-- ---- a turn that starts
 
 module _ (w : Work) (n : ℕ) (some : 0 < n) (few : length w.plan.changes ≤ 10000) (within : AllWithin w) where
-  up : WereTakenUp w n (schedule w n)
-  up = taken_up w n some
+  up : WereStarted w n (schedule w n)
+  up = were_started w n some
 
-  -- what is behind one that was taken up
-  pub record Place (one : Taken) (before : List Taken) : Type 0 where
-    pub later : List Taken
+  -- the turns before a started turn
+  pub record Place (one : StartedTurn) (before : List StartedTurn) : Type 0 where
+    pub later : List StartedTurn
     pub is : schedule w n ≡ later ++ one ∷ before
 
-  known_before : (one : Taken) (before : List Taken) → Place one before → (x : Taken) → Contains before x → Contains (turns w) x.turn
+  known_before : (one : StartedTurn) (before : List StartedTurn) → Place one before → (x : StartedTurn) → Contains before x → Contains (turns w) x.turn
   known_before one before place x there =
-      all_at (λ (y : Taken). Contains (turns w) y.turn) (schedule w n) x up.known
+      all_at (λ (y : StartedTurn). Contains (turns w) y.turn) (schedule w n) x up.known
       (subst (λ l. Contains l x) (sym place.is) (Contains-append_right place.later (one ∷ before) x (in_tail one before x there)))
 
-  known_here : (one : Taken) (before : List Taken) → Place one before → Contains (turns w) one.turn
+  known_here : (one : StartedTurn) (before : List StartedTurn) → Place one before → Contains (turns w) one.turn
   known_here one before place =
-      all_at (λ (y : Taken). Contains (turns w) y.turn) (schedule w n) one up.known (subst (λ l. Contains l one) (sym place.is) (Contains-append_right place.later (one ∷ before) one (in_head one before)))
+      all_at (λ (y : StartedTurn). Contains (turns w) y.turn) (schedule w n) one up.known (subst (λ l. Contains l one) (sym place.is) (Contains-append_right place.later (one ∷ before) one (in_head one before)))
 
-  -- where the second step of its change was taken up, the first was before it
-  second_behind : (one : Taken) (before front rest : List Taken) (second : Taken) → Place one before → before ≡ front ++ second ∷ rest → second.turn ≡ single one.turn.change 1
-      → IsBehindFirst w one.turn.change rest second.begin
-  second_behind one before front rest second place split its =
+  -- if the second step of a change was started, the first step was started before it
+  second_after : (one : StartedTurn) (before front rest : List StartedTurn) (second : StartedTurn) → Place one before → before ≡ front ++ second ∷ rest → second.turn ≡ single one.turn.change 1
+      → IsAfterFirst w one.turn.change rest second.begin
+  second_after one before front rest second place split its =
       let all : schedule w n ≡ (place.later ++ one ∷ front) ++ second ∷ rest =
       place.is ∙ ap (λ l. place.later ++ one ∷ l) split ∙ sym (append_assoc place.later (one ∷ front) (second ∷ rest)) in
       let ready = up.ready (place.later ++ one ∷ front) rest second all in
-      behind_first w one.turn.change rest ready.at second.begin (sym (ap (ready_at w rest) its) ∙ ready.ready) ready.in_time
+      after_first w one.turn.change rest ready.at second.begin (sym (ap (ready_at w rest) its) ∙ ready.ready) ready.in_time
 
-  -- so that it would be taken up twice
-  first_again : (one : Taken) (before front rest : List Taken) (second : Taken) → before ≡ front ++ second ∷ rest → one.turn.first ≡ 0 → IsBehindFirst w one.turn.change rest second.begin
-      → is_taken before one.turn ≡ true
-  first_again one before front rest second split first behind =
-      let other = behind.one in
-      let inside : Contains before other = subst (λ l. Contains l other) (sym split) (Contains-append_right front (second ∷ rest) other (in_tail second rest other behind.there)) in
-      let low = (begun_within w other.turn behind.step.0 behind.step.1).0 in
-      let number = behind.step.2 in
+  -- so the first step would start twice
+  first_again : (one : StartedTurn) (before front rest : List StartedTurn) (second : StartedTurn) → before ≡ front ++ second ∷ rest → one.turn.first ≡ 0 → IsAfterFirst w one.turn.change rest second.begin
+      → is_started before one.turn ≡ true
+  first_again one before front rest second split first later_events =
+      let other = later_events.one in
+      let inside : Contains before other = subst (λ l. Contains l other) (sym split) (Contains-append_right front (second ∷ rest) other (in_tail second rest other later_events.there)) in
+      let low = (begun_within w other.turn later_events.step.0 later_events.step.1).0 in
+      let number = later_events.step.2 in
       let zero : other.turn.first ≡ one.turn.first = omega arith in
-      any_in (λ (x : Taken). is_same_turn x.turn one.turn) before other inside
-      (ap (λ t. t && eqb other.turn.first one.turn.first) (eq-eqb other.turn.change one.turn.change behind.change) ∙ eq-eqb other.turn.first one.turn.first zero)
+      any_in (λ (x : StartedTurn). is_same_turn x.turn one.turn) before other inside
+      (ap (λ t. t && eqb other.turn.first one.turn.first) (eq-eqb other.turn.change one.turn.change later_events.change) ∙ eq-eqb other.turn.first one.turn.first zero)
 
-  -- the second step of its change was not taken up before the first
-  second_is_open : (one : Taken) (before : List Taken) → Place one before → one.turn ≡ single one.turn.change 0 → is_taken before (single one.turn.change 1) ≡ false
+  -- the second step of the change was not started before the first
+  second_is_open : (one : StartedTurn) (before : List StartedTurn) → Place one before → one.turn ≡ single one.turn.change 0 → is_started before (single one.turn.change 1) ≡ false
   second_is_open one before place first = ⊎_elim
-      (λ (yes : is_taken before (single one.turn.change 1) ≡ true).
+      (λ (yes : is_started before (single one.turn.change 1) ≡ true).
       let c = one.turn.change in
-      let found = in_any (λ (x : Taken). is_same_turn x.turn (single c 1)) before yes in
-      let second = found.0 in
-      let parts = and_parts (eqb second.turn.change c) (eqb second.turn.first 1) found.2 in
+      let answer = in_any (λ (x : StartedTurn). is_same_turn x.turn (single c 1)) before yes in
+      let second = answer.0 in
+      let parts = and_parts (eqb second.turn.change c) (eqb second.turn.first 1) answer.2 in
       let change = same_number second.turn.change c parts.0 in
       let number = same_number second.turn.first 1 parts.1 in
-      let known = known_before one before place second found.1 in
+      let known = known_before one before place second answer.1 in
       let facts = turn_facts w second.turn (within second.turn.change (known_change w second.turn known)).few (turn_is w second.turn known) in
       let its : second.turn ≡ single c 1 = (facts.two (omega arith)).1 ∙ ap (λ k. single k 1) change in
-      let split = in_split before second found.1 in
-      let again = first_again one before split.0 split.1 second split.2 (ap (λ (t : Turn). t.first) first) (second_behind one before split.0 split.1 second place split.2 its) in
+      let split = in_split before second answer.1 in
+      let again = first_again one before split.0 split.1 second split.2 (ap (λ (t : Turn). t.first) first) (second_after one before split.0 split.1 second place split.2 its) in
       absurd (true≢false (sym again ∙ up.once place.later before one place.is)))
-      (λ (no : is_taken before (single one.turn.change 1) ≡ false). no)
-      (cases_Bool (is_taken before (single one.turn.change 1)))
+      (λ (no : is_started before (single one.turn.change 1) ≡ false). no)
+      (cases_Bool (is_started before (single one.turn.change 1)))
 
   second_known : (c : ℕ) → c < length w.plan.changes → is_split w c ≡ true → Contains (turns w) (single c 1)
   second_known c lt split =
@@ -224,12 +224,12 @@ module _ (w : Work) (n : ℕ) (some : 0 < n) (few : length w.plan.changes ≤ 10
           (λ (ne : k ≡ a → ⊥). in_tail a (range_with_len (a + 1) m) k (range_has (a + 1) m k (omega arith) (omega arith)))
           (cases_eq k a)
 
-  -- of its change as much is open as the turn and those behind it may take
-  open_there : (one : Taken) (before : List Taken) → Place one before → 2 - one.turn.first ≤ open_shares w before (turns w)
+  -- the change has as many open shares as the turn and the turns after it need
+  open_there : (one : StartedTurn) (before : List StartedTurn) → Place one before → 2 - one.turn.first ≤ open_shares w before (turns w)
   open_there one before place =
       let known = known_here one before place in
       let new = up.once place.later before one place.is in
-      let less = one_taken w one before (turns w) known new in
+      let less = one_more_started w one before (turns w) known new in
       of_turn (turn_is w one.turn known) less
     where
       of_turn : IsTurnOf w one.turn.change one.turn → open_shares w (one ∷ before) (turns w) + share w one.turn ≤ open_shares w before (turns w) → 2 - one.turn.first ≤ open_shares w before (turns w)
@@ -239,27 +239,27 @@ module _ (w : Work) (n : ℕ) (some : 0 < n) (few : length w.plan.changes ≤ 10
       of_turn (inr (split, inl first)) less =
           let c = one.turn.change in
           let mine : share w one.turn ≡ 1 = ap (λ (t : Bool). cond t 1 2) split in
-          let other : Taken = record { turn = single c 1; lane = 0; begin = one.begin } in
+          let other : StartedTurn = record { turn = single c 1; lane = 0; begin = one.begin } in
           let its : share w (single c 1) ≡ 1 = ap (λ (t : Bool). cond t 1 2) split in
           let apart : is_same_turn one.turn (single c 1) ≡ false =
           ap (λ t. t && eqb one.turn.first 1) (eq-eqb one.turn.change c refl) ∙ ne_eqb one.turn.first 1 (let at = ap (λ (t : Turn). t.first) first in omega arith) in
-          let new : is_taken (one ∷ before) (single c 1) ≡ false = ap (λ t. t || is_taken before (single c 1)) apart ∙ second_is_open one before place first in
-          let lesser = one_taken w other (one ∷ before) (turns w) (second_known c (known_change w one.turn (known_here one before place)) split) new in omega arith
+          let new : is_started (one ∷ before) (single c 1) ≡ false = ap (λ t. t || is_started before (single c 1)) apart ∙ second_is_open one before place first in
+          let lesser = one_more_started w other (one ∷ before) (turns w) (second_known c (known_change w one.turn (known_here one before place)) split) new in omega arith
 
-  pub startable : (one : Taken) (before : List Taken) → Place one before → IsStartable w one
+  pub startable : (one : StartedTurn) (before : List StartedTurn) → Place one before → IsStartable w one
   startable one before place =
       let known = known_here one before place in
       let change = known_change w one.turn known in
       let limits = within one.turn.change change in
       let facts = turn_facts w one.turn limits.few (turn_is w one.turn known) in
       let begins = each_split (λ before one. one.begin.second ≤ total w before) place.later before one (schedule w n) (each_begins w n some (length (turns w))) place.is in
-      let two = each_split (λ before one. AreTwoEach w before) place.later before one (schedule w n) (two_behind w n (length (turns w))) place.is in
+      let two = each_split (λ before one. AreTwoEach w before) place.later before one (schedule w n) (two_after w n (length (turns w))) place.is in
       let free = open_there one before place in
       let time = total_within w before few within (known_before one before place) in
       let ready = up.ready place.later before one place.is in
       let first = facts.first in
-      let behind : 0 < one.turn.first → IsBehindFirst w one.turn.change before one.begin =
-      λ more. behind_first w one.turn.change before ready.at one.begin (sym (ap (ready_at w before) (facts.two more).1) ∙ ready.ready) ready.in_time in
+      let later_events : 0 < one.turn.first → IsAfterFirst w one.turn.change before one.begin =
+      λ more. after_first w one.turn.change before ready.at one.begin (sym (ap (ready_at w before) (facts.two more).1) ∙ ready.ready) ready.in_time in
       record {
         known = has_it w one.turn known;
         change = change;
@@ -268,8 +268,8 @@ module _ (w : Work) (n : ℕ) (some : 0 < n) (few : length w.plan.changes ≤ 10
         last = facts.last;
         in_time = omega arith;
         has_step = λ more. (facts.two more).0;
-        went_on = λ more. (behind more).went_on;
-        late = λ more. (behind more).late;
+        went_on = λ more. (later_events more).went_on;
+        late = λ more. (later_events more).late;
       }
 
   pub all_startable : All (IsStartable w) (schedule w n)

@@ -1,4 +1,4 @@
--- The turns of a work by their numbers, and those that were taken.
+-- The turns of a work by their numbers, and the turns that were taken.
 use Rattle.std.proofs.Common.{◌≡◌, ◌≢◌, ℕ, zero, suc, ◌+◌, ◌*◌, ◌<◌, ◌≤◌, Bool, true, false, ◌||◌, List, [], ◌∷◌, ◌++◌, Option, Some, None, cond, get_or, length, refl, sym, ap, ◌∙◌, subst, ⊎_elim, arith, eqb, eq-eqb, ne_eqb, length-append}
 use Rattle.std.specs.List.{Contains, flat_map, range_with_len}
 use Rattle.std.proofs.lemmas.Bool.{and_parts, cases_Bool, cases_eq, cases_lt, true≢false}
@@ -6,18 +6,18 @@ use Rattle.apply_model.specs.declared.script.wait.Wait.{Wait}
 use Rattle.apply_model.specs.Script.OutcomeMap.{outcome_of}
 use Rattle.apply_model.specs.Script.Waits.{names_a_wait}
 use Rattle.apply_events.specs.Step.{Work, kinds_applied}
-use Rattle.apply_events.specs.declared.lanes.moment.Moment.{Moment}
-use Rattle.apply_events.specs.declared.lanes.taken.Taken.{Taken}
+use Rattle.apply_events.specs.declared.lanes.lane_time.LaneTime.{LaneTime}
+use Rattle.apply_events.specs.declared.lanes.turn.StartedTurn.{StartedTurn}
 use Rattle.apply_events.specs.declared.lanes.turn.Turn.{Turn}
-use Rattle.apply_events.specs.Waits.Done.{done_at, done_in, first_found}
+use Rattle.apply_events.specs.Waits.Done.{done_at, done_in, first_some}
 use Rattle.apply_events.specs.Waits.Queue.{one_if, times}
-use Rattle.apply_events.specs.Waits.Schedule.{is_same_turn, is_taken}
+use Rattle.apply_events.specs.Waits.Schedule.{is_same_turn, is_started}
 use Rattle.apply_events.specs.Waits.Turn.{single, turns, turns_of, whole}
 use Rattle.apply_events.proofs.Waits.Followers.{from_test}
 use Rattle.apply_events.proofs.Waits.Once.{IsTurnOf, is_split, same_turn, turn_is}
 use Rattle.apply_events.proofs.Waits.Standing.{any_default}
-use Rattle.apply_events.proofs.Waits.TakenUp.{same_itself}
-use Rattle.apply_events.proofs.Waits.TurnEvents.{done_there}
+use Rattle.apply_events.proofs.Waits.StartedTurns.{same_itself}
+use Rattle.apply_events.proofs.Waits.TurnEvents.{done_in_turn}
 use Rattle.apply_events.proofs.Waits.TurnSteps.{begun_within}
 
 -- ---- each turn is another
@@ -25,7 +25,7 @@ use Rattle.apply_events.proofs.Waits.TurnSteps.{begun_within}
 abbrev key : Turn → ℕ
 key turn = 2 * turn.change + turn.first
 
--- turns of changes below a limit, of steps that their changes have, each behind those before it
+-- turns of changes below a limit, of steps that their changes have, each after the turns before it
 abbrev Ascend : Work → (low limit : ℕ) → List Turn → Type 0
 Ascend w low limit [] = Unit {0}
 Ascend w low limit (turn ∷ ts) =
@@ -107,39 +107,39 @@ turn_in ts k lt = (k, lt, any_default ts k (turn_at ts k) (record { change = 0; 
 -- ---- the turns that were taken
 
 -- those turns have these numbers
-abbrev pub HaveNumbers : List Turn → List ℕ → List Taken → Type 0
+abbrev pub HaveNumbers : List Turn → List ℕ → List StartedTurn → Type 0
 HaveNumbers ts [] [] = Unit {0}
-HaveNumbers ts [] (one ∷ taken) = ⊥
+HaveNumbers ts [] (one ∷ started) = ⊥
 HaveNumbers ts (number ∷ numbers) [] = ⊥
-HaveNumbers ts (number ∷ numbers) (one ∷ taken) = (number < length ts) × (one.turn ≡ turn_at ts number) × HaveNumbers ts numbers taken
+HaveNumbers ts (number ∷ numbers) (one ∷ started) = (number < length ts) × (one.turn ≡ turn_at ts number) × HaveNumbers ts numbers started
 
 module _ (w : Work) where
-  pub not_taken : (numbers : List ℕ) (taken : List Taken) (k : ℕ) → HaveNumbers (turns w) numbers taken → k < length (turns w) → times k numbers ≡ 0 → is_taken taken (turn_at (turns w) k) ≡ false
-  not_taken [] [] k h lt none = refl
-  not_taken [] (one ∷ taken) k h lt none = absurd h
-  not_taken (number ∷ numbers) [] k h lt none = absurd h
-  not_taken (number ∷ numbers) (one ∷ taken) k h lt none =
-      let rest : is_taken taken (turn_at (turns w) k) ≡ false = not_taken numbers taken k h.2 lt (omega arith) in
+  pub not_started : (numbers : List ℕ) (started : List StartedTurn) (k : ℕ) → HaveNumbers (turns w) numbers started → k < length (turns w) → times k numbers ≡ 0 → is_started started (turn_at (turns w) k) ≡ false
+  not_started [] [] k h lt none = refl
+  not_started [] (one ∷ started) k h lt none = absurd h
+  not_started (number ∷ numbers) [] k h lt none = absurd h
+  not_started (number ∷ numbers) (one ∷ started) k h lt none =
+      let rest : is_started started (turn_at (turns w) k) ≡ false = not_started numbers started k h.2 lt (omega arith) in
       let other : number ≢ k = λ is. (let itself = ap one_if (eq-eqb number k is) in absurd (omega arith)) in ⊎_elim
       (λ (same : is_same_turn one.turn (turn_at (turns w) k) ≡ true).
       absurd (other (same_number w number k h.0 lt (sym (ap (λ t. is_same_turn t (turn_at (turns w) k)) h.1) ∙ same))))
-      (λ (differ : is_same_turn one.turn (turn_at (turns w) k) ≡ false). ap (λ t. t || is_taken taken (turn_at (turns w) k)) differ ∙ rest)
+      (λ (differ : is_same_turn one.turn (turn_at (turns w) k) ≡ false). ap (λ t. t || is_started started (turn_at (turns w) k)) differ ∙ rest)
       (cases_Bool (is_same_turn one.turn (turn_at (turns w) k)))
 
   either : (t u : Bool) → u ≡ true → (t || u) ≡ true
   either true u is = refl
   either false u is = is
 
-  pub was_taken : (numbers : List ℕ) (taken : List Taken) (k : ℕ) → HaveNumbers (turns w) numbers taken → 0 < times k numbers → is_taken taken (turn_at (turns w) k) ≡ true
-  was_taken [] taken k h some = absurd (omega arith)
-  was_taken (number ∷ numbers) [] k h some = absurd h
-  was_taken (number ∷ numbers) (one ∷ taken) k h some = ⊎_elim
+  pub was_started : (numbers : List ℕ) (started : List StartedTurn) (k : ℕ) → HaveNumbers (turns w) numbers started → 0 < times k numbers → is_started started (turn_at (turns w) k) ≡ true
+  was_started [] started k h some = absurd (omega arith)
+  was_started (number ∷ numbers) [] k h some = absurd h
+  was_started (number ∷ numbers) (one ∷ started) k h some = ⊎_elim
       (λ (is : number ≡ k).
       let same : is_same_turn one.turn (turn_at (turns w) k) ≡ true = ap (λ t. is_same_turn t (turn_at (turns w) k)) (h.1 ∙ ap (turn_at (turns w)) is) ∙ same_itself (turn_at (turns w) k) in
-      ap (λ t. t || is_taken taken (turn_at (turns w) k)) same)
+      ap (λ t. t || is_started started (turn_at (turns w) k)) same)
       (λ (ne : number ≢ k).
       let off = ap one_if (ne_eqb number k ne) in
-      either (is_same_turn one.turn (turn_at (turns w) k)) (is_taken taken (turn_at (turns w) k)) (was_taken numbers taken k h.2 (omega arith)))
+      either (is_same_turn one.turn (turn_at (turns w) k)) (is_started started (turn_at (turns w) k)) (was_started numbers started k h.2 (omega arith)))
       (cases_eq number k)
 
   or_off : (t u : Bool) → (t || u) ≡ false → (t ≡ false) × (u ≡ false)
@@ -147,18 +147,18 @@ module _ (w : Work) where
   or_off false u is = (refl, is)
 
   -- no step of a turn is done before the turn is taken
-  pub not_done : (numbers : List ℕ) (taken : List Taken) (k step : ℕ) → HaveNumbers (turns w) numbers taken → k < length (turns w) → is_taken taken (turn_at (turns w) k) ≡ false
+  pub not_done : (numbers : List ℕ) (started : List StartedTurn) (k step : ℕ) → HaveNumbers (turns w) numbers started → k < length (turns w) → is_started started (turn_at (turns w) k) ≡ false
       → (turn_at (turns w) k).first ≤ step → step < (turn_at (turns w) k).first + (turn_at (turns w) k).count
-      → done_at w taken (record { change = (turn_at (turns w) k).change; step = step }) ≡ None
+      → done_at w started (record { change = (turn_at (turns w) k).change; step = step }) ≡ None
   not_done [] [] k step h lt new low high = refl
-  not_done [] (one ∷ taken) k step h lt new low high = absurd h
+  not_done [] (one ∷ started) k step h lt new low high = absurd h
   not_done (number ∷ numbers) [] k step h lt new low high = absurd h
-  not_done (number ∷ numbers) (one ∷ taken) k step h lt new low high =
+  not_done (number ∷ numbers) (one ∷ started) k step h lt new low high =
       let turn = turn_at (turns w) k in
       let name : Wait = record { change = turn.change; step = step } in
-      let both = or_off (is_same_turn one.turn turn) (is_taken taken turn) new in
-      let here : done_in w one name ≡ None = by_found one name (done_in w one name) refl (λ m is. (
-      let there = done_there w one name m is in
+      let both = or_off (is_same_turn one.turn turn) (is_started started turn) new in
+      let here : done_in w one name ≡ None = by_answer one name (done_in w one name) refl (λ m is. (
+      let there = done_in_turn w one name m is in
       let within = begun_within w one.turn there.step.0 there.step.1 in
       let at = there.step.2 in let from = within.0 in let to = within.1 in
       let its = turn_is w (turn_at (turns w) number) (turn_in (turns w) number h.0) in
@@ -166,8 +166,8 @@ module _ (w : Work) where
       let same : one.turn ≡ turn = same_turn w turn.change step one.turn turn (subst (λ c. IsTurnOf w c one.turn) there.change mine) (turn_is w turn (turn_in (turns w) k lt))
       (omega arith) (omega arith) low high in
       true≢false (sym (ap (λ t. is_same_turn t turn) same ∙ same_itself turn) ∙ both.0))) in
-      ap (λ f. first_found f (done_at w taken name)) here ∙ not_done numbers taken k step h.2 lt both.1 low high
+      ap (λ f. first_some f (done_at w started name)) here ∙ not_done numbers started k step h.2 lt both.1 low high
     where
-      by_found : (one : Taken) (name : Wait) (found : Option Moment) → done_in w one name ≡ found → ((m : Moment) → done_in w one name ≡ Some m → ⊥) → done_in w one name ≡ None
-      by_found one name None is never = is
-      by_found one name (Some m) is never = absurd (never m is)
+      by_answer : (one : StartedTurn) (name : Wait) (answer : Option LaneTime) → done_in w one name ≡ answer → ((m : LaneTime) → done_in w one name ≡ Some m → ⊥) → done_in w one name ≡ None
+      by_answer one name None is never = is
+      by_answer one name (Some m) is never = absurd (never m is)

@@ -104,7 +104,7 @@ step_names_change w c s h = all_at (λ (x : Step). x.change ≡ c) (steps_of w c
 at_number : (n : ℕ) (steps : List Step) (s : Step) (k : ℕ) → AreNumbered n steps → Contains steps s → s.number ≡ n + k → slice_get steps k ≡ Some s
 at_number n [] s k h there is = absurd (not_in_none s there)
 at_number n (x ∷ steps) s zero h there is = ⊎_elim
-    (λ (same : x ≡ s). ap (λ y. let found : Option Step = Some y in found) same)
+    (λ (same : x ≡ s). ap (λ y. let answer : Option Step = Some y in answer) same)
     (λ (later : Contains steps s). let low = (numbered_in (n + 1) steps s h.1 later).0 in absurd (omega arith))
     (in_cases x steps s there)
 at_number n (x ∷ steps) s (suc k) h there is = ⊎_elim
@@ -160,9 +160,9 @@ second_begins w c two on =
     subst (λ l. Contains l second) (sym (two_begin w c two ∙ ap (λ t. first ∷ cond t (begun (second ∷ [])) []) on))
     (in_tail first (begun (second ∷ [])) second (in_head second (cond (goes_on second) [] [])))
 
-pub second_behind_first : (w : Work) (c : ℕ) (two : HasTwo w c) (s : Step) → Contains (begun_steps w (whole w c)) s → s.number ≡ 1
+pub second_after_first : (w : Work) (c : ℕ) (two : HasTwo w c) (s : Step) → Contains (begun_steps w (whole w c)) s → s.number ≡ 1
     → Contains (begun_steps w (whole w c)) (step_of w c 0 two.first) × (goes_on (step_of w c 0 two.first) ≡ true)
-second_behind_first w c two s there is =
+second_after_first w c two s there is =
     let first = step_of w c 0 two.first in let second = step_of w c 1 two.second in
     let rest = cond (goes_on first) (begun (second ∷ [])) [] in (
       subst (λ l. Contains l first) (sym (two_begin w c two)) (in_head first rest),

@@ -1,58 +1,61 @@
--- What happens in lanes where steps wait for others, in the order of time.
+-- The events of lanes in the order of time, in a work with waits.
 use Rattle.std.specs.Prelude.{◌≡◌, ◌≤◌, ℕ, ◌+◌, ◌==◌, ◌&&◌, Bool, All, List, [], ◌∷◌, ◌++◌, nat_le, nat_lt, if◌then◌else◌}
 use Rattle.apply_events.specs.Step.{Work}
 use Rattle.apply_events.specs.declared.event.Event.{Event}
 use Rattle.apply_events.specs.ChangeEvents.{in_turn}
 use Rattle.apply_events.specs.Interleaving.{IsInterleaving}
 use Rattle.apply_events.specs.StepEvents.{step_events, step_time}
-use Rattle.apply_events.specs.declared.lanes.taken.Taken.{Taken}
-use Rattle.apply_events.specs.declared.lanes.moment.Moment.{Moment}
-use Rattle.apply_events.specs.Waits.Moment.{IsNoLater}
+use Rattle.apply_events.specs.declared.lanes.turn.StartedTurn.{StartedTurn}
+use Rattle.apply_events.specs.declared.lanes.lane_time.LaneTime.{LaneTime}
+use Rattle.apply_events.specs.Waits.LaneTime.{IsNoLater}
 use Rattle.apply_events.specs.Waits.Schedule.{schedule}
 use Rattle.apply_events.specs.declared.lanes.turn.Turn.{Turn}
 use Rattle.apply_events.specs.Waits.Turn.{begun_steps}
 
 -- ---- what lanes report
 
--- the events of a turn
-abbrev pub turn_events : Work → Taken → List Event
-turn_events work taken = in_turn (step_events taken.lane) step_time (begun_steps work taken.turn) taken.begin.second
+-- The events of a started turn.
+abbrev pub turn_events : Work → StartedTurn → List Event
+turn_events work started = in_turn (step_events started.lane) step_time (begun_steps work started.turn) started.begin.second
 
--- the events of some turns that a lane took up, the last of which stands first
-abbrev pub lane_turns : Work → List Taken → (lane : ℕ) → List Event
+-- The events of the turns that a lane started. The last start is the head of the list.
+abbrev pub lane_turns : Work → List StartedTurn → (lane : ℕ) → List Event
 lane_turns work [] lane = []
-lane_turns work (taken ∷ others) lane =
-    lane_turns work others lane ++ (if taken.lane == lane then turn_events work taken else [])
+lane_turns work (started ∷ others) lane =
+    lane_turns work others lane ++ (if started.lane == lane then turn_events work started else [])
 
 -- ---- when
 
--- the event is of a step of the turn
+-- The event is of a step of the turn.
 abbrev pub is_of_turn : Turn → Event → Bool
 is_of_turn turn event =
     turn.change == event.change && nat_le turn.first event.step && nat_lt event.step (turn.first + turn.count)
 
--- an event of a turn that begins at a moment: in the second of the begin it is in the round of the begin
-abbrev pub moment_from : (begin : Moment) → Event → Moment
-moment_from begin event = record { second = event.at; round = if event.at == begin.second then begin.round else 0 }
+-- The time of an event of a turn that begins at `begin`. Within the second of the begin it has the
+-- round of the begin.
+abbrev pub lane_time_from : (begin : LaneTime) → Event → LaneTime
+lane_time_from begin event = record { second = event.at; round = if event.at == begin.second then begin.round else 0 }
 
--- the moment of an event, where these turns were taken up
-abbrev pub moment_of : List Taken → Event → Moment
-moment_of [] event = record { second = event.at; round = 0 }
-moment_of (taken ∷ others) event =
-    if is_of_turn taken.turn event then moment_from taken.begin event else moment_of others event
+-- The time of an event, in view of these started turns.
+abbrev pub lane_time_of : List StartedTurn → Event → LaneTime
+lane_time_of [] event = record { second = event.at; round = 0 }
+lane_time_of (started ∷ others) event =
+    if is_of_turn started.turn event then lane_time_from started.begin event else lane_time_of others event
 
--- the first of two events may stand before the second: it is no later, and at one moment its lane is no higher
-abbrev pub Precedes : (when : Event → Moment) → Event → Event → Type 0
+-- The first event may stand before the second. It is no later, and at the same time its lane is no
+-- higher.
+abbrev pub Precedes : (when : Event → LaneTime) → Event → Event → Type 0
 Precedes when first second = IsNoLater (when first) (when second) × (when first ≡ when second → first.worker ≤ second.worker)
 
--- each event may stand before all behind it
-abbrev pub InOrder : (when : Event → Moment) → List Event → Type 0
+-- Each event may stand before all events after it.
+abbrev pub InOrder : (when : Event → LaneTime) → List Event → Type 0
 InOrder when [] = Unit {0}
 InOrder when (event ∷ events) = All (Precedes when event) events × InOrder when events
 
 -- ---- the time line
 
--- the interleaving of what n lanes report in which moments never fall, and at one moment the lower lane comes first
+-- The interleaving of the events of n lanes in the order of time. At the same time the lower lane
+-- comes first.
 pub record IsTimeLine (work : Work) (n : ℕ) (events : List Event) : Type 0 where
   pub interleaved : IsInterleaving n (lane_turns work (schedule work n)) events
-  pub in_order : InOrder (moment_of (schedule work n)) events
+  pub in_order : InOrder (lane_time_of (schedule work n)) events

@@ -1,12 +1,12 @@
-//! Lanes that are free.
+//! The choice of a lane.
 
 ghost use Rattle.std.specs.Prelude.{◌≡◌, ◌<◌, length};
 ghost use Rattle.apply_events.specs.Waits.Schedule.{first_earliest};
 
-use crate::lanes::moment::Moment;
+use crate::lanes::lane_time::LaneTime;
 
-/// The lane that is free first, at one moment the lowest.
-pub(crate) fn first_earliest(free: &[Moment]) -> usize
+/// The lane that is free first. Of several lanes it is the lowest.
+pub(crate) fn first_earliest(free: &[LaneTime]) -> usize
     requires { 0 < length free.now }
     ensures { result ≡ first_earliest free.now }
 {

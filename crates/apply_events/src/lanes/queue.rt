@@ -1,12 +1,14 @@
-//! Turns that wait, and those that are ready.
+//! Turns that wait, and turns that are ready.
+//!
+//! Every `Err` means that memory was refused.
 
 ghost use Rattle.std.specs.Prelude.{◌≡◌, ◌+◌, ◌*◌, ◌<◌, ◌^◌, ◌++◌, [], ◌∷◌, ℕ, IfNone, IfOk, IfSome, List, None, OnOk, Option, length, map};
 ghost use Rattle.std.specs.BinaryHeap.{heap_items};
-ghost use Rattle.apply_events.specs.Waits.Queue.{HasPlace, IsDue, IsFirstDue, IsQueue, Stands, none_done, put, turn_waits, waiting_at};
+ghost use Rattle.apply_events.specs.Waits.Queue.{HasPlace, IsDue, IsFirstDue, IsQueue, Stands, none_done, with_step_done, turn_waits, waiting_at};
 
 pub mod followers;
 
-use crate::lanes::moment::Moment;
+use crate::lanes::lane_time::LaneTime;
 use crate::lanes::queue::followers::Followers;
 use crate::lanes::turn::Turn;
 use apply_model::{Script, Wait};
@@ -14,23 +16,26 @@ use std::alloc::{AllocError, Global};
 use std::cmp::Reverse;
 use std::collections::BinaryHeap;
 
-/// A turn that is ready from a moment on, by its number.
+/// A turn that is ready, and since when.
 #[derive(Clone, Copy, Debug, PartialEq, Eq, PartialOrd, Ord)]
 pub struct ReadyTurn {
-    pub at: Moment,
+    /// When the turn is ready.
+    pub at: LaneTime,
+    /// The number of the turn, counted from 0 in the order of the plan.
     pub number: u32,
 }
 
-/// What is missing until a turn is ready.
+/// What a turn still waits for.
 #[derive(Clone, Copy, Debug)]
 pub struct Waiting {
-    /// How many of the steps that it waits for are not done.
+    /// How many of its waits are not done.
     pub missing: u32,
-    /// The greatest of the next rounds of the moments at which the others are.
-    pub at: Moment,
+    /// The earliest time at which the turn may begin: one round after the last of its waits that
+    /// are done.
+    pub at: LaneTime,
 }
 
-/// Turns by their numbers: those that wait, and those that are ready.
+/// The turns of a plan by number: those that wait, and those that are ready.
 #[derive(Drop)]
 pub struct Queue {
     waiting: Vec<Waiting>,
@@ -41,7 +46,8 @@ pub struct Queue {
 impl Queue {
     ghost use Rattle.apply_model.specs.declared.script.wait.Wait.{Wait};
 
-    /// These turns of a plan of so many changes, none of which was taken.
+    /// A queue of these turns, in a plan of so many changes. None of them was taken. `Err` where
+    /// memory is refused.
     pub(crate) fn new(
         alloc: Global,
         changes: u32,
@@ -62,7 +68,7 @@ impl Queue {
         Ok(queue)
     }
 
-    /// A further turn.
+    /// Adds a turn.
     fn add(&mut self, script: &Script, turn: Turn) -> Result<(), AllocError>
         requires { length self.old.waiting.items < 2 ^ 32 }
         ensures { OnOk result ((limit : ℕ) (names : List (List Wait)) → IsQueue limit names none_done [] self.old
@@ -70,7 +76,7 @@ impl Queue {
     {
         let number = self.waiting.len() as u32;
         let missing = self.followers.add_turn(script, turn, number)?;
-        let at = Moment::first();
+        let at = LaneTime::first();
         self.waiting.push(Waiting { missing, at })?;
         if missing == 0 {
             self.ready.push(Reverse(ReadyTurn { at, number }))?;
@@ -78,25 +84,26 @@ impl Queue {
         Ok(())
     }
 
-    /// Takes the turn that is ready first. `None` where none is, now and until a step is done.
+    /// Takes the turn that is ready first. Of several such turns it is the first in the plan.
+    /// `None` where no turn is ready; more may be ready after another step is done.
     pub(crate) fn take(&mut self) -> Option<ReadyTurn>
-        ensures some { IfSome result (λ one. (limit : ℕ) (names : List (List Wait)) (done : Wait → Option Moment) (taken : List ℕ)
-            → IsQueue limit names done taken self.old
-            → IsFirstDue names done taken one × IsQueue limit names done (one.number ∷ taken) self.new) }
-        ensures none { IfNone result ((limit : ℕ) (names : List (List Wait)) (done : Wait → Option Moment) (taken : List ℕ)
-            → IsQueue limit names done taken self.old → (number : ℕ) → IsDue names done taken number → ⊥) }
+        ensures some { IfSome result (λ one. (limit : ℕ) (names : List (List Wait)) (done : Wait → Option LaneTime) (started : List ℕ)
+            → IsQueue limit names done started self.old
+            → IsFirstDue names done started one × IsQueue limit names done (one.number ∷ started) self.new) }
+        ensures none { IfNone result ((limit : ℕ) (names : List (List Wait)) (done : Wait → Option LaneTime) (started : List ℕ)
+            → IsQueue limit names done started self.old → (number : ℕ) → IsDue names done started number → ⊥) }
     {
         Some(self.ready.pop()?.0)
     }
 
-    /// A step is done at a moment.
-    pub(crate) fn pass(&mut self, step: Wait, at: Moment) -> Result<(), AllocError>
+    /// Records that a step is done, and when. Turns that wait for it may become ready.
+    pub(crate) fn complete(&mut self, step: Wait, at: LaneTime) -> Result<(), AllocError>
         requires round { at.round + 1 < 2 ^ 32 }
-        requires known { (limit : ℕ) × (names : List (List Wait)) × (done : Wait → Option Moment) × (taken : List ℕ)
-            × HasPlace step limit × IsQueue limit names done taken self.old × (done step ≡ None) }
-        ensures { OnOk result ((limit : ℕ) (names : List (List Wait)) (done : Wait → Option Moment) (taken : List ℕ)
-            → HasPlace step limit → IsQueue limit names done taken self.old → done step ≡ None
-            → IsQueue limit names (put done step at) taken self.new) }
+        requires known { (limit : ℕ) × (names : List (List Wait)) × (done : Wait → Option LaneTime) × (started : List ℕ)
+            × HasPlace step limit × IsQueue limit names done started self.old × (done step ≡ None) }
+        ensures { OnOk result ((limit : ℕ) (names : List (List Wait)) (done : Wait → Option LaneTime) (started : List ℕ)
+            → HasPlace step limit → IsQueue limit names done started self.old → done step ≡ None
+            → IsQueue limit names (with_step_done done step at) started self.new) }
     {
         let later = at.next_round();
         let mut place = self.followers.last_of(step);
@@ -108,13 +115,13 @@ impl Queue {
         Ok(())
     }
 
-    /// One of the steps that a turn waits for is done, and the turn is not ready before that moment.
-    fn release(&mut self, number: u32, later: Moment) -> Result<(), AllocError>
+    /// Records that one wait of a turn is done. The turn may not begin before that time.
+    fn release(&mut self, number: u32, later: LaneTime) -> Result<(), AllocError>
         requires known { number < length self.old.waiting.items }
         requires some { 0 < (waiting_at self.old.waiting.items number).missing }
-        ensures stands { OnOk result ((names : List (List Wait)) (done : Wait → Option Moment) (left : List ℕ) (taken : List ℕ)
-            → Stands names done (number ∷ left) later taken self.old.waiting.items (heap_items self.old.ready)
-            → Stands names done left later taken self.new.waiting.items (heap_items self.new.ready)) }
+        ensures stands { OnOk result ((names : List (List Wait)) (done : Wait → Option LaneTime) (left : List ℕ) (started : List ℕ)
+            → Stands names done (number ∷ left) later started self.old.waiting.items (heap_items self.old.ready)
+            → Stands names done left later started self.new.waiting.items (heap_items self.new.ready)) }
         ensures followers { self.new.followers ≡ self.old.followers }
     {
         let before = self.waiting[number as usize];

@@ -1,4 +1,4 @@
-//! How long a step takes, and whether its change goes on behind it.
+//! How long a step takes, and whether its change goes on after it.
 
 ghost use Rattle.std.specs.Prelude.{◌≡◌, ◌<◌, ◌≤◌, Some, is_some, length, slice_get};
 ghost use Rattle.apply_hooks.specs.Hooks.{first_halting};
@@ -12,15 +12,17 @@ use crate::step_facts::StepFacts;
 use apply_hooks::{Asked, HookCall, Phase, Registry};
 use apply_model::{Plan, Script, StepKind};
 
-/// How long a step takes, in seconds, and whether its change goes on behind it.
+/// How long a step takes, in seconds, and whether its change goes on after it.
 #[derive(Clone, Copy)]
 pub struct StepCourse {
+    /// How long the step takes, in seconds.
     pub seconds: u32,
+    /// Whether the change goes on after the step.
     pub goes_on: bool,
 }
 
 impl StepCourse {
-    /// That of a step of a change, which is of that kind. Its hooks are asked.
+    /// The course of a step of that kind. The hooks are asked about the step.
     pub(crate) fn of(
         plan: &Plan,
         script: &Script,

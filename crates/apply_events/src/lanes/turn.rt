@@ -1,4 +1,4 @@
-//! What a lane takes up as a whole.
+//! Turns: the parts of a change that a lane runs as a whole.
 
 ghost use Rattle.std.specs.Prelude.{◌≡◌, ◌<◌, ◌≤◌, ◌++◌, ◌∷◌, ◌==◌, ◌&&◌, [], IfOk, List, OnOk, length, if◌then◌else◌};
 ghost use Rattle.apply_hooks.specs.declared.rule.Rule.{Rule};
@@ -7,20 +7,34 @@ ghost use Rattle.apply_model.specs.Script.Waits.{names_a_wait};
 ghost use Rattle.apply_events.specs.Waits.Turn.{single, turns};
 
 use crate::applied::applied_steps;
+use crate::lanes::lane_time::LaneTime;
 use apply_model::{Outcome, Plan, Script};
 use std::alloc::{AllocError, Global};
 
-/// Some steps of a change, which one lane takes up, one after another.
+/// Steps of a change that one lane runs one after another.
 #[derive(Clone, Copy, Debug)]
 pub struct Turn {
+    /// The number of the change, counted from 0 in the plan.
     pub change: u32,
-    /// The first of them, counted from 0.
+    /// The number of the first of these steps, counted from 0.
     pub first: u8,
+    /// The number of steps.
     pub count: u8,
 }
 
+/// A turn that was started, with its lane and its begin.
+#[derive(Clone, Copy, Debug)]
+pub struct StartedTurn {
+    /// The turn.
+    pub turn: Turn,
+    /// The number of the lane, counted from 0.
+    pub lane: u8,
+    /// When the turn begins.
+    pub begin: LaneTime,
+}
+
 impl Turn {
-    /// All turns, in the plan's order.
+    /// All turns, in the order of the plan. `Err` where memory is refused.
     pub(crate) fn all(alloc: Global, plan: &Plan, script: &Script) -> Result<Vec<Turn>, AllocError>
         ensures { IfOk result (λ all. (hooks : List (List Rule)) → all.items
             ≡ turns (record { plan = plan.now; script = script.now; hooks = hooks })) }
@@ -35,7 +49,8 @@ impl Turn {
     }
 }
 
-/// Adds the turns of a change of which so many steps are applied, which is one or, where it is split, two.
+/// Adds the turns of a change with `count` applied steps: one turn, or two where the change is
+/// split.
 fn push_turns(all: &mut Vec<Turn>, change: u32, count: u8, split: bool) -> Result<(), AllocError>
     ensures { OnOk result (all.new.items ≡ all.old.items ++ (if split
         then single change 0 ∷ single change 1 ∷ []
@@ -62,7 +77,7 @@ fn push_turns(all: &mut Vec<Turn>, change: u32, count: u8, split: bool) -> Resul
     Ok(())
 }
 
-/// Whether the second step of a change names one that it waits for.
+/// Whether the script names a step that the second step of the change waits for.
 fn second_names_some(script: &Script, change: u32) -> bool
     ensures { result ≡ names_a_wait (outcome_of script.now change 1) }
 {

@@ -5,7 +5,7 @@ ghost use Rattle.std.specs.List.{Contains, list_all};
 ghost use Rattle.apply_hooks.specs.Registry.{rules_of};
 ghost use Rattle.apply_model.specs.Script.Limits.{max_seconds};
 ghost use Rattle.apply_events.specs.ChangeEvents.{first_time};
-ghost use Rattle.apply_events.specs.Fits.{IsApplied, last_moment};
+ghost use Rattle.apply_events.specs.Fits.{IsApplied, latest_second};
 ghost use Rattle.apply_events.specs.Runner as runner;
 ghost use Rattle.apply_events.specs.Stages.{events_from};
 ghost use Rattle.apply_events.specs.Step.{kinds_of, steps_of};
@@ -13,19 +13,19 @@ ghost use Rattle.apply_events.specs.StepEvents.{goes_on};
 ghost use Rattle.apply_events.specs.BeforeStep.{stops_at};
 
 use crate::event::Event;
-use crate::lanes::taken::Taken;
+use crate::lanes::turn::StartedTurn;
 use crate::runner::Runner;
 use apply_hooks::Registry;
 use apply_model::{Plan, Script};
 
-/// A turn that is being applied: it gives the events of its steps one by one.
+/// A turn that is being applied. It emits the events of its steps one by one.
 #[derive(Drop)]
 pub struct TurnRunner<'a> {
-    /// It gives the events of the steps behind the turn too.
-    of_change: Runner<'a>,
-    /// The first step behind the turn.
+    /// The runner of the whole change. It would also emit the events of steps after the turn.
+    change_runner: Runner<'a>,
+    /// The number of the first step after the turn.
     end: u8,
-    ghost stops: { stops_at end (runner.to_come of_change) ≡ true },
+    ghost stops: { stops_at end (runner.to_come change_runner) ≡ true },
 }
 
 impl<'a> TurnRunner<'a> {
@@ -35,76 +35,78 @@ impl<'a> TurnRunner<'a> {
     ghost use Rattle.apply_events.specs.Waits.TimeLine.{turn_events};
     ghost use Rattle.apply_events.specs.Waits.Turn.{turns};
 
-    /// The turn, from its begin on. Where it begins with the second step of its change, the first has gone on.
+    /// The turn from its begin on. If the turn begins with the second step of its change, the first
+    /// step has gone on.
     pub(crate) fn start(
         plan: &'a Plan,
         script: &'a Script,
         registry: &'a Registry,
-        taken: Taken,
+        started: StartedTurn,
     ) -> TurnRunner<'a>
-        requires known { Contains (turns (record { plan = plan.now; script = script.now; hooks = rules_of registry.now })) taken.turn }
-        requires change { taken.turn.change < length plan.now.changes }
-        requires few { length (kinds_of plan.now taken.turn.change) ≤ 2 }
-        requires place { (taken.turn.first ≤ 1) × (taken.turn.first + taken.turn.count ≤ 2) }
-        requires in_time { taken.begin.second + max_seconds * (2 - taken.turn.first) ≤ last_moment }
-        requires has_step { 0 < taken.turn.first → IsApplied plan.now script.now taken.turn.change 0 }
-        requires went_on { 0 < taken.turn.first → list_all goes_on
-            (take 1 (steps_of (record { plan = plan.now; script = script.now; hooks = rules_of registry.now }) taken.turn.change)) ≡ true }
-        requires late { 0 < taken.turn.first
-            → first_time (record { plan = plan.now; script = script.now; hooks = rules_of registry.now }) taken.turn.change ≤ taken.begin.second }
-        ensures { to_come result ≡ turn_events (record { plan = plan.now; script = script.now; hooks = rules_of registry.now }) taken }
+        requires known { Contains (turns (record { plan = plan.now; script = script.now; hooks = rules_of registry.now })) started.turn }
+        requires change { started.turn.change < length plan.now.changes }
+        requires few { length (kinds_of plan.now started.turn.change) ≤ 2 }
+        requires place { (started.turn.first ≤ 1) × (started.turn.first + started.turn.count ≤ 2) }
+        requires in_time { started.begin.second + max_seconds * (2 - started.turn.first) ≤ latest_second }
+        requires has_step { 0 < started.turn.first → IsApplied plan.now script.now started.turn.change 0 }
+        requires went_on { 0 < started.turn.first → list_all goes_on
+            (take 1 (steps_of (record { plan = plan.now; script = script.now; hooks = rules_of registry.now }) started.turn.change)) ≡ true }
+        requires late { 0 < started.turn.first
+            → first_time (record { plan = plan.now; script = script.now; hooks = rules_of registry.now }) started.turn.change ≤ started.begin.second }
+        ensures { to_come result ≡ turn_events (record { plan = plan.now; script = script.now; hooks = rules_of registry.now }) started }
     {
-        let of_change = runner_of(plan, script, registry, taken);
+        let change_runner = runner_of(plan, script, registry, started);
         TurnRunner {
-            of_change,
-            end: taken.turn.first + taken.turn.count,
+            change_runner,
+            end: started.turn.first + started.turn.count,
         }
     }
 
-    /// The next event. `None` where none is left, now and from then on. Hooks of a step behind the turn are not asked.
+    /// The next event. `None` where no event is left, now and in later calls. Hooks are not asked
+    /// about steps after the turn.
     pub(crate) fn next(&mut self) -> Option<Event>
         ensures { GivesNext (to_come self.old) result (to_come self.new) }
     {
         if self.is_over() {
             return None;
         }
-        self.of_change.next()
+        self.change_runner.next()
     }
 
-    /// Whether a step behind the turn would begin with the next event.
+    /// Whether the next event would begin a step after the turn.
     fn is_over(&self) -> bool
-        ensures { result ≡ begins_with self.now.end (runner.to_come self.now.of_change) }
+        ensures { result ≡ begins_with self.now.end (runner.to_come self.now.change_runner) }
     {
-        match self.of_change.begins() {
+        match self.change_runner.begins() {
             Some(step) => step == self.end,
             None => false,
         }
     }
 }
 
-/// The runner of the change of a turn, from the first step of the turn on.
+/// The runner of the change, from the first step of the turn on.
 fn runner_of<'a>(
     plan: &'a Plan,
     script: &'a Script,
     registry: &'a Registry,
-    taken: Taken,
+    started: StartedTurn,
 ) -> Runner<'a>
-    requires change { taken.turn.change < length plan.now.changes }
-    requires place { taken.turn.first ≤ 1 }
-    requires in_time { taken.begin.second + max_seconds * (2 - taken.turn.first) ≤ last_moment }
-    requires has_step { 0 < taken.turn.first → IsApplied plan.now script.now taken.turn.change 0 }
-    requires went_on { 0 < taken.turn.first → list_all goes_on
-        (take 1 (steps_of (record { plan = plan.now; script = script.now; hooks = rules_of registry.now }) taken.turn.change)) ≡ true }
-    requires late { 0 < taken.turn.first
-        → first_time (record { plan = plan.now; script = script.now; hooks = rules_of registry.now }) taken.turn.change ≤ taken.begin.second }
-    ensures { runner.to_come result ≡ events_from taken.lane
-        (drop taken.turn.first (steps_of (record { plan = plan.now; script = script.now; hooks = rules_of registry.now }) taken.turn.change)) taken.begin.second }
+    requires change { started.turn.change < length plan.now.changes }
+    requires place { started.turn.first ≤ 1 }
+    requires in_time { started.begin.second + max_seconds * (2 - started.turn.first) ≤ latest_second }
+    requires has_step { 0 < started.turn.first → IsApplied plan.now script.now started.turn.change 0 }
+    requires went_on { 0 < started.turn.first → list_all goes_on
+        (take 1 (steps_of (record { plan = plan.now; script = script.now; hooks = rules_of registry.now }) started.turn.change)) ≡ true }
+    requires late { 0 < started.turn.first
+        → first_time (record { plan = plan.now; script = script.now; hooks = rules_of registry.now }) started.turn.change ≤ started.begin.second }
+    ensures { runner.to_come result ≡ events_from started.lane
+        (drop started.turn.first (steps_of (record { plan = plan.now; script = script.now; hooks = rules_of registry.now }) started.turn.change)) started.begin.second }
 {
-    let change = taken.turn.change;
-    let at = taken.begin.second;
-    if taken.turn.first == 0 {
-        Runner::start(plan, script, registry, taken.lane, change, at)
+    let change = started.turn.change;
+    let at = started.begin.second;
+    if started.turn.first == 0 {
+        Runner::start(plan, script, registry, started.lane, change, at)
     } else {
-        Runner::resume(plan, script, registry, taken.lane, change, at)
+        Runner::resume(plan, script, registry, started.lane, change, at)
     }
 }

@@ -2,13 +2,14 @@
 
 use super::*;
 
-/// Fails where the closure was asked another number of times so far.
+/// Fails if the closure was asked another number of times so far.
 fn asked_is(rt: &impl Abort, alloc: Global, calls: &AtomicU64, asked: &str) {
-    let found = printed(rt, alloc, &calls.load(Ordering::SeqCst));
-    text_is(rt, asked, found, asked);
+    let actual = printed(rt, alloc, &calls.load(Ordering::SeqCst));
+    text_is(rt, asked, actual, asked);
 }
 
-/// Fails where it was asked another number of times so far, before looking at the runner or after.
+/// Fails if the closure was asked another number of times so far, before the runner is read or
+/// after.
 fn asked_are(rt: &impl Abort, alloc: Global, calls: &AtomicU64, runner: &Runner<'_>, asked: &str) {
     asked_is(rt, alloc, calls, asked);
     let _begins = runner.begins();
@@ -16,9 +17,10 @@ fn asked_are(rt: &impl Abort, alloc: Global, calls: &AtomicU64, runner: &Runner<
     asked_is(rt, alloc, calls, asked);
 }
 
-/// How often the closure is asked up to each event of a replacement with one progress and one warning: before any event,
-/// after the first start, the progress, the first completion, the second start, the second completion and the warning, and
-/// twice after that.
+/// How often the closure is asked up to each event of a replacement with one progress and one
+/// warning. The numbers stand for: before any event, the first start, the progress, the first
+/// completion, the second start, the second completion and the warning. The last two stand for the
+/// time after all events.
 const ASKED: &str = "0
 1
 1
@@ -29,7 +31,7 @@ const ASKED: &str = "0
 4
 4";
 
-/// Fails where it was asked another number of times up to some event.
+/// Fails if the closure was asked another number of times up to some event.
 fn asked_along(
     rt: &impl Abort,
     alloc: Global,
@@ -46,7 +48,8 @@ fn asked_along(
     }
 }
 
-/// The same in a lane: four times and once for the first event, before any is given, and then one event ahead.
+/// How often the closure is asked in a lane. Before any event it is asked four times for the
+/// schedule, and once for the first event. Then it is asked one event ahead.
 const ASKED_IN_A_LANE: &str = "5
 5
 6
@@ -57,7 +60,7 @@ const ASKED_IN_A_LANE: &str = "5
 8
 8";
 
-/// Fails where it was asked another number of times up to some event that a lane gives.
+/// Fails if the closure was asked another number of times up to some event of a lane.
 fn asked_in_a_lane(
     rt: &impl Abort,
     alloc: Global,
@@ -84,19 +87,19 @@ fn asked_of_a_replacement(rt: &impl Abort, alloc: Global, registry: &Registry, c
     calls.store(0, Ordering::SeqCst);
 }
 
-/// One of which the first step is skipped.
+/// A change whose first step is skipped.
 fn asked_of_a_skipped_step(rt: &impl Abort, alloc: Global, registry: &Registry, calls: &AtomicU64) {
     let plan = plan_of(rt, alloc, REPLACEMENT);
     let script = script_of(rt, alloc, plan, r#"[{"skipped":true},{"seconds":5}]"#);
-    is_told(rt, alloc, plan, script, registry, 0, "");
+    events_are(rt, alloc, plan, script, registry, 0, "");
     let given = lanes::reported(rt, alloc, plan, script, registry, 2);
     text_is(rt, "in lanes", given, "");
     asked_is(rt, alloc, calls, "0");
 }
 
-/// A stored closure is asked once for each phase of each step: before the step by the call that gives its first event,
-/// after it by the call that gives the last event that comes whatever the hooks say. Lanes ask it once more, when they
-/// start. It is not asked of a step that is skipped.
+/// A stored closure is asked once for each phase of each step. Before the step the call for its
+/// first event asks, and after the step the call for the last event before a possible halt. Lanes
+/// ask once more when they start. Nothing asks about a skipped step.
 #[test]
 fn hooks_are_asked_once_for_each_phase(rt: HostRuntime) {
     let alloc = rt.alloc();

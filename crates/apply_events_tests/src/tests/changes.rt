@@ -1,11 +1,12 @@
-//! The events of a change, their counts, and how it stands between them.
+//! The events of a change, their counts, and the state of the runner between them.
 
 use super::*;
 
-/// A change's actions, the steps of its script, and its events, for each row: of each event the moment, the worker, the change with
-/// its step, and what happens. Between them stand the step that begins next, when the change has ended so far, and how many objects
-/// were added, changed and removed and how many steps failed and were halted.
-/// A change ends before the first step that is skipped. A read that only warns has the warning in place of an end.
+/// Each row has the actions of a change, the steps of its script, and its events. An event has its
+/// second, its worker, the change with its step, and its kind. Between events stand the step that
+/// begins next, the end of the change so far, and the totals. The totals are: added, changed,
+/// removed, failed and halted. A change ends before its first skipped step. A read that only warns
+/// has the warning in place of its end.
 const WORKED: &str =
     r#"["delete","create"] => [{"seconds":1},{"seconds":2,"id":"42"}] => begins 0; (0, 7, 0, 0, Start); (1, 7, 0, 0, Complete(1)); counted (0, 0, 1, 0, 0); ended 1; begins 1; (1, 7, 0, 1, Start); (3, 7, 0, 1, Complete(2)); counted (1, 0, 1, 0, 0); ended 3;
 ["create","delete"] => [{"seconds":0},{"seconds":4,"failed":{"summary":"boom"}}] => begins 0; (0, 7, 0, 0, Start); (0, 7, 0, 0, Complete(0)); counted (1, 0, 0, 0, 0); begins 1; (0, 7, 0, 1, Start); (4, 7, 0, 1, Errored(4)); counted (1, 0, 0, 1, 0); (4, 7, 0, 1, ErrorNote); ended 4;
@@ -25,9 +26,10 @@ const WORKED: &str =
 ["read"] => [{"seconds":11,"failed":{"severity":"warning","summary":"no"}}] => begins 0; (0, 7, 0, 0, Start); (10, 7, 0, 0, Progress(10)); (11, 7, 0, 0, WarnNote); ended 11;
 ["read"] => [{"seconds":0,"failed":{"severity":"warning","summary":"no"}}] => begins 0; (0, 7, 0, 0, Start); (0, 7, 0, 0, WarnNote);"#;
 
-/// The same with provisioners. In a create they run behind the provider, in a delete before it. One that fails leaves the rest of
-/// its change undone, where it may not fail. Progress comes within a provisioner, and behind the last one. Outputs come in their
-/// seconds, at one moment behind the progress.
+/// Rows with provisioners. They run after the provider of a create, and before the provider of a
+/// delete. After a failed provisioner the rest of the change is left undone, unless the provisioner
+/// may fail. Progress comes within a provisioner, and after the last one. Outputs come at their
+/// seconds, after the progress of the same second.
 const PROVISIONED: &str =
     r#"["create"] => [{"seconds":4,"id":"7","provisioners":[{"provisioner":"local-exec","seconds":12,"output":["hi"]}]}] => begins 0; (0, 7, 0, 0, Start); (4, 7, 0, 0, ProvisionStart(0)); (10, 7, 0, 0, Progress(10)); (16, 7, 0, 0, ProvisionOutput { prov: 0, line: 0 }); (16, 7, 0, 0, ProvisionComplete(0)); (16, 7, 0, 0, Complete(16)); counted (1, 0, 0, 0, 0); ended 16;
 ["create"] => [{"seconds":1,"provisioners":[{"provisioner":"a","seconds":2,"failed":{"summary":"boom"}},{"provisioner":"b","seconds":3}]}] => begins 0; (0, 7, 0, 0, Start); (1, 7, 0, 0, ProvisionStart(0)); (3, 7, 0, 0, ProvisionErrored(0)); (3, 7, 0, 0, Errored(3)); counted (0, 0, 0, 1, 0); (3, 7, 0, 0, ErrorNote); ended 3;
@@ -53,59 +55,60 @@ const PROVISIONED: &str =
 #[test]
 fn worked_changes(rt: HostRuntime) {
     let alloc = rt.alloc();
-    let none = kept(&rt, alloc, Registry::new(alloc));
-    rows_are_told(&rt, alloc, none, 0, WORKED);
-    rows_are_told(&rt, alloc, none, 0, PROVISIONED);
+    let none = leaked(&rt, alloc, Registry::new(alloc));
+    rows_hold(&rt, alloc, none, 0, WORKED);
+    rows_hold(&rt, alloc, none, 0, PROVISIONED);
 }
 
 /// A replacement that begins at 5.
 const FROM_5: &str =
     r#"["delete","create"] => [{"seconds":11},{"seconds":2,"warning":{"summary":"slow"}}] => begins 0; (5, 7, 0, 0, Start); (15, 7, 0, 0, Progress(10)); (16, 7, 0, 0, Complete(11)); counted (0, 0, 1, 0, 0); ended 16; begins 1; (16, 7, 0, 1, Start); (18, 7, 0, 1, Complete(2)); counted (1, 0, 1, 0, 0); (18, 7, 0, 1, WarnNote); ended 18;"#;
 
-/// One under an empty script, at the last moment at which a change may begin.
+/// A replacement under an empty script, at the last second at which a change may begin.
 const LATE: &str =
     r#"["delete","create"] => no script => begins 0; (1727827200, 7, 0, 0, Start); (1727827200, 7, 0, 0, Complete(0)); counted (0, 0, 1, 0, 0); begins 1; (1727827200, 7, 0, 1, Start); (1727827200, 7, 0, 1, Complete(0)); counted (1, 0, 1, 0, 0);"#;
 
 #[test]
 fn between_the_events_of_a_replacement(rt: HostRuntime) {
     let alloc = rt.alloc();
-    let none = kept(&rt, alloc, Registry::new(alloc));
-    rows_are_told(&rt, alloc, none, 5, FROM_5);
-    rows_are_told(&rt, alloc, none, LAST_BEGIN, LATE);
+    let none = leaked(&rt, alloc, Registry::new(alloc));
+    rows_hold(&rt, alloc, none, 5, FROM_5);
+    rows_hold(&rt, alloc, none, LAST_BEGIN, LATE);
 }
 
-/// A change's actions, those of the change that a script was read for, its steps, and the events. The change goes on behind a read
-/// that only warns: no script that is read for it says so of a replacement. A script for more steps than the change has, and one
-/// that skips a step of them.
+/// Each row has the actions of a change, the actions of the plan that the script was read for, the
+/// steps, and the events. A change goes on after a read that only warns, which no script states for
+/// a replacement. Other scripts have more steps than the change, and one skips such a step.
 const OF_OTHER_PLANS: &str =
     r#"["delete","create"] => ["read"] => [{"seconds":11,"failed":{"severity":"warning","summary":"no"}}] => begins 0; (0, 7, 0, 0, Start); (10, 7, 0, 0, Progress(10)); (11, 7, 0, 0, WarnNote); ended 11; begins 1; (11, 7, 0, 1, Start); (11, 7, 0, 1, Complete(0)); counted (1, 0, 0, 0, 0);
 ["create"] => ["delete","create"] => [{"seconds":3},{"skipped":true}] => begins 0; (0, 7, 0, 0, Start); (3, 7, 0, 0, Complete(3)); counted (1, 0, 0, 0, 0); ended 3;
 ["create"] => ["delete","create"] => [{"skipped":true},{"seconds":5}] => "#;
 
-/// Fails where the change of a row is told otherwise by its script.
-fn is_told_by_another(rt: &impl Abort, alloc: Global, row: &str) {
+/// Fails if the change of a row has other events with that script.
+fn events_with_other_script(rt: &impl Abort, alloc: Global, row: &str) {
     let (actions, rest) = parted(rt, row);
     let (others, rest) = parted(rt, rest);
     let (steps, wanted) = parted(rt, rest);
     let script = script_of(rt, alloc, plan_of(rt, alloc, others), steps);
     let plan = plan_of(rt, alloc, actions);
-    let none = kept(rt, alloc, Registry::new(alloc));
-    is_told(rt, alloc, plan, script, none, 0, wanted);
+    let none = leaked(rt, alloc, Registry::new(alloc));
+    events_are(rt, alloc, plan, script, none, 0, wanted);
 }
 
 #[test]
 fn scripts_of_other_plans(rt: HostRuntime) {
     for row in OF_OTHER_PLANS.lines() {
-        is_told_by_another(&rt, rt.alloc(), row);
+        events_with_other_script(&rt, rt.alloc(), row);
     }
 }
 
-/// Under hooks that halt deletes before they start: the first of them is told.
+/// Rows under hooks that halt deletes before they start. The event names the first of these hooks.
 const BEFORE: &str =
     r#"["delete","create"] => no script => begins 0; (0, 7, 0, 0, Halted { phase: Pre, hook: 1 }); counted (0, 0, 0, 0, 1);
 ["create","delete"] => no script => begins 0; (0, 7, 0, 0, Start); (0, 7, 0, 0, Complete(0)); counted (1, 0, 0, 0, 0); begins 1; (0, 7, 0, 1, Halted { phase: Pre, hook: 1 }); counted (1, 0, 0, 0, 1);"#;
 
-/// Under hooks that halt what has failed, also by a provisioner. A read that only warns has not failed.
+/// Rows under hooks that halt after a failure, also of a provisioner. A read that only warns has
+/// not failed.
 const AFTER_A_FAILURE: &str =
     r#"["create"] => [{"seconds":5,"failed":{"summary":"boom"}}] => begins 0; (0, 7, 0, 0, Start); (5, 7, 0, 0, Errored(5)); counted (0, 0, 0, 1, 0); (5, 7, 0, 0, ErrorNote); (5, 7, 0, 0, Halted { phase: PostFailed, hook: 1 }); counted (0, 0, 0, 1, 1); ended 5;
 ["create"] => [{"seconds":5}] => begins 0; (0, 7, 0, 0, Start); (5, 7, 0, 0, Complete(5)); counted (1, 0, 0, 0, 0); ended 5;
@@ -113,8 +116,8 @@ const AFTER_A_FAILURE: &str =
 ["create"] => [{"seconds":1,"provisioners":[{"provisioner":"a","seconds":2,"output":["x"]}]}] => begins 0; (0, 7, 0, 0, Start); (1, 7, 0, 0, ProvisionStart(0)); (3, 7, 0, 0, ProvisionOutput { prov: 0, line: 0 }); (3, 7, 0, 0, ProvisionComplete(0)); (3, 7, 0, 0, Complete(3)); counted (1, 0, 0, 0, 0); ended 3;
 ["read"] => [{"seconds":1,"failed":{"severity":"warning","summary":"no"}}] => begins 0; (0, 7, 0, 0, Start); (1, 7, 0, 0, WarnNote); ended 1;"#;
 
-/// Under hooks that halt what is done: between the steps of a replacement, behind provisioners, and behind a read that only
-/// warns. They are not asked where a provisioner fails.
+/// Rows under hooks that halt after a done step: between the steps of a replacement, after
+/// provisioners, and after a read that only warns. They are not asked where a provisioner fails.
 const AFTER_A_DONE_STEP: &str =
     r#"["delete","create"] => [{"seconds":1},{"seconds":2}] => begins 0; (0, 7, 0, 0, Start); (1, 7, 0, 0, Complete(1)); counted (0, 0, 1, 0, 0); (1, 7, 0, 0, Halted { phase: PostDone, hook: 1 }); counted (0, 0, 1, 0, 1); ended 1;
 ["create"] => [{"seconds":1,"provisioners":[{"provisioner":"a","seconds":2,"output":["x"]}]}] => begins 0; (0, 7, 0, 0, Start); (1, 7, 0, 0, ProvisionStart(0)); (3, 7, 0, 0, ProvisionOutput { prov: 0, line: 0 }); (3, 7, 0, 0, ProvisionComplete(0)); (3, 7, 0, 0, Complete(3)); counted (1, 0, 0, 0, 0); (3, 7, 0, 0, Halted { phase: PostDone, hook: 1 }); counted (1, 0, 0, 0, 1); ended 3;
@@ -125,8 +128,8 @@ const AFTER_A_DONE_STEP: &str =
 fn hooks_halt_before_and_after_steps(rt: HostRuntime) {
     let alloc = rt.alloc();
     let deletes = Some(StepKind::Delete);
-    rows_are_told_under(&rt, alloc, Phase::Pre, deletes, BEFORE);
-    rows_are_told_under(&rt, alloc, Phase::Pre, deletes, lanes::HALTED);
-    rows_are_told_under(&rt, alloc, Phase::PostFailed, None, AFTER_A_FAILURE);
-    rows_are_told_under(&rt, alloc, Phase::PostDone, None, AFTER_A_DONE_STEP);
+    rows_hold_under(&rt, alloc, Phase::Pre, deletes, BEFORE);
+    rows_hold_under(&rt, alloc, Phase::Pre, deletes, lanes::HALTED);
+    rows_hold_under(&rt, alloc, Phase::PostFailed, None, AFTER_A_FAILURE);
+    rows_hold_under(&rt, alloc, Phase::PostDone, None, AFTER_A_DONE_STEP);
 }

@@ -1,10 +1,10 @@
-//! Which events can happen, which are of the plan, and which are notes.
+//! The events that can happen, the events of the plan, and the events that are diagnostics.
 
 use super::*;
 
-/// A change's actions, the steps of a script, and all that can happen to its steps of what is tried, for each row: of each the
-/// step, and what happens. Nothing can happen to a skipped step, nor to one behind it; neither a completion nor an error to a read
-/// that only warns.
+/// Each row has the actions of a change, the steps of a script, and the tried events that can
+/// happen, with their steps. A skipped step and the steps after it have no event. A read that only
+/// warns neither completes nor fails.
 const FITTING: &str =
     r#"["delete","create"] => [{"seconds":10}] => (0, Start); (0, Complete(10)); (0, Halted { phase: Pre, hook: 31 }); (0, Halted { phase: PostDone, hook: 0 }); (1, Start); (1, Complete(0)); (1, Halted { phase: Pre, hook: 31 }); (1, Halted { phase: PostDone, hook: 0 });
 ["delete","create"] => [{"seconds":11,"warning":{"summary":"slow"}}] => (0, Start); (0, Progress(10)); (0, Complete(11)); (0, WarnNote); (0, Halted { phase: Pre, hook: 31 }); (0, Halted { phase: PostDone, hook: 0 }); (1, Start); (1, Complete(0)); (1, Halted { phase: Pre, hook: 31 }); (1, Halted { phase: PostDone, hook: 0 });
@@ -15,15 +15,16 @@ const FITTING: &str =
 ["delete","create"] => [{"skipped":true},{"seconds":5}] => 
 ["read"] => [{"seconds":10,"failed":{"severity":"warning","summary":"no"}}] => (0, Start); (0, WarnNote); (0, Halted { phase: Pre, hook: 31 }); (0, Halted { phase: PostDone, hook: 0 });"#;
 
-/// How much is tried of a step, and of which on notes are, up to the provisioners.
+/// The number of tried kinds. Kinds from `NOTES` on are errors, warnings and halts. Kinds from
+/// `PROVISIONERS` on are events of provisioners.
 const TRIED: u8 = 37;
 
 const NOTES: u8 = 13;
 
 const PROVISIONERS: u8 = 19;
 
-/// What is tried.
-fn what_of(number: u8) -> What {
+/// The tried kind of that number.
+fn numbered_what(number: u8) -> What {
     match number {
         0 => What::Start,
         1 => What::Progress(0),
@@ -60,7 +61,7 @@ fn what_of(number: u8) -> What {
     }
 }
 
-/// Six that are tried of each of three provisioners.
+/// The tried kind of that number, of six kinds for each of three provisioners.
 fn of_provisioner(number: u8) -> What {
     let (prov, number) = (number / 6, number % 6);
     match number {
@@ -83,25 +84,26 @@ fn event(change: u32, step: u8, what: What, at: u64) -> Event {
     }
 }
 
-/// What can happen to three steps, of what is tried.
+/// The tried events of three steps that can happen.
 fn fitting(rt: &impl Abort, alloc: Global, plan: &Plan, script: &Script) -> &'static str {
     let mut text = String::new(alloc);
     for number in 0..3 * TRIED {
-        let (step, what) = (number / TRIED, what_of(number % TRIED));
+        let (step, what) = (number / TRIED, numbered_what(number % TRIED));
         if fits(plan, script, &event(0, step, what, 0)) {
             push_value(rt, &mut text, "", &(step, what));
         }
     }
-    kept(rt, alloc, text).as_str()
+    leaked(rt, alloc, text).as_str()
 }
 
-/// Fails where a row is another: the actions, the steps, and what can happen.
+/// Fails if other events can happen than the row lists. A row has the actions, the steps, and the
+/// events.
 fn row_fits(rt: &impl Abort, alloc: Global, row: &str) {
     let (actions, rest) = parted(rt, row);
     let (steps, wanted) = parted(rt, rest);
     let plan = plan_of(rt, alloc, actions);
-    let found = fitting(rt, alloc, plan, script_of(rt, alloc, plan, steps));
-    text_is(rt, row, found.trim_end(), wanted);
+    let actual = fitting(rt, alloc, plan, script_of(rt, alloc, plan, steps));
+    text_is(rt, row, actual.trim_end(), wanted);
 }
 
 #[test]
@@ -111,9 +113,10 @@ fn events_that_can_happen(rt: HostRuntime) {
     }
 }
 
-/// Fails where an event of a step at that moment is of the plan and should not be, or the other way round. It takes another time
-/// than the script says, and is of the plan for all that; a start can happen where it is.
-fn is_told_of(
+/// Fails if an event at that second belongs to the plan and should not, or the reverse. The event
+/// is a completion at another time than the script states. A start there can happen if and only if
+/// it belongs to the plan.
+fn belongs_to_plan(
     rt: &impl Abort,
     plan: &Plan,
     script: &Script,
@@ -123,28 +126,28 @@ fn is_told_of(
     wanted: bool,
 ) {
     let completed = event(change, step, What::Complete(99), at);
-    let found = is_of_plan(plan, &completed);
-    holds(rt, "an event of the plan", found == wanted);
+    let actual = is_of_plan(plan, &completed);
+    holds(rt, "an event of the plan", actual == wanted);
     let started = event(change, step, What::Start, at);
-    let found = fits(plan, script, &started);
-    holds(rt, "a start", found == wanted);
+    let actual = fits(plan, script, &started);
+    holds(rt, "a start", actual == wanted);
 }
 
 #[test]
 fn events_of_the_plan_have_its_steps_and_come_in_time(rt: HostRuntime) {
     let plan = plan_of(&rt, rt.alloc(), REPLACEMENT);
     let script = script_of(&rt, rt.alloc(), plan, NO_SCRIPT);
-    is_told_of(&rt, plan, script, 0, 0, 0, true);
-    is_told_of(&rt, plan, script, 0, 1, LATEST, true);
-    is_told_of(&rt, plan, script, 0, 1, 1_728_000_001, false);
-    is_told_of(&rt, plan, script, 0, 2, 0, false);
-    is_told_of(&rt, plan, script, 1, 0, 0, false);
+    belongs_to_plan(&rt, plan, script, 0, 0, 0, true);
+    belongs_to_plan(&rt, plan, script, 0, 1, LATEST, true);
+    belongs_to_plan(&rt, plan, script, 0, 1, 1_728_000_001, false);
+    belongs_to_plan(&rt, plan, script, 0, 2, 0, false);
+    belongs_to_plan(&rt, plan, script, 1, 0, 0, false);
 }
 
 #[test]
 fn errors_warnings_and_halts_are_notes(rt: HostRuntime) {
     for number in 0..TRIED {
-        let noted = event(0, 0, what_of(number), 0).is_note();
+        let noted = event(0, 0, numbered_what(number), 0).is_note();
         holds(
             &rt,
             "a note",

@@ -1,10 +1,11 @@
-//! What lanes report, in the order of time.
+//! The events of lanes in the order of time.
 
 use super::*;
 
-/// Of each change its actions and its steps in the script, and then how many lanes there are and what they report: of each event
-/// the moment, the lane, the change with its step, and what happens. At each moment the lower lane comes first, with all that it
-/// does then; a lane that is free takes the next change.
+/// Each block has the actions of the changes and their steps in the script. Then it has a number of
+/// lanes and their events. An event has its second, its lane, the change with its step, and its
+/// kind. In the same second the lower lane comes first, with all its events. A free lane takes the
+/// next change.
 const REPORTED: &str = r#"["create"] => [{"seconds":12}]
 ["create"] => [{"seconds":12}]
 ["create"] => [{"seconds":12}]
@@ -46,7 +47,7 @@ in 64 => (0, 0, 0, 0, Start); (0, 0, 0, 0, Complete(0)); (0, 0, 2, 0, Start); (0
 ["read"] => [{"seconds":9,"failed":{"severity":"warning","summary":"no"}}]
 in 1 => (0, 0, 0, 0, Start); (2, 0, 0, 0, Errored(2)); (2, 0, 0, 0, ErrorNote); (2, 0, 1, 0, Start); (11, 0, 1, 0, WarnNote);"#;
 
-/// Steps that wait for others.
+/// Blocks with steps that wait for others.
 const WAITING: &str = r#"["create"] => [{"seconds":2}]
 ["create"] => [{"seconds":1,"after":["null_resource.r0"]}]
 ["create"] => [{"seconds":4}]
@@ -91,8 +92,8 @@ in 1 => (0, 0, 0, 0, Start); (3, 0, 0, 0, WarnNote); (3, 0, 1, 0, Start); (5, 0,
 ["update"] => [{"seconds":2,"after":["null_resource.r0"]}]
 in 2 => (0, 0, 2, 0, Start); (2, 0, 2, 0, Complete(2)); (2, 1, 1, 0, Start); (3, 1, 1, 0, Complete(1));"#;
 
-/// Steps of replacements that wait, or that are waited for. Where a second step names what it waits for, the lane is given away
-/// between the two.
+/// Blocks with steps of replacements that wait, or that others wait for. If the second step names a
+/// step to wait for, another turn may use the lane between both steps.
 const WAITING_REPLACEMENTS: &str =
     r#"["delete","create"] => [{"seconds":1,"after":[{"address":"null_resource.r1","step":0}]},{"seconds":2}]
 ["delete","create"] => [{"seconds":2},{"seconds":1,"after":["null_resource.r0"]}]
@@ -116,7 +117,8 @@ in 2 => (0, 0, 0, 0, Start); (0, 1, 1, 0, Start); (0, 1, 1, 0, Complete(0)); (1,
 ["create"] => [{"seconds":2}]
 in 1 => (0, 0, 0, 0, Start); (1, 0, 0, 0, Complete(1)); (1, 0, 1, 0, Start); (3, 0, 1, 0, Complete(2)); (3, 0, 0, 1, Start); (4, 0, 0, 1, Complete(1));"#;
 
-/// Each delete is halted before it starts, and takes no time. What waits for it is left out.
+/// Blocks whose deletes are halted before they start, and take no time. Steps that wait for them
+/// are left out.
 pub(super) const HALTED: &str = r#"["delete","create"] => [{"seconds":5},{"seconds":4}]
 ["create"] => [{"seconds":11}]
 ["create"] => [{"seconds":1}]
@@ -140,7 +142,7 @@ const ENTRIES: &str = r#"{"changes":[CELL]}"#;
 /// A comma and the entry of that number, with its steps in the place of `STEPS`.
 const ENTRY: &str = r#",{"address":"null_resource.rNUMBER","steps":STEPS}"#;
 
-/// The text with what is told of a change and its number in their places.
+/// The text with what stands for a change, and the number of the change, in their places.
 fn filled(rt: &impl Abort, alloc: Global, text: &str, change: &str, number: u32) -> &'static str {
     let (actions, steps) = parted(rt, change);
     let text = put(rt, alloc, text, "ACTIONS", actions);
@@ -156,7 +158,7 @@ fn listed(rt: &impl Abort, alloc: Global, changes: &str, text: &str) -> &'static
         push(rt, &mut list, filled(rt, alloc, text, change, number));
         number = number.wrapping_add(1);
     }
-    let list = kept(rt, alloc, list).as_str();
+    let list = leaked(rt, alloc, list).as_str();
     list.strip_prefix(",").expect(rt, "a change")
 }
 
@@ -169,7 +171,8 @@ fn read_both(rt: &impl Abort, alloc: Global, changes: &str) -> (&'static Plan, &
     (plan, script_in(rt, alloc, plan, script))
 }
 
-/// Of each event that so many lanes give the moment, the lane, the change with its step, and what happens.
+/// The events of so many lanes. Each has its second, its lane, the change with its step, and its
+/// kind.
 pub(super) fn reported(
     rt: &impl Abort,
     alloc: Global,
@@ -186,20 +189,20 @@ pub(super) fn reported(
     while let Some(event) = lanes.next() {
         push_event(rt, &mut text, &event);
     }
-    kept(rt, alloc, text).as_str()
+    leaked(rt, alloc, text).as_str()
 }
 
-/// Fails where so many lanes report something else of the changes than a row has.
+/// Fails if so many lanes emit other events of the changes than the row lists.
 fn row_is_reported(rt: &impl Abort, alloc: Global, registry: &Registry, changes: &str, row: &str) {
     let (count, wanted) = parted(rt, row);
     let count = count.parse::<u8>().ok().expect(rt, count);
     let (plan, script) = read_both(rt, alloc, changes);
-    let found = reported(rt, alloc, plan, script, registry, count);
-    text_is(rt, row, found.trim_end(), wanted);
+    let actual = reported(rt, alloc, plan, script, registry, count);
+    text_is(rt, row, actual.trim_end(), wanted);
 }
 
-/// Fails where lanes report something else than a table has: in each of its blocks stand the changes, a line each, and behind them
-/// the rows.
+/// Fails if lanes emit other events than a table lists. Each block of the table has the changes,
+/// one in a line, and then the rows.
 pub(super) fn lanes_report(rt: &impl Abort, alloc: Global, registry: &Registry, table: &str) {
     let mut changes = String::new(alloc);
     for line in table.lines() {
@@ -217,7 +220,7 @@ pub(super) fn lanes_report(rt: &impl Abort, alloc: Global, registry: &Registry, 
 #[test]
 fn changes_in_lanes(rt: HostRuntime) {
     let alloc = rt.alloc();
-    let none = kept(&rt, alloc, Registry::new(alloc));
+    let none = leaked(&rt, alloc, Registry::new(alloc));
     lanes_report(&rt, alloc, none, REPORTED);
     lanes_report(&rt, alloc, none, WAITING);
     lanes_report(&rt, alloc, none, WAITING_REPLACEMENTS);

@@ -1,4 +1,4 @@
-//! Outputs of provisioners as no script tells them that is read.
+//! Outputs of provisioners at times that no script states.
 
 ghost use Rattle.std.specs.Prelude.{◌≡◌, ◌≤◌, ◌+◌, ◌∷◌, [], length, vec_len};
 
@@ -24,7 +24,7 @@ fn add(rt: &impl Abort, alloc: Global, texts: &mut Vec<TimedText>, after: u32)
         .expect(rt, "memory");
 }
 
-/// Four texts that come after so many seconds each.
+/// Four texts that come after these seconds.
 fn texts(rt: &impl Abort, alloc: Global, times: [u32; 4]) -> TimedTexts
     ensures { length result ≤ 4 }
 {
@@ -46,7 +46,8 @@ fn list_of<T: Drop>(rt: &impl Abort, alloc: Global, item: T) -> Vec<T>
     list
 }
 
-/// The script whose first change has one step: its provider takes 3 seconds, and a provisioner with these outputs 12.
+/// A script whose first change has one step. Its provider takes 3 seconds, and its provisioner with
+/// these outputs takes 12.
 fn provisioned(rt: &impl Abort, alloc: Global, output: TimedTexts) -> &'static Script
     requires { length output ≤ 4 }
 {
@@ -67,10 +68,11 @@ fn provisioned(rt: &impl Abort, alloc: Global, output: TimedTexts) -> &'static S
         after: Waits::new(Vec::new(alloc)),
     });
     let steps = Some(StepOutcomes::new(list_of(rt, alloc, step)));
-    kept(rt, alloc, Script::new(list_of(rt, alloc, steps)))
+    leaked(rt, alloc, Script::new(list_of(rt, alloc, steps)))
 }
 
-/// Those that come too soon come with the one before them, and those that come too late with the end.
+/// An output that is too early comes with the output before it. An output that is too late comes
+/// with the end.
 const OUT_OF_TIME: &str =
     "begins 0; (0, 7, 0, 0, Start); (3, 7, 0, 0, ProvisionStart(0)); (10, 7, 0, 0, Progress(10)); (10, 7, 0, 0, ProvisionOutput { prov: 0, line: 0 }); (10, 7, 0, 0, ProvisionOutput { prov: 0, line: 1 }); (15, 7, 0, 0, ProvisionOutput { prov: 0, line: 2 }); (15, 7, 0, 0, ProvisionOutput { prov: 0, line: 3 }); (15, 7, 0, 0, ProvisionComplete(0)); (15, 7, 0, 0, Complete(15)); counted (1, 0, 0, 0, 0); ended 15;";
 
@@ -80,11 +82,12 @@ fn outputs_out_of_time(rt: HostRuntime) {
     let texts = texts(&rt, alloc, [7, 5, u32::MAX, 3]);
     let script = provisioned(&rt, alloc, texts);
     let plan = plan_of(&rt, alloc, CREATE);
-    let none = kept(&rt, alloc, Registry::new(alloc));
-    is_told(&rt, alloc, plan, script, none, 0, OUT_OF_TIME);
+    let none = leaked(&rt, alloc, Registry::new(alloc));
+    events_are(&rt, alloc, plan, script, none, 0, OUT_OF_TIME);
 }
 
-/// Fails where texts after these seconds are in time, or are not, of a provisioner that takes so many.
+/// Fails if texts after these seconds are in time in a provisioner of `seconds` seconds and should
+/// not be, or the reverse.
 fn are_in_time(rt: &impl Abort, alloc: Global, times: [u32; 4], seconds: u32, wanted: bool) {
     let texts = texts(rt, alloc, times);
     holds(rt, "in time", texts.are_in_time(seconds) == wanted);

@@ -1,10 +1,11 @@
-//! Registries: how full they are, which hooks are called, and that threads share them.
+//! Registries: how full they are, which hooks they call, and that threads share them.
 
 ghost use Rattle.std.specs.Prelude.{◌≡◌};
 
 use super::*;
 
-/// Rules for a hook, and for its closure: none, or one that halts steps of that kind in that phase.
+/// Rules for a hook, and for its closure: none, or one rule that halts steps of that kind in that
+/// phase.
 fn rules_twice(
     rt: &impl Abort,
     alloc: Global,
@@ -23,8 +24,8 @@ fn rules_twice(
     }
 }
 
-/// Fails where a hook was refused though there is room, or was added though there is none, or where another error or another hook
-/// came back than the one that halts.
+/// Fails if the registry refuses a hook though it has room, or takes a hook though it is full.
+/// Fails too if the error or the returned hook is wrong.
 pub(super) fn is_added_or_comes_back(
     rt: &impl Abort,
     alloc: Global,
@@ -34,12 +35,12 @@ pub(super) fn is_added_or_comes_back(
     holds(rt, "added where there is room", added.is_ok() == has_room);
     if let Err((error, hook)) = added {
         holds(rt, "it is full", error == HookError::Full);
-        let hook = kept(rt, alloc, hook);
+        let hook = leaked(rt, alloc, hook);
         is_decided(rt, alloc, hook, "Pre Create null_resource.a => Halt");
     }
 }
 
-/// The call that the threads ask about.
+/// The call with which the threads ask.
 fn create<'a>() -> HookCall<'a> {
     HookCall {
         phase: Phase::Pre,
@@ -48,7 +49,7 @@ fn create<'a>() -> HookCall<'a> {
     }
 }
 
-/// Fails where one of so many threads was answered otherwise than that the first hook halts.
+/// Fails if one of so many threads got another answer than a halt by the first hook.
 fn all_are_halted(rt: &impl Abort, all: &[Asked], threads: usize) {
     holds(rt, "an answer for each", all.len() == threads);
     for asked in all {
@@ -56,7 +57,8 @@ fn all_are_halted(rt: &impl Abort, all: &[Asked], threads: usize) {
     }
 }
 
-/// Fails where one of so many threads that ask the registry is answered otherwise than that the first hook halts.
+/// Asks the registry in so many threads. Fails if one of them gets another answer than a halt by
+/// the first hook.
 fn threads_ask<R: Threads + Sync + Abort>(
     rt: &R,
     alloc: Global,
@@ -72,8 +74,8 @@ fn threads_ask<R: Threads + Sync + Abort>(
     all_are_halted(rt, &all.expect(rt, "memory"), threads);
 }
 
-/// Fails where the registry has another number of hooks than the row says, where they were called another number of times so
-/// far, or where the call of the row is answered otherwise.
+/// Fails if the registry differs from the row: in its number of hooks, in the calls so far, or in
+/// the answer to the call of the row.
 fn is_so(rt: &impl Abort, alloc: Global, registry: &Registry, calls: &AtomicU64, row: &str) {
     let (asked, wanted) = parted(rt, row, " => ");
     match asked {
@@ -83,7 +85,7 @@ fn is_so(rt: &impl Abort, alloc: Global, registry: &Registry, calls: &AtomicU64,
     }
 }
 
-/// Fails where a row of the table is not so.
+/// Fails if a row of the table does not hold.
 pub(super) fn rows_are_so(
     rt: &impl Abort,
     alloc: Global,
@@ -96,9 +98,10 @@ pub(super) fn rows_are_so(
     }
 }
 
-/// Fails where a row of the table is not so of a registry to which so many hooks were added. The first of them, as many as are
-/// quiet, halt nothing, and the others halt steps of that kind in that phase. The first counts its calls by one, the
-/// second by a thousand, the third by a million. There is room for 32. So many threads ask before the table is looked at.
+/// Fails if a row of the table does not hold for a registry of so many hooks. The first `quiet`
+/// hooks halt nothing, and the others halt steps of that kind in that phase. A call of the first
+/// hook counts 1, of the second 1,000, of the third 1,000,000. There is room for 32 hooks. So many
+/// threads ask before the table is read.
 fn are_so<R: Threads + Sync + Abort>(
     rt: &R,
     alloc: Global,
@@ -110,7 +113,7 @@ fn are_so<R: Threads + Sync + Abort>(
     table: &str,
 ) {
     let calls = count(rt, alloc);
-    let registry = kept(rt, alloc, Registry::new(alloc));
+    let registry = leaked(rt, alloc, Registry::new(alloc));
     for number in 0..hooks {
         holds(rt, "hooks", registry.len() == number as usize);
         let counted = shared(rt, calls);
@@ -128,15 +131,15 @@ fn are_so<R: Threads + Sync + Abort>(
     rows_are_so(rt, alloc, registry, calls, table);
 }
 
-/// A registry whose second and third hook halt deletes before they start. That the first and the second were called once, and
-/// the third never, are 1001 calls.
+/// A registry whose second and third hooks halt deletes before they start. 1001 calls mean that the
+/// first two hooks were called once, and the third never.
 const SECOND_HALTS: &str = "hooks => 3
 Pre Delete null_resource.a => HaltedBy(1)
 calls => 1001
 Pre Create null_resource.a => Go";
 
-/// A registry that worked out the verdicts from the rules alone would call nothing. The second hook halts, so the third is
-/// not called.
+/// A registry that decided by the rules alone would call nothing. The second hook halts, so the
+/// third is not called.
 #[test]
 fn hooks_are_called_up_to_the_first_that_halts(rt: HostRuntime) {
     let kind = Some(StepKind::Delete);
@@ -152,7 +155,7 @@ fn hooks_are_called_up_to_the_first_that_halts(rt: HostRuntime) {
     );
 }
 
-/// A registry to which a 33rd hook, which halts all, could not be added.
+/// A registry that could not take a 33rd hook, which halts all.
 const FULL: &str = "hooks => 32
 Pre Create null_resource.a => Go";
 
@@ -161,7 +164,7 @@ fn the_33rd_hook_comes_back(rt: HostRuntime) {
     are_so(&rt, rt.alloc(), 33, 32, None, None, 0, FULL);
 }
 
-/// A registry of one hook, which halts creates, and is asked by each thread once.
+/// A registry of one hook, which halts creates. Each thread asks it once.
 const ASKED_BY_THREADS: &str = "calls => 8";
 
 #[test]

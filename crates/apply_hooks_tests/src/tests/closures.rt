@@ -1,17 +1,18 @@
-//! The closures of callers: each meets the one condition of `FnHook::new` with no proof of its own.
+//! The closures of callers. Each meets the condition of `FnHook::new` with no proof of its own.
 
 use super::asking::{is_added_or_comes_back, rows_are_so};
 use super::*;
 
-/// Fails where the hook answers the call of the row otherwise, or the count is another by then.
+/// Fails if the hook gives another answer to the call of the row, or if the count differs
+/// afterwards.
 fn is_counted(rt: &impl Abort, alloc: Global, hook: &FnHook, calls: &AtomicU64, row: &str) {
     let (row, so_far) = parted(rt, row, "; ");
     is_decided(rt, alloc, hook, row);
     number_is(rt, alloc, row, calls.load(Ordering::SeqCst), so_far);
 }
 
-/// Fails where the hook answers a call of the table otherwise, or the count is another by then, or where a registry of that hook
-/// alone answers the last call otherwise.
+/// Fails if the hook gives another answer to a call of the table, or if the count differs
+/// afterwards. Fails too if a registry with only that hook gives another answer to the last call.
 fn answers_so(
     rt: &impl Abort,
     alloc: Global,
@@ -23,7 +24,7 @@ fn answers_so(
     for row in table.lines() {
         is_counted(rt, alloc, &hook, calls, row);
     }
-    let registry = kept(rt, alloc, Registry::new(alloc));
+    let registry = leaked(rt, alloc, Registry::new(alloc));
     is_added_or_comes_back(rt, alloc, true, registry.add(hook));
     holds(rt, "one hook", registry.len() == 1);
     is_asked(rt, alloc, registry, last);
@@ -58,7 +59,8 @@ fn one_rule(rt: HostRuntime) {
     );
 }
 
-/// What three hooks halt before it starts: all of a kind, or all whose address begins so.
+/// What three hooks halt before it starts: all steps of a kind, or all with such a beginning of
+/// their address.
 const HALTED: &str = "Read 
 any module.a
 Create ";
@@ -70,11 +72,11 @@ Pre Create b.c => HaltedBy(2)
 Pre Delete b.c => Go
 PostDone Read module.a.b.c => Go";
 
-/// Kinds and beginnings are read while the test runs, as options of a command line would be.
+/// The test reads kinds and beginnings while it runs, like options of a command line.
 #[test]
 fn rules_of_values_that_are_known_when_the_program_runs(rt: HostRuntime) {
     let alloc = rt.alloc();
-    let registry = kept(&rt, alloc, Registry::new(alloc));
+    let registry = leaked(&rt, alloc, Registry::new(alloc));
     for row in HALTED.lines() {
         let (kind, beginning) = parted(&rt, row, " ");
         let kind = kind_of(&rt, kind);
@@ -98,7 +100,8 @@ fn rules_of_values_that_are_known_when_the_program_runs(rt: HostRuntime) {
     rows_are_so(&rt, alloc, registry, count(&rt, alloc), CALLS);
 }
 
-/// Calls on a hook that halts what has failed, what it answers, and how often its closure was called by then.
+/// Calls on a hook that halts after a failure. A row has the verdict, and the number of calls of
+/// its closure afterwards.
 const COUNTED: &str = "Pre Update a.b => Continue; 1
 PostFailed Update a.b => Halt; 2
 PostDone Update a.b => Continue; 3";

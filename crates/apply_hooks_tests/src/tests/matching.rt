@@ -1,8 +1,8 @@
-//! Which calls a rule matches, and which rule of a list decides.
+//! The calls that a rule matches, and the rule of a list that decides.
 
 use super::*;
 
-/// Calls, by a letter, their phase, their kind and their address.
+/// Calls: a letter, the phase, the kind and the address.
 const CALLS: &str = "a Pre Delete ab
 b Pre Create ab
 c PostDone Delete ab
@@ -10,7 +10,8 @@ d PostFailed Update a
 e Pre Delete ba
 f PostDone Read ";
 
-/// Rules, by their verdict, their phase, their kind and how the address begins. Each names the calls that it matches.
+/// Rules: the verdict, the phase, the kind and the beginning of the address. Each row lists the
+/// calls that the rule matches.
 const RULES: &str = "Halt any any  => abcdef
 Halt Pre any  => abe
 Halt PostDone any  => cf
@@ -27,7 +28,7 @@ Halt Pre Delete  => ae
 Halt Pre any a => ab
 Halt any Delete a => ac";
 
-/// The rule that the text tells by its verdict, its phase, its kind and how the address begins.
+/// The rule with the verdict, the phase, the kind and the beginning of the address in the text.
 fn rule_of(rt: &impl Abort, alloc: Global, text: &str) -> Rule {
     let (verdict, rest) = parted(rt, text, " ");
     let (phase, rest) = parted(rt, rest, " ");
@@ -51,24 +52,32 @@ fn push_rule(rt: &impl Abort, alloc: Global, rules: &mut Rules, text: &str) {
     holds(rt, "a rule was added", pushed.is_ok());
 }
 
-/// Fails where the rule, which halts, or the list of it alone, takes the call and should not, or leaves it and should take it.
-fn takes(rt: &impl Abort, row: &str, rule: &Rule, rules: &Rules, call: &str, taken: &str) {
+/// Fails if the rule, which halts, matches the call and should not, or the reverse. The same holds
+/// for a list with only that rule.
+fn matches_calls(
+    rt: &impl Abort,
+    row: &str,
+    rule: &Rule,
+    rules: &Rules,
+    call: &str,
+    matched: &str,
+) {
     let (letter, call) = parted(rt, call, " ");
-    let is_taken = taken.contains(letter);
+    let is_matched = matched.contains(letter);
     let call = call_of(rt, call);
     let verdict = rules.decide(&call);
-    holds(rt, row, rule.matches(&call) == is_taken);
-    holds(rt, row, (verdict == Verdict::Halt) == is_taken);
+    holds(rt, row, rule.matches(&call) == is_matched);
+    holds(rt, row, (verdict == Verdict::Halt) == is_matched);
 }
 
-/// Fails where the rule of the row, or a list of it alone, takes other calls.
+/// Fails if the rule of the row, or a list with only that rule, matches other calls.
 fn takes_calls(rt: &impl Abort, alloc: Global, row: &str) {
-    let (text, taken) = parted(rt, row, " => ");
-    let rule = kept(rt, alloc, rule_of(rt, alloc, text));
-    let rules = kept(rt, alloc, Rules::new(alloc));
+    let (text, matched) = parted(rt, row, " => ");
+    let rule = leaked(rt, alloc, rule_of(rt, alloc, text));
+    let rules = leaked(rt, alloc, Rules::new(alloc));
     push_rule(rt, alloc, rules, text);
     for call in CALLS.lines() {
-        takes(rt, row, rule, rules, call, taken);
+        matches_calls(rt, row, rule, rules, call, matched);
     }
 }
 
@@ -85,17 +94,17 @@ Halt any any a then Continue any any ab: Pre Create abc => Halt
 Halt any any a then Continue any any ab: Pre Create ac => Halt
 Halt any any a then Continue any any ab: Pre Create b => Continue";
 
-/// Fails where the list of the row answers otherwise.
+/// Fails if the list of the row gives another verdict.
 fn decides(rt: &impl Abort, alloc: Global, row: &str) {
     let (list, call) = parted(rt, row, ": ");
     let (first, second) = parted(rt, list, " then ");
-    let rules = kept(rt, alloc, Rules::new(alloc));
+    let rules = leaked(rt, alloc, Rules::new(alloc));
     push_rule(rt, alloc, rules, first);
     push_rule(rt, alloc, rules, second);
     is_decided(rt, alloc, rules, call);
 }
 
-/// Fails where a row does not hold, of a list of two rules or of one rule.
+/// Fails if a row does not hold, of a list of two rules or of one rule.
 fn rows_hold(rt: &impl Abort, alloc: Global, table: &str) {
     for row in table.lines() {
         if row.contains(" then ") {

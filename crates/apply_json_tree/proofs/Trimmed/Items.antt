@@ -1,4 +1,4 @@
--- Items that are looked at, as a reader meets them.
+-- Items of a trimmed tree, as a reader adds them one by one.
 use Rattle.std.proofs.Common.{◌≡◌, ◌<◌, ◌≤◌, ◌+◌, ◌-◌, ℕ, zero, suc, Option, Some, None, option_map, true, false, List, [], ◌∷◌, ◌++◌, length, refl, sym, ap, ◌∙◌, arith, length-append}
 use Rattle.std.proofs.lemmas.Bool.{ltb-false, ltb-true}
 use Rattle.serde_json.specs.Data.{Data, Items, no_items, item}
@@ -6,7 +6,7 @@ use Rattle.serde_json.specs.View.{view, items_view}
 use Rattle.serde_json.specs.declared.value.Value.{Value}
 use Rattle.apply_json_tree.specs.Trimmed.{Selection, is_within, trimmed, trimmed_items}
 
--- the values, and behind them the items
+-- the values, followed by the items
 abbrev pub items_before : List Value → Items → Items
 items_before [] ds = ds
 items_before (v ∷ vs) ds = item (view v) (items_before vs ds)
@@ -19,12 +19,12 @@ one_more : (vs : List Value) (v : Value) (ds : Items) → items_before vs (item 
 one_more [] v ds = refl
 one_more (first ∷ vs) v ds = ap (item (view first)) (one_more vs v ds)
 
--- what is left of a limit behind that many items
+-- what is left of a limit after that many items
 abbrev pub left : Option ℕ → ℕ → Option ℕ
 left limit count = option_map (λ n. n - count) limit
 
 module _ {S : Type 0} (selection : Selection S) where
-  -- an item more is looked at
+  -- one more item is stored
   kept_at : (shape : S) (limit : Option ℕ) (count : ℕ) (d : Data) (ds : Items) → is_within limit count ≡ true
       → trimmed_items selection shape (left limit count) (item d ds) ≡ item (trimmed selection shape d) (trimmed_items selection shape (left limit (count + 1)) ds)
   kept_at shape None count d ds within = refl
@@ -40,12 +40,12 @@ module _ {S : Type 0} (selection : Selection S) where
       ap (items_before vs) (kept_at shape limit (length vs) d ds within ∙ ap (λ e. item e (trimmed_items selection shape (left limit (length vs + 1)) ds)) (sym is))
       ∙ one_more vs v _ ∙ ap (λ n. items_before (vs ++ v ∷ []) (trimmed_items selection shape (left limit n) ds)) longer
 
-  -- the same where a reader has pushed it
+  -- one more item is stored, pushed by a reader
   pub kept : (shape : S) (limit : Option ℕ) (vs all : List Value) (v : Value) (d : Data) (ds : Items) → is_within limit (length vs) ≡ true → view v ≡ trimmed selection shape d → all ≡ vs ++ v ∷ []
       → items_before vs (trimmed_items selection shape (left limit (length vs)) (item d ds)) ≡ items_before all (trimmed_items selection shape (left limit (length all)) ds)
   kept shape limit vs all v d ds within is pushed = rw pushed (kept_last shape limit vs v d ds within is)
 
-  -- an item that nobody looks at
+  -- a skipped item
   passed_at : (shape : S) (count : ℕ) (d : Data) (ds : Items) → count ≡ 0 → trimmed_items selection shape (Some count) (item d ds) ≡ trimmed_items selection shape (Some count) ds
   passed_at shape zero d no_items none = refl
   passed_at shape zero d (item e ds) none = refl

@@ -1,4 +1,4 @@
--- What is looked up in a tree is still there when it is trimmed.
+-- Lookups give the same in a trimmed tree, for members that its shape selects.
 use Rattle.std.proofs.Common.{◌≡◌, ℕ, List, Option, Some, None, option_map, Ordering, Less, Equal, Greater, refl, sym, ap, ◌∙◌}
 use Rattle.std.specs.Ordering.{match_ordering}
 use Rattle.serde_json.specs.Data.{Data, null, boolean, number, string, array, object, Members, no_members, member}
@@ -7,7 +7,7 @@ use Rattle.apply_json.specs.Tree.{◌>>=◌, is_word, member_of, non_empty_text_
 use Rattle.apply_json_tree.specs.Trimmed.{Selection, trimmed, trimmed_items, trimmed_members}
 use Rattle.apply_json_tree.proofs.Trimmed.Members.{order, same_name, with_known}
 
--- a step behind a value that is another
+-- a lookup after another lookup
 pub bind_mapped : {A B : Type 0} (g : A → A) (f h : A → Option B) → ((x : A) → f (g x) ≡ h x) → (o : Option A) → (option_map g o >>= f) ≡ (o >>= h)
 bind_mapped g f h same None = refl
 bind_mapped g f h same (Some x) = same x
@@ -55,7 +55,7 @@ module _ {S : Type 0} (selection : Selection S) where
   pub member_trimmed : (shape known : S) (k : List ℕ) (d : Data) → selection.member_shape shape k ≡ Some known → member_of k (trimmed selection shape d) ≡ option_map (trimmed selection known) (member_of k d)
   member_trimmed shape known k d looked = ap (λ o. o >>= unless_null) (get_trimmed shape known k d looked) ∙ unless_null_trimmed known (get k d)
 
-  -- ---- what a value is by itself
+  -- ---- facts about a value by itself
 
   pub as_str_trimmed : (shape : S) (d : Data) → as_str (trimmed selection shape d) ≡ as_str d
   as_str_trimmed shape null = refl
@@ -92,7 +92,7 @@ module _ {S : Type 0} (selection : Selection S) where
   pub is_word_trimmed : (shape : S) (word : List ℕ) (d : Data) → is_word word (trimmed selection shape d) ≡ is_word word d
   is_word_trimmed shape word d = rw (as_str_trimmed shape d) refl
 
-  -- ---- a step behind a member
+  -- ---- a lookup in a member
 
   pub behind_trimmed : {B : Type 0} (shape known : S) (k : List ℕ) (f h : Data → Option B) (d : Data) → selection.member_shape shape k ≡ Some known
       → ((x : Data) → f (trimmed selection known x) ≡ h x) → (member_of k (trimmed selection shape d) >>= f) ≡ (member_of k d >>= h)

@@ -1,4 +1,4 @@
--- Members that are looked at, as a reader meets them: one is put among the members in order, and then all are trimmed.
+-- Members of a trimmed tree, as a reader adds them one by one in the order of their names.
 use Rattle.std.proofs.Common.{◌≡◌, ℕ, List, Option, Some, None, Ordering, Less, Equal, Greater, nat_cmp, is_eq, refl, sym, ap, ◌∙◌}
 use Rattle.std.specs.Prelude.{⊤}
 use Rattle.std.specs.Cmp.Lexicographic.{slice_cmp}
@@ -13,12 +13,12 @@ use Rattle.apply_json_tree.specs.Trimmed.{Selection, trimmed, trimmed_members}
 abbrev pub order : List ℕ → List ℕ → Ordering
 order = slice_cmp nat_cmp
 
--- a name stands before all of the members
+-- a name is less than the names of all members
 abbrev IsBefore : List ℕ → Members → Type 0
 IsBefore k no_members = ⊤
 IsBefore k (member l e ms) = (order k l ≡ Less) × IsBefore k ms
 
--- the members stand in the order of their names
+-- the members are in the order of their names
 abbrev pub AreInOrder : Members → Type 0
 AreInOrder no_members = ⊤
 AreInOrder (member k d ms) = IsBefore k ms × AreInOrder ms
@@ -55,10 +55,10 @@ pub put_in_order : (k : List ℕ) (d : Data) (ms : Members) → AreInOrder ms �
 put_in_order k d no_members h = (tt, tt)
 put_in_order k d (member l e ms) h = put_in_order_at (order k l) k l d e ms refl h.0 h.1 (put_in_order k d ms h.1)
 
--- ---- putting a member that is looked at
+-- ---- putting a member that is stored
 
 module _ {S : Type 0} (selection : Selection S) where
-  -- a member, where it is looked at, before the others
+  -- a member that is stored, before the others
   abbrev pub with_known : Option S → List ℕ → Data → Members → Members
   with_known known l e rest = option_map_or (λ shape. member l (trimmed selection shape e) rest) known rest
 
@@ -97,13 +97,13 @@ module _ {S : Type 0} (selection : Selection S) where
   put_known shape known k d no_members looked h = ap (λ o. with_known o k d no_members) looked
   put_known shape known k d (member l e ms) looked h = put_known_at (order k l) shape known k l d e ms refl looked h.0 (put_known shape known k d ms looked h.1)
 
-  -- the same of the members that a reader has kept
+  -- a member that is stored, among the members of a reader
   pub known_kept : (shape known : S) (k : List ℕ) (d seen : Data) (ms old new : Members) → selection.member_shape shape k ≡ Some known → AreInOrder ms → new ≡ put k seen old → seen ≡ trimmed selection known d
       → old ≡ trimmed_members selection shape ms → new ≡ trimmed_members selection shape (put k d ms)
   known_kept shape known k d seen ms old new looked h placed is so_far =
       placed ∙ ap (λ (x : Data). put k x old) is ∙ ap (put k (trimmed selection known d)) so_far ∙ sym (put_known shape known k d ms looked h)
 
-  -- ---- putting a member that nobody looks at
+  -- ---- putting a member that is skipped
 
   put_unknown_at : (o : Ordering) (shape : S) (k l : List ℕ) (d e : Data) (ms : Members) → order k l ≡ o → selection.member_shape shape k ≡ None
       → trimmed_members selection shape (put k d ms) ≡ trimmed_members selection shape ms

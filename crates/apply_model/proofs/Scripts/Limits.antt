@@ -28,7 +28,7 @@ takes true false own ran all less = omega arith
 takes false stopped own ran all less = omega arith
 
 -- a step within the limits takes a day at most
-pub in_time : (found : Option Outcome) → IfSome found IsBounded → IfSome found (λ outcome. (kind : StepKind) → took kind outcome ≤ max_seconds)
+pub in_time : (answer : Option Outcome) → IfSome answer IsBounded → IfSome answer (λ outcome. (kind : StepKind) → took kind outcome ≤ max_seconds)
 in_time None bounded = tt
 in_time (Some outcome) bounded = λ kind.
     let all = takes (is_kind Delete kind) (list_any makes_fail outcome.provisioners) outcome.seconds (seconds_of_all (ran outcome.provisioners)) (seconds_of_all outcome.provisioners) (ran_takes outcome.provisioners) in

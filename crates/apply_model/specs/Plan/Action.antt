@@ -5,6 +5,7 @@ use Rattle.apply_model.specs.declared.plan.action.Action.TheVariants as action
 use Rattle.apply_model.specs.declared.plan.step_kind.StepKind.{StepKind}
 use Rattle.apply_model.specs.declared.plan.step_kind.StepKind.TheVariants.{Create, Update, Delete, Read}
 
+-- The steps of an action.
 abbrev pub steps_of_action : Action → List StepKind
 steps_of_action action.NoOp = []
 steps_of_action action.Create = Create ∷ []

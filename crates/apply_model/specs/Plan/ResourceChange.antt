@@ -5,17 +5,18 @@ use Rattle.apply_model.specs.declared.plan.mode.Mode.{Mode}
 use Rattle.apply_model.specs.declared.plan.step_kind.StepKind.{StepKind}
 use Rattle.apply_model.specs.Plan.Address.{is_empty}
 
+-- A planned change of one object.
 pub record ResourceChange : Type 0 where
   pub address : List ℕ
-  -- empty in the root module
+  -- The address of the module, empty in the root module.
   pub module_address : List ℕ
   pub mode : Mode
   pub kind_name : List ℕ
   pub name : List ℕ
   pub key : Key
-  -- the key of a deposed object, which stands beside the current one
+  -- The key of a deposed object, which exists next to the current object at the address.
   pub deposed : Option (List ℕ)
-  -- the id that the object had before, where it had one and it may be shown
+  -- The id that the object had before the change; none where it had none or the id is sensitive.
   pub prior_id : Option (List ℕ)
   pub steps : List StepKind
 

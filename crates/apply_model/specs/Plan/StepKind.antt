@@ -1,4 +1,4 @@
--- Kinds of steps.
+-- The kinds of steps.
 use Rattle.std.specs.Prelude.{Bool, true, false}
 use Rattle.apply_model.specs.declared.plan.step_kind.StepKind.{StepKind}
 use Rattle.apply_model.specs.declared.plan.step_kind.StepKind.TheVariants.{Create, Update, Delete, Read}

@@ -1,58 +1,61 @@
--- What steps wait for (the script's own format).
+-- The steps that each step waits for (the script's own format).
 use Rattle.std.specs.Prelude.{ℕ, zero, suc, ◌*◌, List, [], ◌∷◌, Bool, false, length, nat_lt, Option}
 use Rattle.std.specs.List.{list_all, list_any}
 use Rattle.std.specs.Option.{option_map_or}
 use Rattle.apply_model.specs.declared.script.outcome.Outcome.{Outcome}
 use Rattle.apply_model.specs.declared.script.script_step.ScriptStep.{ScriptStep}
 use Rattle.apply_model.specs.declared.script.wait.Wait.{Wait}
-use Rattle.apply_model.specs.Script.OutcomeMap.{OutcomeMap, given_step, outcome_of}
+use Rattle.apply_model.specs.Script.OutcomeMap.{OutcomeMap, stated_step, outcome_of}
 use Rattle.apply_model.specs.Script.Step.{after_of, answer_to}
 
 -- ---- what steps wait for
 
--- the steps that step k of change c waits for: the one before it in its change, and those that its outcome names. One that
--- is skipped has no outcome, and what it names has no effect here
+-- The steps that step k of change c waits for: the step before it in its change, and the steps that
+-- its outcome names. A skipped step has no outcome, so the steps that it names have no effect here.
 abbrev pub waits_of : OutcomeMap → (c k : ℕ) → List Wait
 waits_of script c zero = (outcome_of script c zero).after
 waits_of script c (suc k) = record { change = c; step = k } ∷ (outcome_of script c (suc k)).after
 
--- the steps that the script names for step k of change c, skipped or not
+-- The steps that the script names in `after` of step k of change c, whether or not that step is
+-- skipped.
 abbrev pub named_for : OutcomeMap → (c k : ℕ) → List Wait
-named_for script c k = option_map_or after_of (given_step script c k) []
+named_for script c k = option_map_or after_of (stated_step script c k) []
 
--- the one before it in its change, and these: what it waits for by what the script says of it, skipped or not
-abbrev pub waits_told : OutcomeMap → (c k : ℕ) → List Wait
-waits_told script c zero = named_for script c zero
-waits_told script c (suc k) = record { change = c; step = k } ∷ named_for script c (suc k)
+-- The steps that step k of change c waits for by the text of the script, whether or not it is
+-- skipped: the step before it in its change, and the steps named in `after`.
+abbrev pub stated_waits : OutcomeMap → (c k : ℕ) → List Wait
+stated_waits script c zero = named_for script c zero
+stated_waits script c (suc k) = record { change = c; step = k } ∷ named_for script c (suc k)
 
 -- ---- what could begin
 
--- A step begins within so many rounds: within none, no step does, and within one more those of which each step that
--- they wait for, by what the script says, begins within those before.
+-- Step k of change c begins within so many rounds. No step begins within 0 rounds. A step begins
+-- within one round more if each step of its `stated_waits` begins within the rounds before.
 unfoldable pub begins_within : OutcomeMap → (rounds c k : ℕ) → Bool
 begins_within script zero c k = false
 begins_within script (suc rounds) c k =
-    list_all (λ wait. begins_within script rounds wait.change wait.step) (waits_told script c k)
+    list_all (λ wait. begins_within script rounds wait.change wait.step) (stated_waits script c k)
 
--- A step could begin. That is the least set of steps that holds each of which all that it waits for, by what the script
--- says, is in it: no more rounds add a step than there are steps, two for each change at most.
+-- Step k of change c could begin. These steps form the least set that contains each step whose
+-- `stated_waits` all lie in the set. A search needs no more rounds than there are steps, and a
+-- change has at most two.
 abbrev pub could_begin : OutcomeMap → (c k : ℕ) → Bool
 could_begin script c k = begins_within script (2 * length script) c k
 
 -- ---- whether a script has waits
 
--- the outcome names a step
+-- The outcome names a step to wait for.
 abbrev pub names_a_wait : Outcome → Bool
 names_a_wait outcome = nat_lt 0 (length outcome.after)
 
--- the step is not skipped, and its outcome names one
+-- The step is not skipped, and its outcome names a step to wait for.
 abbrev pub has_a_wait : ScriptStep → Bool
 has_a_wait step = option_map_or names_a_wait (answer_to step) false
 
--- one of the steps that may be told of a change has
-abbrev pub say_a_wait : Option (List ScriptStep) → Bool
-say_a_wait said = option_map_or (list_any has_a_wait) said false
+-- One of the stated steps of a change is not skipped and names a step to wait for.
+abbrev pub states_a_wait : Option (List ScriptStep) → Bool
+states_a_wait stated = option_map_or (list_any has_a_wait) stated false
 
--- the outcome of some step names a step
+-- The outcome of some step names a step to wait for.
 abbrev pub has_waits : OutcomeMap → Bool
-has_waits script = list_any say_a_wait script
+has_waits script = list_any states_a_wait script

@@ -1,4 +1,4 @@
-//! What Terraform's form alone tells of a planned change.
+//! What only Terraform's form of a stream shows of a planned change.
 
 ghost use Rattle.std.specs.Prelude.{◌≡◌, option_map};
 ghost use Rattle.std.specs.Option.{option_copied};
@@ -9,32 +9,34 @@ use crate::details::previous_resource::PreviousResource;
 use crate::details::reason::Reason;
 use crate::text::Text;
 
-/// What is told of a planned change in Terraform's form alone (JSON Output Format, "Plan Representation").
+/// What only Terraform's form of a stream shows of a planned change (JSON Output Format, "Plan
+/// Representation").
 #[derive(Debug, Drop)]
 pub struct ChangeDetails {
-    /// Whether the object is to be forgotten: it stays, and is no longer tracked.
+    /// Whether the object is to be forgotten: it stays, and Terraform stops tracking it.
     pub forgets: bool,
-    /// Why the change was planned. `None` where the plan does not say.
+    /// Why the change was planned. `None` where the plan gives no reason.
     pub reason: Option<Reason>,
-    /// What it imports. `None` where it imports nothing.
+    /// The import of the object. `None` where the change imports nothing.
     pub importing: Option<Importing>,
-    /// The configuration that was made for an imported object. `None` where none was.
+    /// The configuration that Terraform generated for an imported object. `None` where it generated
+    /// none.
     pub generated_config: Option<Text>,
-    /// The id that the object is to have. `None` where it is not known or sensitive.
+    /// The id that the object is to have. `None` where the id is unknown or sensitive.
     pub planned_id: Option<Text>,
-    /// The resource that the object was before it was moved. `None` where the plan does not say.
+    /// The resource that the object was before it was moved. `None` where the plan names none.
     pub previous: Option<PreviousResource>,
 }
 
 impl ChangeDetails {
-    /// The id that the object is to have. `None` where it is not known or sensitive.
+    /// The id that the object is to have. `None` where the id is unknown or sensitive.
     pub fn planned_id(&self) -> Option<&str>
         ensures { option_copied result ≡ self.now.planned_id }
     {
         self.planned_id.as_ref().map(Text::as_str)
     }
 
-    /// The word for why the change was planned. `None` where the plan does not say.
+    /// The word of a stream for the reason of the change. `None` where the plan gives no reason.
     pub fn reason_word(&self) -> Option<&'static str>
         ensures { option_copied result ≡ option_map reason_word self.now.reason }
     {
@@ -44,7 +46,8 @@ impl ChangeDetails {
         }
     }
 
-    /// The configuration that was made for an imported object. `None` where none was.
+    /// The configuration that Terraform generated for an imported object. `None` where it generated
+    /// none.
     pub fn generated_config(&self) -> Option<&str>
         ensures { option_copied result ≡ self.now.generated_config }
     {

@@ -2,16 +2,17 @@
 
 use crate::text::Text;
 
-/// An output of a configuration (JSON Output Format, "Values Representation", `outputs`). Its type and its value are JSON
-/// without spaces, kept as texts: they may be large, and a number stays as it was written.
+/// An output of a configuration (JSON Output Format, "Values Representation", `outputs`). The type
+/// and the value are stored as JSON text without spaces. They may be large, and each number stays
+/// as it was written.
 #[derive(Debug, Drop)]
 pub struct Output {
-    /// Its name.
+    /// The name of the output.
     pub name: Text,
-    /// Whether its value is not to be told.
+    /// Whether the value must not be shown.
     pub sensitive: bool,
-    /// Its type, as JSON.
+    /// The type, as JSON.
     pub kind: Text,
-    /// Its value, as JSON.
+    /// The value, as JSON.
     pub value: Text,
 }

@@ -1,4 +1,4 @@
-//! The resource that an object was before.
+//! The address that an object had before it was moved.
 
 ghost use Rattle.std.specs.Prelude.{◌≡◌};
 ghost use Rattle.apply_model.specs.Plan.Address.{provider_of};
@@ -7,8 +7,8 @@ use crate::plan::address::provider;
 use crate::plan::key::Key;
 use crate::text::Text;
 
-/// The resource that an object was before it was moved (JSON Output Format, "Plan Representation", `previous_address`),
-/// by the parts of its address.
+/// The resource that an object was before it was moved, by the parts of its address (JSON Output
+/// Format, "Plan Representation", `previous_address`).
 #[derive(Debug, Drop)]
 pub struct PreviousResource {
     /// The whole address.
@@ -26,7 +26,7 @@ pub struct PreviousResource {
 }
 
 impl PreviousResource {
-    /// The provider that the type implies: what stands before its first underscore, or all of it.
+    /// The provider that the type implies: the text before its first underscore, or the whole type.
     pub fn provider(&self) -> &str
         ensures { result.now ≡ provider_of self.now.kind_name }
     {

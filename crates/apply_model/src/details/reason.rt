@@ -6,38 +6,38 @@ ghost use Rattle.apply_model.specs.Details.{reason_word};
 /// Why a change was planned (Machine-Readable UI, "Planned Change", `reason`).
 #[derive(Clone, Copy, Debug, PartialEq, Eq)]
 pub enum Reason {
-    /// It can't be changed in place.
+    /// The object can't be changed in place.
     CannotUpdate,
-    /// It is tainted.
+    /// The object is tainted.
     Tainted,
     /// The user asked for a replacement.
     Requested,
-    /// What triggers its replacement changes.
+    /// Something that triggers its replacement changes.
     ReplaceTriggeredBy,
     /// The configuration has no such resource.
     DeleteBecauseNoResourceConfig,
-    /// The configuration repeats it in another way.
+    /// The configuration uses another of `count`, `for_each` and neither.
     DeleteBecauseWrongRepetition,
-    /// Its number is beyond `count`.
+    /// The number of the instance is beyond `count`.
     DeleteBecauseCountIndex,
-    /// Its key is none of `for_each`.
+    /// The key of the instance is not in `for_each`.
     DeleteBecauseEachKey,
     /// The configuration has no such module.
     DeleteBecauseNoModule,
-    /// Where it was moved to there is nothing.
+    /// The target of a move does not exist.
     DeleteBecauseNoMoveTarget,
-    /// Its configuration is known only when it is applied.
+    /// The configuration of the data source is known only during the apply.
     ReadBecauseConfigUnknown,
-    /// What it depends on is still to be applied.
+    /// A dependency of the data source is still to be applied.
     ReadBecauseDependencyPending,
-    /// It belongs to a check.
+    /// The data source belongs to a check.
     ReadBecauseCheckNested,
-    /// Something else.
+    /// Any other reason.
     Unknown,
 }
 
 impl Reason {
-    /// The word that a stream has for it.
+    /// The word of a stream for the reason.
     pub fn word(self) -> &'static str
         ensures { result.now ≡ reason_word self }
     {

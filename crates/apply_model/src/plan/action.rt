@@ -1,28 +1,28 @@
-//! What is to be done to an object.
+//! The action of a planned change.
 
 ghost use Rattle.std.specs.Prelude.{◌≡◌};
 ghost use Rattle.apply_model.specs.Plan.Action.{steps_of_action};
 
 use crate::plan::step_kind::StepKind;
 
-/// What is to be done to an object (JSON Output Format, "Change Representation", `actions`).
+/// The action of a planned change (JSON Output Format, "Change Representation", `actions`).
 #[derive(Clone, Copy, Debug, PartialEq, Eq)]
 pub enum Action {
-    /// Nothing.
+    /// Nothing is done.
     NoOp,
-    /// Making it.
+    /// The object is created.
     Create,
-    /// Reading a data source.
+    /// A data source is read.
     Read,
-    /// Changing it in place.
+    /// The object is changed in place.
     Update,
-    /// Destroying it.
+    /// The object is destroyed.
     Delete,
-    /// A replacement: destroying it, and then making it anew.
+    /// A replacement that destroys the old object first.
     DeleteThenCreate,
-    /// A replacement: making the new one, and then destroying the old one.
+    /// A replacement that creates the new object first.
     CreateThenDelete,
-    /// Leaving the object as it is, and no longer tracking it.
+    /// The object stays, and Terraform stops tracking it.
     Forget,
 }
 

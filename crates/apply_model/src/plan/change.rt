@@ -16,7 +16,7 @@ use std::marker::Model;
 
 /// A planned change of one object (JSON Output Format, "Plan Representation", `resource_changes`).
 ///
-/// Contracts see it as its members, with the steps in the place of the actions.
+/// Contracts see the members of the change, with its steps in place of its actions.
 #[derive(Debug, Drop)]
 pub struct Change {
     parts: ChangeParts,
@@ -36,7 +36,7 @@ impl Model for Change {
 }
 
 impl Change {
-    /// The change of these parts.
+    /// A change with these parts.
     pub fn new(parts: ChangeParts) -> Change
         requires fits { is_some (relative_address parts.module_address parts.address) ≡ true }
         ensures { result ≡ change_of_parts parts }
@@ -77,7 +77,7 @@ impl Change {
         self.parts.kind_name.as_str()
     }
 
-    /// The provider that the type implies: what stands before its first underscore, or all of it.
+    /// The provider that the type implies: the text before its first underscore, or the whole type.
     pub fn provider(&self) -> &str
         ensures { result.now ≡ provider_of self.now.kind_name }
     {
@@ -112,14 +112,16 @@ impl Change {
         self.parts.deposed.as_ref().map(Text::as_str)
     }
 
-    /// The id that the object had before the change. `None` where it had none or it is sensitive.
+    /// The id that the object had before the change. `None` where it had none, or where the id is
+    /// sensitive.
     pub fn prior_id(&self) -> Option<&str>
         ensures { option_copied result ≡ self.now.prior_id }
     {
         self.parts.prior_id.as_ref().map(Text::as_str)
     }
 
-    /// The steps, at most two, in the order in which they are applied. A replacement has two.
+    /// The steps in the order in which they are applied: two of a replacement, and at most one
+    /// otherwise.
     pub fn steps(&self) -> &[StepKind]
         ensures steps { result.now ≡ self.now.steps }
         ensures few { length self.now.steps ≤ 2 }

@@ -1,11 +1,11 @@
-//! What a change is made of.
+//! The parts of a change.
 
 use crate::plan::action::Action;
 use crate::plan::key::Key;
 use crate::plan::mode::Mode;
 use crate::text::Text;
 
-/// The parts of a change, which make one where the address begins with the module's.
+/// The parts of a change. They make a change if the address begins with the address of the module.
 #[derive(Debug, Drop)]
 pub struct ChangeParts {
     /// The absolute address.
@@ -22,8 +22,9 @@ pub struct ChangeParts {
     pub key: Key,
     /// The key of a deposed object. `None` for the current object at the address.
     pub deposed: Option<Text>,
-    /// The id that the object had before the change. `None` where it had none or it is sensitive.
+    /// The id that the object had before the change. `None` where it had none, or where the id is
+    /// sensitive.
     pub prior_id: Option<Text>,
-    /// What is to be done to the object.
+    /// The planned action.
     pub action: Action,
 }

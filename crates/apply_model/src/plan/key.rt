@@ -6,7 +6,7 @@ use crate::text::Text;
 /// (JSON Output Format, "Values Representation", `index`).
 #[derive(Debug, Drop)]
 pub enum Key {
-    /// The resource has neither.
+    /// The resource has neither `count` nor `for_each`.
     None,
     /// An instance of `count`.
     Number(i64),

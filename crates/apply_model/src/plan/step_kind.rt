@@ -1,9 +1,9 @@
 ghost use Rattle.std.specs.Prelude.{◌≡◌};
 ghost use Rattle.apply_model.specs.Plan.StepKind.{is_kind};
 
-/// What one step of a change does to the real object.
+/// The action of one step on the real object.
 ///
-/// These are the actions of the hook messages in Terraform's Machine-Readable UI.
+/// A hook message names these actions (Machine-Readable UI, "Operation Messages", `action`).
 #[derive(Clone, Copy, Debug, PartialEq, Eq, Hash)]
 pub enum StepKind {
     /// Makes the object.
@@ -17,7 +17,7 @@ pub enum StepKind {
 }
 
 impl StepKind {
-    /// Whether it is a delete.
+    /// Whether the step destroys an object.
     pub fn is_delete(self) -> bool
         ensures { result ≡ is_kind StepKind.Delete self }
     {
@@ -27,7 +27,7 @@ impl StepKind {
         }
     }
 
-    /// Whether it is a create.
+    /// Whether the step creates an object.
     pub fn is_create(self) -> bool
         ensures { result ≡ is_kind StepKind.Create self }
     {

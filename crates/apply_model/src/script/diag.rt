@@ -1,17 +1,17 @@
-//! Diagnostics that a script gives.
+//! Diagnostics that a script states.
 
 use crate::text::Text;
 
-/// What a provider says of a step that failed, or warns of (Machine-Readable UI, "Diagnostic").
+/// The text of an error or a warning of a step (Machine-Readable UI, "Diagnostic").
 #[derive(Debug, Drop)]
 pub struct Diag {
     /// A short text. It may be empty.
     pub summary: Text,
-    /// More about it. It may be empty.
+    /// A longer text. It may be empty.
     pub detail: Text,
-    /// Where in the configuration it is: an object of JSON (RFC 8259), as its text without blanks, whose numbers and members
-    /// stand as they were read.
+    /// The place in the configuration, as the text of a JSON object (RFC 8259) without blanks.
+    /// Numbers and members stand as they were read.
     pub range: Option<Text>,
-    /// What stands there, likewise.
+    /// The code at that place, as the text of a JSON object, likewise without blanks.
     pub snippet: Option<Text>,
 }

@@ -1,4 +1,4 @@
-//! How a step ends.
+//! How the provider ends a step.
 
 ghost use Rattle.std.specs.Prelude.{◌≡◌};
 ghost use Rattle.std.specs.Option.{option_copied};
@@ -6,35 +6,37 @@ ghost use Rattle.std.specs.Option.{option_copied};
 use crate::script::diag::Diag;
 use crate::text::Text;
 
-/// How a step ends.
+/// How the provider ends a step.
 #[derive(Debug, Drop)]
 pub enum Ending {
-    /// The provider has done it.
+    /// The provider succeeds.
     Done {
-        /// The id that the object has then, never empty. `None` where the provider tells none.
+        /// The id of the object after the step, never empty. `None` where the provider returns
+        /// none.
         id: Option<Text>,
-        /// What the provider warns of.
+        /// A warning of the provider.
         warning: Option<Diag>,
     },
-    /// The provider has failed.
+    /// The provider fails, and the step with it.
     Failed {
-        /// Why.
+        /// The error.
         diag: Diag,
     },
-    /// The provider of a read has failed, and that only warns, as of a data source of a `check` block: a warning is told in
-    /// place of an end, and the step has not failed. A script says it of reads alone.
+    /// The provider of a read fails, and only a warning follows, as for a data source of a `check`
+    /// block. The step has no end event and does not count as failed. A script states this of reads
+    /// only.
     Warned {
-        /// Why.
+        /// The warning.
         diag: Diag,
     },
 }
 
 impl Ending {
-    ghost use Rattle.apply_model.specs.Script.Outcome.{is_warned, told_id, warning_in};
+    ghost use Rattle.apply_model.specs.Script.Outcome.{is_warned, provider_id, warning_in};
 
-    /// The id that the provider tells of the object. `None` where it tells none, or has failed.
+    /// The id that the provider returns for the object. `None` where it returns none or fails.
     pub fn id(&self) -> Option<&str>
-        ensures { option_copied result ≡ told_id self.now }
+        ensures { option_copied result ≡ provider_id self.now }
     {
         match self {
             Ending::Done { id: Some(id), .. } => Some(id.as_str()),
@@ -42,7 +44,8 @@ impl Ending {
         }
     }
 
-    /// What is warned of: the provider's warning, or why a read has failed that only warns.
+    /// The warning: of a provider that succeeds, or in place of the error of a read that only
+    /// warns.
     pub fn warning(&self) -> Option<&Diag>
         ensures { option_copied result ≡ warning_in self.now }
     {
@@ -53,7 +56,7 @@ impl Ending {
         }
     }
 
-    /// Whether the provider has failed, and that only warns.
+    /// Whether the provider fails and only a warning follows.
     pub fn only_warns(&self) -> bool
         ensures { result ≡ is_warned self.now }
     {

@@ -7,26 +7,30 @@ use crate::script::diag::Diag;
 use crate::script::timed_texts::TimedTexts;
 use crate::text::Text;
 
-/// What a provisioner does after the provider's create, or before its delete (Machine-Readable UI, "Operation Messages": `provision_start`,
-/// `provision_progress`, `provision_complete` and `provision_errored`).
+/// A provisioner. It runs after the provider's create, or before the provider's delete
+/// (Machine-Readable UI, "Operation Messages": `provision_start`, `provision_progress`,
+/// `provision_complete` and `provision_errored`).
 #[derive(Debug, Drop)]
 pub struct Provisioner {
-    /// Its name, as `local-exec`. In a script never empty.
+    /// The name, such as `local-exec`. It is never empty in a script.
     pub name: Text,
-    /// How long it takes, in seconds. In a script those of a step and of all its provisioners are 86,400 at most.
+    /// How long the provisioner takes, in seconds. In a script a step and all its provisioners take
+    /// at most 86,400 seconds together.
     pub seconds: u32,
-    /// What it puts out, and when.
+    /// The texts that the provisioner prints, and when.
     pub output: TimedTexts,
-    /// Why it fails, where it does.
+    /// The error, if the provisioner fails.
     pub failed: Option<Diag>,
-    /// Whether it may fail: where it does, the next provisioner runs, and the step goes on.
+    /// Whether the step goes on after a failure of this provisioner. If so, the next provisioner
+    /// runs.
     pub may_fail: bool,
 }
 
 impl Provisioner {
     ghost use Rattle.apply_model.specs.Script.Outcome.{failure_by, makes_fail};
 
-    /// Why it makes the step fail. `None` where it does not, as it is done or may fail.
+    /// The error by which the provisioner makes the step fail. `None` where it succeeds or may
+    /// fail.
     pub fn failure(&self) -> Option<&Diag>
         ensures { option_copied result ≡ failure_by self.now }
     {
@@ -37,7 +41,7 @@ impl Provisioner {
         }
     }
 
-    /// Whether it makes the step fail.
+    /// Whether the provisioner makes the step fail.
     pub fn makes_fail(&self) -> bool
         ensures { result ≡ makes_fail self.now }
     {

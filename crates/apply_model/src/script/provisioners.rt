@@ -12,7 +12,7 @@ use std::marker::Model;
 /// The greatest number of provisioners of a step in a script.
 pub const MAX_PROVISIONERS: usize = 8;
 
-/// The provisioners of a step in the order in which they run, 8 at most, which contracts see as a list.
+/// The provisioners of a step in the order in which they run, at most 8. Contracts see a list.
 #[derive(Debug, Drop)]
 pub struct Provisioners {
     provisioners: Vec<Provisioner>,
@@ -41,7 +41,7 @@ impl Provisioners {
         Provisioners { provisioners }
     }
 
-    /// How many they are, 8 at most.
+    /// The number of provisioners, at most 8.
     pub fn len(&self) -> u8
         ensures len { result ≡ length self.now }
         ensures few { length self.now ≤ max_provisioners }
@@ -57,7 +57,8 @@ impl Provisioners {
         &self.provisioners[number as usize]
     }
 
-    /// Why the first makes the step fail of those that do.
+    /// The error of the first provisioner that makes the step fail. `None` where no provisioner
+    /// does.
     pub fn first_failure(&self) -> Option<&Diag>
         ensures { option_copied result ≡ first_diag self.now }
     {
@@ -69,14 +70,14 @@ impl Provisioners {
         None
     }
 
-    /// Whether one makes the step fail.
+    /// Whether a provisioner makes the step fail.
     pub fn make_fail(&self) -> bool
         ensures { result ≡ list_any makes_fail self.now }
     {
         self.provisioners.iter().any(Provisioner::makes_fail)
     }
 
-    /// How many of them run: those up to and with the first that makes the step fail.
+    /// The number of provisioners that run: all up to and with the first that makes the step fail.
     pub fn count_that_run(&self) -> u8
         ensures { result ≡ length (ran self.now) }
     {
@@ -88,7 +89,7 @@ impl Provisioners {
         self.len()
     }
 
-    /// How long those take together that run, in seconds.
+    /// How long the provisioners that run take together, in seconds.
     pub fn seconds(&self) -> u32
         requires { seconds_of_all (ran self.now) < 2 ^ 32 }
         ensures { result ≡ seconds_of_all (ran self.now) }

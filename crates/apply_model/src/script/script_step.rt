@@ -1,4 +1,4 @@
-//! A step as a script tells it.
+//! A step as a script states it.
 
 ghost use Rattle.std.specs.Prelude.{◌≡◌};
 ghost use Rattle.std.specs.Option.{option_copied};
@@ -6,15 +6,16 @@ ghost use Rattle.std.specs.Option.{option_copied};
 use crate::script::outcome::Outcome;
 use crate::script::waits::Waits;
 
-/// What a script says of a step.
+/// What a script states of a step.
 #[derive(Debug, Drop)]
 pub enum ScriptStep {
-    /// The provider answers to it.
+    /// The provider answers.
     Answered(Outcome),
-    /// It does not start: its change ends before it. Nothing is asked for it, and nothing is counted.
+    /// The step does not start, and its change ends before it. No hook is asked about it, and no
+    /// total counts it.
     Skipped {
-        /// The steps that it names as those for which it waits. No step waits for them on its account: they only are
-        /// among those that could never begin, where a script is read.
+        /// The steps that the script names in `after`. No step waits for them because of this one.
+        /// They count only in the search for steps that can never begin.
         after: Waits,
     },
 }
@@ -23,7 +24,7 @@ impl ScriptStep {
     ghost use Rattle.apply_model.specs.Script.Step.{after_of, answer_to, is_skipped};
     ghost use Rattle.apply_model.specs.Script.Waits.{has_a_wait};
 
-    /// What the provider answers to it. `None` where it is skipped.
+    /// The answer of the provider. `None` where the step is skipped.
     pub fn outcome(&self) -> Option<&Outcome>
         ensures { option_copied result ≡ answer_to self.now }
     {
@@ -33,7 +34,7 @@ impl ScriptStep {
         }
     }
 
-    /// Whether it is skipped.
+    /// Whether the step is skipped.
     pub fn is_skipped(&self) -> bool
         ensures { result ≡ is_skipped self.now }
     {
@@ -43,7 +44,7 @@ impl ScriptStep {
         }
     }
 
-    /// The steps that it names as those for which it waits, skipped or not.
+    /// The steps that the script names in `after`, whether or not this step is skipped.
     pub fn after(&self) -> &Waits
         ensures { result.now ≡ after_of self.now }
     {
@@ -53,7 +54,7 @@ impl ScriptStep {
         }
     }
 
-    /// Whether it is not skipped, and names a step for which it waits.
+    /// Whether the step is not skipped and names a step that it waits for.
     pub fn has_a_wait(&self) -> bool
         ensures { result ≡ has_a_wait self.now }
     {

@@ -1,4 +1,4 @@
-//! What a script says of the steps of one change.
+//! What a script states of the steps of one change.
 
 ghost use Rattle.std.specs.Prelude.{◌≡◌, length, slice_get};
 ghost use Rattle.std.specs.List.{list_any, position_from};
@@ -9,7 +9,7 @@ ghost use Rattle.apply_model.specs.Script.Waits.{has_a_wait};
 use crate::script::script_step::ScriptStep;
 use std::marker::Model;
 
-/// What a script says of the first steps of a change, which contracts see as a list.
+/// What a script states of the first steps of a change. Contracts see a list.
 #[derive(Debug, Drop)]
 pub struct StepOutcomes {
     steps: Vec<ScriptStep>,
@@ -25,28 +25,29 @@ impl Model for StepOutcomes {
 }
 
 impl StepOutcomes {
-    /// These steps, the first one first.
+    /// These steps, in the order of the change.
     pub fn new(steps: Vec<ScriptStep>) -> StepOutcomes
         ensures { result ≡ steps.items }
     {
         StepOutcomes { steps }
     }
 
-    /// How many they are.
+    /// The number of steps that the script states.
     pub fn len(&self) -> usize
         ensures { result ≡ length self.now }
     {
         self.steps.len()
     }
 
-    /// The step of that number, counted from 0. `None` where nothing is said of it.
+    /// The step of that number, counted from 0. `None` where the script does not state it.
     pub fn get(&self, step: usize) -> Option<&ScriptStep>
         ensures { option_copied result ≡ slice_get self.now step }
     {
         self.steps.get(step)
     }
 
-    /// The number of the first that is skipped, counted from 0, where it fits 8 bits.
+    /// The number of the first skipped step, counted from 0. `None` where no step is skipped, or
+    /// where the number does not fit 8 bits.
     pub fn first_skipped(&self) -> Option<u8>
         ensures { result ≡ if_byte (position_from is_skipped 0 self.now) }
     {
@@ -54,14 +55,14 @@ impl StepOutcomes {
         if first < 256 { Some(first as u8) } else { None }
     }
 
-    /// The number of the first that is skipped, counted from 0.
+    /// The number of the first skipped step, counted from 0.
     fn position_of_skipped(&self) -> Option<usize>
         ensures { result ≡ position_from is_skipped 0 self.now }
     {
         self.steps.iter().position(ScriptStep::is_skipped)
     }
 
-    /// Whether one that is not skipped names a step that it waits for.
+    /// Whether a step that is not skipped names a step that it waits for.
     pub fn name_a_wait(&self) -> bool
         ensures { result ≡ list_any has_a_wait self.now }
     {

@@ -1,13 +1,13 @@
-//! A text that a provisioner puts out.
+//! A text that a provisioner prints.
 
 use crate::text::Text;
 
-/// A text that a provisioner puts out, and when.
+/// A text that a provisioner prints, and when.
 #[derive(Debug, Drop)]
 pub struct TimedText {
-    /// When it comes, in seconds since the provisioner began. In a script no sooner than the text before it, and no later than
-    /// the provisioner ends.
+    /// When the text comes, in seconds after the provisioner began. In a script it comes no sooner
+    /// than the text before it, and no later than the provisioner's end.
     pub after: u32,
-    /// It may be empty.
+    /// The text. It may be empty.
     pub text: Text,
 }

@@ -1,4 +1,4 @@
-//! Texts that come in order.
+//! Texts that a provisioner prints, in order.
 
 ghost use Rattle.std.specs.Prelude.{◌≡◌, ◌<◌, ◌≤◌, length, Some, slice_get, vec_len};
 ghost use Rattle.apply_model.specs.Script.Limits.{max_outputs};
@@ -7,11 +7,11 @@ ghost use Rattle.apply_model.specs.Script.Outcome.{are_in_time};
 use crate::script::timed_text::TimedText;
 use std::marker::Model;
 
-/// The greatest number of texts that a provisioner may put out in a script.
+/// The greatest number of texts that a provisioner may print in a script.
 pub const MAX_OUTPUTS: usize = 100;
 
-/// What a provisioner puts out: texts in order, 100 at most, each with the second at which it comes, which contracts see as a
-/// list.
+/// The texts that a provisioner prints, in order, at most 100. Each has the second at which it
+/// comes. Contracts see a list.
 #[derive(Debug, Drop)]
 pub struct TimedTexts {
     texts: Vec<TimedText>,
@@ -38,7 +38,7 @@ impl TimedTexts {
         TimedTexts { texts }
     }
 
-    /// How many they are, 100 at most.
+    /// The number of texts, at most 100.
     pub fn len(&self) -> u8
         ensures len { result ≡ length self.now }
         ensures few { length self.now ≤ max_outputs }
@@ -54,8 +54,8 @@ impl TimedTexts {
         &self.texts[number as usize]
     }
 
-    /// Whether none comes sooner than the one before it, nor later than after so many seconds, as in a script those of a
-    /// provisioner that takes so many.
+    /// Whether the times of the texts never fall and none is greater than `seconds`. A script
+    /// states only such texts, with the seconds of their provisioner.
     pub fn are_in_time(&self, seconds: u32) -> bool
         ensures { result ≡ are_in_time 0 seconds self.now }
     {

@@ -1,6 +1,6 @@
-//! A step that another waits for.
+//! A step that another step waits for.
 
-/// A step of a plan, for which another waits.
+/// A step of a plan that another step waits for.
 #[derive(Clone, Copy, Debug, PartialEq, Eq)]
 pub struct Wait {
     /// The number of its change, counted from 0 in the plan's order.

@@ -6,10 +6,10 @@ ghost use Rattle.apply_model.specs.Script.Limits.{max_waits};
 use crate::script::wait::Wait;
 use std::marker::Model;
 
-/// The greatest number of items in all `after` of a script.
+/// The greatest number of items in all `after` lists of a script together.
 pub const MAX_WAITS: usize = 1_000_000;
 
-/// The steps that a script names as those for which a step waits, 1,000,000 at most, which contracts see as a list.
+/// The steps that a script names in one `after` list, at most 1,000,000. Contracts see a list.
 #[derive(Debug, Drop)]
 pub struct Waits {
     waits: Vec<Wait>,
@@ -28,7 +28,7 @@ impl Model for Waits {
 }
 
 impl Waits {
-    /// These steps, in this order. One may stand there several times, with no effect.
+    /// These steps, in this order. A repeated step has no further effect.
     pub fn new(waits: Vec<Wait>) -> Waits
         requires { vec_len waits ≤ max_waits }
         ensures { result ≡ waits.items }
@@ -36,7 +36,7 @@ impl Waits {
         Waits { waits }
     }
 
-    /// How many they are, 1,000,000 at most.
+    /// The number of steps, at most 1,000,000.
     pub fn len(&self) -> u32
         ensures len { result ≡ length self.now }
         ensures few { length self.now ≤ max_waits }
@@ -44,7 +44,7 @@ impl Waits {
         self.waits.len() as u32
     }
 
-    /// The step of that number among them, counted from 0.
+    /// The step of that number, counted from 0.
     pub fn get(&self, number: u32) -> Wait
         requires { number < length self.now }
         ensures { Some result ≡ slice_get self.now number }

@@ -1,4 +1,4 @@
--- Elements as they are read, one behind the other.
+-- Elements as they are read, one after the other.
 use Rattle.std.proofs.Common.{◌≡◌, ◌≢◌, ◌+◌, ◌<◌, ◌≤◌, true, false, List, [], ◌∷◌, ◌++◌, length, Option, Some, None, Result, Ok, Err, refl, sym, ap, ◌∙◌, arith}
 use Rattle.std.specs.Prelude.{is_some}
 use Rattle.std.proofs.lemmas.Bool.{le-ltb, lt-ltb}
@@ -43,7 +43,7 @@ holds_none elements count changes seen fault = record {
   so_far = λ not. rw (fault, changes) refl;
 }
 
--- the answers for one element more
+-- the results for one element more
 next_element : (elements : Elements) (ds : List Data) (d : Data) → HoldsElements elements ds → elements.count < max_changes → elements.fault ≢ Some Memory
     → changes_within (ds ++ d ∷ []) ≡ (unless_refused elements.fault elements.changes.items >>= one_more change_after d)
 next_element elements ds d holds room not =
@@ -51,7 +51,7 @@ next_element elements ds d holds room not =
     ∙ made_more change_after [] ds d
     ∙ ap (λ (r : Result (List ResourceChange) PlanError). r >>= one_more change_after d) (sym (within ds (omega (arith, room, holds.counted))) ∙ holds.so_far not)
 
--- where there are as many as a plan may have
+-- one element more, after as many as a plan may have
 pub holds_full : (old new : Elements) (ds : List Data) (d : Data) → HoldsElements old ds → max_changes ≤ old.count → new ≡ record old { fault = Some TooMany } → HoldsElements new (ds ++ d ∷ [])
 holds_full old new ds d holds full is = rw is (record {
   counted = omega (arith, full, holds.counted, longer ds d);
@@ -60,7 +60,7 @@ holds_full old new ds d holds full is = rw is (record {
   so_far = λ not. beyond (ds ++ d ∷ []) (omega (arith, full, holds.counted, longer ds d));
 })
 
--- behind a fault
+-- one element more, after a fault
 pub holds_past : (old new : Elements) (ds : List Data) (d : Data) → is_some old.fault ≡ true → HoldsElements old ds → old.count < max_changes → new ≡ record old { count = old.count + 1 } → HoldsElements new (ds ++ d ∷ [])
 holds_past old new ds d some holds room is = rw is (record {
   counted = omega (arith, room, holds.counted, longer ds d);
@@ -77,7 +77,7 @@ holds_past old new ds d some holds room is = rw is (record {
     stays None none = absurd cc
     stays (Some e) some = refl
 
--- where there was no fault
+-- one element more, if there was no fault
 next_answer : (elements : Elements) (ds : List Data) (d : Data) → HoldsElements elements ds → elements.count < max_changes → is_some elements.fault ≡ false → (answer : Result ResourceChange PlanError) → change_after elements.changes.items d ≡ answer
     → changes_within (ds ++ d ∷ []) ≡ (answer >>= λ one. Ok (elements.changes.items ++ one ∷ []))
 next_answer elements ds d holds room none answer is =
@@ -110,4 +110,4 @@ holds_refused old new ds d fault holds room none refused changes count is = reco
   so_far = λ not. next_answer old ds d holds room none (Err fault) (refused (numbered old ds holds room none) (holds.seen (none_there old.fault none)) (λ want. not (is ∙ ap (λ (e : PlanError). Some e) want))) ∙ rw is refl;
 }
 
--- ---- the changes that they make
+-- ---- the changes of the elements

@@ -1,10 +1,10 @@
--- The plan of a tree, by what slots hold of its top level.
+-- The plan of a tree, by the slots of its top level.
 use Rattle.std.proofs.Common.{◌≡◌, ℕ, Bool, true, false, cond, ltb, List, codes, nat_eq, Option, Some, None, Result, Ok, Err, refl, sym, ap, ◌∙◌}
 use Rattle.std.specs.List.{starts_with}
 use Rattle.serde_json.specs.Data.{Data, null, boolean, number, string, array, object, Items}
 use Rattle.serde_json.specs.Events.{items_len}
 use Rattle.serde_json.specs.Find.{get_member}
-use Rattle.apply_json.specs.Seen.{members_in}
+use Rattle.apply_json.specs.ShallowView.{members_in}
 use Rattle.apply_json.specs.Tree.{◌>>=◌, items_or_empty, list_of, member_of, text_of, text_or, unless_null}
 use Rattle.apply_json.proofs.Held.{member_in, text_in, text_or_in}
 use Rattle.apply_model.specs.Plan.ResourceChange.{ResourceChange}
@@ -12,7 +12,7 @@ use Rattle.apply_model.specs.Plan.SavedPlan.{SavedPlan, max_changes}
 use Rattle.apply_plan.specs.declared.plan.plan_error.PlanError.{PlanError}
 use Rattle.apply_plan.specs.declared.plan.plan_error.PlanError.TheVariants.{NotAPlan, TooMany}
 use Rattle.apply_plan.specs.declared.plan.plan_slots.PlanSlots.{PlanSlots}
-use Rattle.apply_plan.specs.Plan.ElementsView.{HoldsPlan, changes_within, items_at, kind_of, may_list, version_held}
+use Rattle.apply_plan.specs.Plan.ElementsView.{HoldsPlan, changes_within, items_at, kind_of, may_list, version_read}
 use Rattle.apply_plan.specs.Plan.Header.{Header, header_of}
 use Rattle.apply_plan.specs.Plan.SavedPlan.{changes_of, plan_of_tree}
 use Rattle.apply_plan.specs.Results as results
@@ -54,7 +54,7 @@ top_is (Some format) None may elements = refl
 top_is (Some format) (Some version) true elements = known (starts_with nat_eq format (codes "1.")) elements version
 top_is (Some format) (Some version) false elements = refl
 
-header_is : (slots : PlanSlots) (d : Data) → HoldsPlan slots (members_in d) → header_of d ≡ with_elements (items_at (get_member (codes "resource_changes") (members_in d))) (version_held slots)
+header_is : (slots : PlanSlots) (d : Data) → HoldsPlan slots (members_in d) → header_of d ≡ with_elements (items_at (get_member (codes "resource_changes") (members_in d))) (version_read slots)
 unfolding header_of
 header_is slots d holds =
     let found = get_member (codes "resource_changes") (members_in d) in
@@ -65,7 +65,7 @@ header_is slots d holds =
 abbrev from_top : Option Header → Result SavedPlan PlanError
 from_top h = results.◌>>=◌ (or_refuse NotAPlan h) λ h. cond (ltb max_changes (items_len h.elements)) (Err TooMany) (results.◌>>=◌ (changes_of (list_of h.elements)) λ changes. Ok (record { version = h.version; changes = changes }))
 
--- the plan of that version, or the refusal of its changes
+-- the plan of this version, or the fault of its changes
 abbrev pub plan_with : List ℕ → Result (List ResourceChange) PlanError → Result SavedPlan PlanError
 plan_with version changes = results.◌>>=◌ changes λ changes. Ok (record { version = version; changes = changes })
 
@@ -77,14 +77,14 @@ one_by_one : (elements : Items) → cond (ltb max_changes (items_len elements)) 
 one_by_one elements = rw (items_len-list_of elements, items_of-list_of elements, changes_one_by_one elements) refl
 
 module _ (slots : PlanSlots) (d : Data) (holds : HoldsPlan slots (members_in d)) where
-  plan_is : (version : Option (List ℕ)) → version ≡ version_held slots → plan_of_tree d ≡ from_top (with_elements (items_at (get_member (codes "resource_changes") (members_in d))) version)
+  plan_is : (version : Option (List ℕ)) → version ≡ version_read slots → plan_of_tree d ≡ from_top (with_elements (items_at (get_member (codes "resource_changes") (members_in d))) version)
   unfolding plan_of_tree
   plan_is version is = ap from_top (header_is slots d holds ∙ ap (with_elements (items_at (get_member (codes "resource_changes") (members_in d)))) (sym is))
 
-  pub no_plan : None ≡ version_held slots → plan_of_tree d ≡ Err NotAPlan
+  pub no_plan : None ≡ version_read slots → plan_of_tree d ≡ Err NotAPlan
   no_plan is = plan_is None is
 
-  pub plan_from : (version : List ℕ) → Some version ≡ version_held slots → plan_of_tree d ≡ plan_with version (changes_within (list_of (items_at (get_member (codes "resource_changes") (members_in d)))))
+  pub plan_from : (version : List ℕ) → Some version ≡ version_read slots → plan_of_tree d ≡ plan_with version (changes_within (list_of (items_at (get_member (codes "resource_changes") (members_in d)))))
   plan_from version is =
       let elements = items_at (get_member (codes "resource_changes") (members_in d)) in
       plan_is (Some version) is ∙ through_limit (ltb max_changes (items_len elements)) version (changes_of (list_of elements)) ∙ ap (plan_with version) (one_by_one elements)

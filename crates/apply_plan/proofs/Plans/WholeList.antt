@@ -1,4 +1,4 @@
--- Reading the elements one by one, behind the changes so far, gives the changes that are defined over the whole list.
+-- Reading the elements one by one gives the changes that are defined over the whole list.
 use Rattle.std.proofs.Common.{◌≡◌, ℕ, Bool, true, false, Option, List, [], ◌∷◌, ◌++◌, length, cond, Ok, Err, refl, ap, subst, ◌∙◌, arith}
 use Rattle.std.specs.List.{list_any}
 use Rattle.std.specs.Prelude.{◌&&◌}
@@ -22,7 +22,7 @@ use Rattle.apply_plan.specs.Results.{or_refuse}
 use Rattle.apply_plan.proofs.Results.{bind_ok, bind_same, guard_ok, ok_is, or_refuse_ok}
 use Rattle.apply_plan.proofs.WholeList.{AnswersAlike, read_one_by_one}
 
--- the changes are of the elements, one of each
+-- the changes are those of the elements, one by one
 record AreChangesOf (before : List Data) (earlier : List ResourceChange) : Type 0 where
   same_length : length earlier ≡ length before
   same_objects : (change : ResourceChange) → list_any (names_object_of change) before ≡ list_any (is_same_object change) earlier
@@ -45,7 +45,7 @@ AreChangesOf-push before earlier d made are e = record {
   same_objects = λ change. rw (list_any-append (names_object_of change) before (d ∷ []), list_any-append (is_same_object change) earlier (made ∷ []), are.same_objects change, names_same (length earlier) d made change e) refl;
 }
 
--- both compare the element with what stands before it
+-- both definitions compare the element with earlier ones
 same_answer : (before : List Data) (earlier : List ResourceChange) (d : Data) → AreChangesOf before earlier → change_after earlier d ≡ change_at before d
 unfolding change_after change_at
 same_answer before earlier d are =
@@ -69,7 +69,7 @@ pub changes_one_by_one : (elements : Items) → made_after change_after [] eleme
 unfolding changes_of
 changes_one_by_one elements = read_one_by_one change_after change_at AreChangesOf alike elements
 
--- ---- what an element is answered, in the steps of a reader
+-- ---- the result for an element, in the steps of a reader
 
 pub faulty : (earlier : List ResourceChange) (n : ℕ) (d : Data) (e : PlanError) → length earlier ≡ n → planned_at n d ≡ Err e → change_after earlier d ≡ Err e
 unfolding change_after

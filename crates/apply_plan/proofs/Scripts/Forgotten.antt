@@ -1,4 +1,4 @@
--- What was said is taken back, change by change.
+-- The outcomes are removed, change by change.
 use Rattle.std.proofs.Common.{◌≡◌, ℕ, ◌+◌, ◌<◌, ◌≤◌, ◌==◌, true, false, Bool, List, [], ◌∷◌, ◌++◌, length, map, get_or, set, Option, Some, None, refl, sym, ap, subst, ◌∙◌, arith, ⊎_elim}
 use Rattle.std.specs.Prelude.{◌||◌, is_some}
 use Rattle.std.specs.List.{All, list_any}
@@ -13,19 +13,19 @@ use Rattle.apply_model.specs.declared.script.script_step.ScriptStep.{ScriptStep}
 use Rattle.apply_model.specs.Script.OutcomeMap.{OutcomeMap}
 use Rattle.apply_plan.specs.declared.script.entries.Entries.{Entries}
 use Rattle.apply_plan.specs.Script.EntriesView.{AreCovered, HoldsEntries, kept_of}
-use Rattle.apply_plan.specs.Script.OutcomeMap.{Said, by_number, said_of}
+use Rattle.apply_plan.specs.Script.OutcomeMap.{ResolvedEntry, by_number, outcomes_of}
 use Rattle.apply_plan.proofs.Scripts.Entries.{length-by_number}
 use Rattle.apply_plan.proofs.Scripts.Read.{long}
 
--- something is said of a change just where an entry of it is kept
-named : (made : List Said) (number : ℕ) → is_some (said_of made number) ≡ list_any (λ entry. entry.0 == number) (map kept_of made)
+-- a change has outcomes if and only if it has a stored entry
+named : (made : List ResolvedEntry) (number : ℕ) → is_some (outcomes_of made number) ≡ list_any (λ entry. entry.0 == number) (map kept_of made)
 named [] number = refl
 named (one ∷ made) number = ⊎_elim
     (λ (here : (one.change == number) ≡ true). rw here refl)
     (λ (not_here : (one.change == number) ≡ false). rw not_here (named made number))
     (cases_Bool (one.change == number))
 
-pub all_covered : (entries : Entries) (ds : List Data) → HoldsEntries entries ds → AreCovered entries.said.items entries.kept.items
+pub all_covered : (entries : Entries) (ds : List Data) → HoldsEntries entries ds → AreCovered entries.outcomes.items entries.kept.items
 all_covered entries ds holds =
     let count = length entries.plan.now.changes in
     let long = long entries ds holds in
@@ -33,34 +33,34 @@ all_covered entries ds holds =
       within = subst (λ (n : ℕ). All (λ entry. (entry.0 < n) × (entry.1 ≤ 2)) entries.kept.items) (sym long) holds.kept.within;
       covered = λ number below some.
           let place : 0 + number ≡ number = omega arith in
-          let said : get_or entries.said.items number None ≡ said_of holds.made number =
-          ap (λ (all : OutcomeMap). get_or all number None) holds.said.said_is ∙ get_or-map-range_with_len (said_of holds.made) 0 count number number None (omega (arith, below, long)) place in
-          ap (list_any (λ entry. entry.0 == number)) holds.kept.kept_is ∙ sym (named holds.made number) ∙ ap is_some (sym said) ∙ some;
+          let outcomes : get_or entries.outcomes.items number None ≡ outcomes_of holds.made number =
+          ap (λ (all : OutcomeMap). get_or all number None) holds.outcomes.outcomes_are ∙ get_or-map-range_with_len (outcomes_of holds.made) 0 count number number None (omega (arith, below, long)) place in
+          ap (list_any (λ entry. entry.0 == number)) holds.kept.kept_is ∙ sym (named holds.made number) ∙ ap is_some (sym outcomes) ∙ some;
     }
 
 never : (o : Option (List ScriptStep)) → o ≡ None → is_some o ≡ true → ⊥
 never None none some = absurd cc
 never (Some x) none some = absurd cc
 
--- the change that is kept last is one of those of which something may be said
-pub last_within : (said : OutcomeMap) (all kept : List (ℕ × ℕ)) (last : ℕ × ℕ) → all ≡ kept ++ last ∷ [] → AreCovered said all → last.0 < length said
-last_within said all kept last is are =
-    (All-pop (λ (entry : ℕ × ℕ). (entry.0 < length said) × (entry.1 ≤ 2)) all kept (Some last) is are.within).1.0
+-- the change of the last stored entry may have outcomes
+pub last_within : (outcomes : OutcomeMap) (all kept : List (ℕ × ℕ)) (last : ℕ × ℕ) → all ≡ kept ++ last ∷ [] → AreCovered outcomes all → last.0 < length outcomes
+last_within outcomes all kept last is are =
+    (All-pop (λ (entry : ℕ × ℕ). (entry.0 < length outcomes) × (entry.1 ≤ 2)) all kept (Some last) is are.within).1.0
 
--- where nothing is said of it any more, the others are kept still
-pub without_last : (said : OutcomeMap) (all kept : List (ℕ × ℕ)) (last : ℕ × ℕ) → all ≡ kept ++ last ∷ [] → AreCovered said all → AreCovered (set said last.0 None) kept
-without_last said all kept last is are =
+-- after its outcomes are removed, the other changes still have stored entries
+pub without_last : (outcomes : OutcomeMap) (all kept : List (ℕ × ℕ)) (last : ℕ × ℕ) → all ≡ kept ++ last ∷ [] → AreCovered outcomes all → AreCovered (set outcomes last.0 None) kept
+without_last outcomes all kept last is are =
     let within : ℕ → Type 0 = λ n. All (λ (entry : ℕ × ℕ). (entry.0 < n) × (entry.1 ≤ 2)) kept in
-    let long = length-set said last.0 None in
-    let parts = All-pop (λ (entry : ℕ × ℕ). (entry.0 < length said) × (entry.1 ≤ 2)) all kept (Some last) is are.within in
+    let long = length-set outcomes last.0 None in
+    let parts = All-pop (λ (entry : ℕ × ℕ). (entry.0 < length outcomes) × (entry.1 ≤ 2)) all kept (Some last) is are.within in
     record {
       within = subst within (sym long) parts.0;
       covered = λ number below some. ⊎_elim
           (λ same.
-          let none = ap (λ (n : ℕ). get_or (set said last.0 None) n None) (sym same.1) ∙ get_or-set_same said last.0 None None parts.1.0 in
-          absurd (never (get_or (set said last.0 None) number None) none some))
+          let none = ap (λ (n : ℕ). get_or (set outcomes last.0 None) n None) (sym same.1) ∙ get_or-set_same outcomes last.0 None None parts.1.0 in
+          absurd (never (get_or (set outcomes last.0 None) number None) none some))
           (λ apart.
-          let there = ap is_some (sym (get_or-set_other said last.0 number None None (λ e. apart.1 (sym e)))) ∙ some in
+          let there = ap is_some (sym (get_or-set_other outcomes last.0 number None None (λ e. apart.1 (sym e)))) ∙ some in
           others kept number apart.0
           (sym (list_any-append (λ (entry : ℕ × ℕ). entry.0 == number) kept (last ∷ [])) ∙ ap (list_any (λ (entry : ℕ × ℕ). entry.0 == number)) (sym is) ∙ are.covered number (omega (arith, below, long)) there))
           (eqb_tells last.0 number);
@@ -74,11 +74,11 @@ without_last said all kept last is are =
         first true e = refl
         first false e = e
 
--- and without any nothing is said
-pub none_left : (said : OutcomeMap) → AreCovered said [] → said ≡ by_number (length said) []
-none_left said are = same_lists said (by_number (length said) []) (sym (length-by_number (length said) [])) (λ k d below.
+-- without stored entries no change has outcomes
+pub none_left : (outcomes : OutcomeMap) → AreCovered outcomes [] → outcomes ≡ by_number (length outcomes) []
+none_left outcomes are = same_lists outcomes (by_number (length outcomes) []) (sym (length-by_number (length outcomes) [])) (λ k d below.
     let place : 0 + k ≡ k = omega arith in
-    get_or_default said k d None below ∙ nothing (get_or said k None) (are.covered k below) ∙ sym (get_or-map-range_with_len (said_of []) 0 (length said) k k d below place))
+    get_or_default outcomes k d None below ∙ nothing (get_or outcomes k None) (are.covered k below) ∙ sym (get_or-map-range_with_len (outcomes_of []) 0 (length outcomes) k k d below place))
   where
     nothing : (o : Option (List ScriptStep)) → (is_some o ≡ true → false ≡ true) → o ≡ None
     nothing None never = refl

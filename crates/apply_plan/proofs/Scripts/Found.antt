@@ -1,4 +1,4 @@
--- Lists of a script, as they are found item by item.
+-- Lists of a script, as they are read item by item.
 use Rattle.std.proofs.Common.{◌≡◌, ℕ, ◌+◌, ◌<◌, Global, List, [], ◌∷◌, ◌++◌, length, map, take, get_or, Option, Some, None, option_map, Vec, refl, sym, ap, subst, ◌∙◌}
 use Rattle.std.specs.Prelude.{IfOk, Ok, Result}
 use Rattle.std.proofs.lemmas.List.{map-append, take_more}
@@ -7,7 +7,7 @@ use Rattle.apply_json.specs.Tree.{◌>>=◌}
 use Rattle.apply_plan.specs.Found.{added}
 use Rattle.apply_plan.specs.Script.Entry.{all_some}
 
--- with one item more
+-- a list with one item more
 and_more : {A : Type 0} (first : A) (others : Option (List A)) (last : Option A) → (added others last >>= λ xs. Some (first ∷ xs)) ≡ added (others >>= λ xs. Some (first ∷ xs)) last
 and_more first None last = refl
 and_more first (Some others) None = refl
@@ -25,7 +25,7 @@ all_some_more {A} part (first ∷ ds) d = ap (λ (rest : Option (List A)). part 
     behind None = refl
     behind (Some x) = and_more x (all_some (map part ds)) (part d)
 
--- the same of what is seen of a list
+-- a list with one item more, as contracts see it
 seen_list : {T A : Type 0} (see : T → A) (list : Option (Vec T Global)) → option_map (λ (v : Vec T Global). map see v.items) list ≡ option_map (map see) (option_map (λ (v : Vec T Global). v.items) list)
 seen_list see None = refl
 seen_list see (Some v) = refl
@@ -43,13 +43,13 @@ found_more see part old new last ds d more is so_far =
     ∙ ap (λ list. added list (option_map see last)) (sym (seen_list see old) ∙ so_far) ∙ ap (added (all_some (map part ds))) is
     ∙ sym (all_some_more part ds d)
 
--- ---- copies of what a list holds
+-- ---- copies of the items of a list
 
 -- one copy more
 pub copied_more : {T A : Type 0} (see : T → A) (made : List A) (xs : List T) (i : ℕ) (x : T) → i < length xs → x ≡ get_or xs i x → made ≡ map see (take i xs) → made ++ see x ∷ [] ≡ map see (take (i + 1) xs)
 copied_more see made xs i x below is so_far =
     rw (take_more xs i x below, ← is, map-append see (take i xs) (x ∷ []), so_far) refl
 
--- what holds of each that is made holds of this one
+-- what holds for each copy holds for this one
 pub made : {T E : Type 0} (P : T → Type 0) (r : Result T E) (x : T) → r ≡ Ok x → IfOk r P → P x
 made P r x is holds = subst (λ s. IfOk s P) is holds

@@ -1,34 +1,34 @@
--- The entries that never begin, all of them, beside the script that is read.
+-- All entries with a step that can never start, next to the script that is read.
 use Rattle.std.proofs.Common.{◌≡◌, ℕ, ◌+◌, Bool, true, false, cond, Option, Some, None, option_map, List, [], ◌∷◌, length, map, Result, Ok, Err, refl, sym, ap, ◌∙◌, ⊎_elim}
 use Rattle.std.specs.Prelude.{nat_lt, slice_get}
 use Rattle.std.specs.List.{position_from}
 use Rattle.std.specs.Result.{result_err}
 use Rattle.std.proofs.lemmas.Bool.{cases_Bool}
 use Rattle.serde_json.specs.Data.{Data, Items}
-use Rattle.apply_json.specs.Keeping.{keeping_tree_of}
+use Rattle.apply_json.specs.Verbatim.{mixed_tree_of}
 use Rattle.apply_json.specs.Tree.{list_of}
 use Rattle.apply_model.specs.Plan.SavedPlan.{SavedPlan}
 use Rattle.apply_model.specs.Script.OutcomeMap.{OutcomeMap}
-use Rattle.apply_resolve.specs.Stuck.{is_stuck_at, numbers_from}
+use Rattle.apply_resolve.specs.Unreachable.{is_unreachable_at, numbers_from}
 use Rattle.apply_plan.specs.declared.script.script_error.ScriptError.{ScriptError}
 use Rattle.apply_plan.specs.declared.script.script_error.ScriptError.TheVariants.{TooLarge, NotJson, BadShape, NeverBegins}
 use Rattle.apply_plan.specs.Bytes.{max_bytes}
 use Rattle.apply_plan.specs.Results.{◌>>=◌, all_or_first, each_with_earlier, or_refuse, unless_refused}
-use Rattle.apply_plan.specs.Script.EntriesView.{HasSaid, kept_of}
-use Rattle.apply_plan.specs.Script.Entry.{is_kept}
+use Rattle.apply_plan.specs.Script.EntriesView.{HasResolved, kept_of}
+use Rattle.apply_plan.specs.Script.Entry.{is_verbatim_name}
 use Rattle.apply_plan.specs.Script.NeverBeginning.{elements_in, elements_of_tree, never_beginning_in, never_beginning_of, refusal_of}
-use Rattle.apply_plan.specs.Script.OutcomeMap.{Said, by_number, elements_of, entry_at, is_stuck, script_of, script_of_entries, script_of_tree, unless_stuck}
+use Rattle.apply_plan.specs.Script.OutcomeMap.{ResolvedEntry, by_number, elements_of, entry_at, is_stuck, script_of, script_of_entries, script_of_tree, unless_stuck}
 
 -- ---- the numbers
 
-same_numbers : (script : OutcomeMap) (made : List Said) (n : ℕ) → numbers_from n (is_stuck_at script) (map kept_of made) ≡ numbers_from n (is_stuck script) made
+same_numbers : (script : OutcomeMap) (made : List ResolvedEntry) (n : ℕ) → numbers_from n (is_unreachable_at script) (map kept_of made) ≡ numbers_from n (is_stuck script) made
 same_numbers script [] n = refl
 same_numbers script (one ∷ made) n = ⊎_elim
     (λ (yes : is_stuck script one ≡ true). rw yes (ap (λ (ns : List ℕ). n ∷ ns) (same_numbers script made (n + 1))))
     (λ (no : is_stuck script one ≡ false). rw no (same_numbers script made (n + 1)))
     (cases_Bool (is_stuck script one))
 
--- the first of them
+-- the first of these numbers
 first_number : {X : Type 0} (test : X → Bool) (xs : List X) (n : ℕ) → slice_get (numbers_from n test xs) 0 ≡ position_from test n xs
 first_number test [] n = refl
 first_number test (x ∷ xs) n = ⊎_elim
@@ -42,15 +42,15 @@ pub refused_numbers : (plan : SavedPlan) (elements : Items) (e : ScriptError) �
 unfolding never_beginning_in
 refused_numbers plan elements e fault = rw fault refl
 
-pub made_numbers : (plan : SavedPlan) (elements : Items) (said : OutcomeMap) (waits n : ℕ) (made : List Said) (kept : List (ℕ × ℕ)) (stuck : List ℕ) → HasSaid plan.changes said waits n made
-    → kept ≡ map kept_of made → stuck ≡ numbers_from 0 (is_stuck_at said) kept
+pub made_numbers : (plan : SavedPlan) (elements : Items) (outcomes : OutcomeMap) (waits n : ℕ) (made : List ResolvedEntry) (kept : List (ℕ × ℕ)) (stuck : List ℕ) → HasResolved plan.changes outcomes waits n made
+    → kept ≡ map kept_of made → stuck ≡ numbers_from 0 (is_unreachable_at outcomes) kept
     → all_or_first (each_with_earlier (entry_at plan.changes) (list_of elements)) ≡ Ok made → never_beginning_in plan (list_of elements) ≡ Ok stuck
 unfolding never_beginning_in
-made_numbers plan elements said waits n made kept stuck has kept_is stuck_is e =
-    let same : numbers_from 0 (is_stuck said) made ≡ stuck = sym (same_numbers said made 0) ∙ ap (numbers_from 0 (is_stuck_at said)) (sym kept_is) ∙ sym stuck_is in
-    rw e (rw (← has.said_is) (ap (λ (ns : List ℕ). Ok ns) same))
+made_numbers plan elements outcomes waits n made kept stuck has kept_is stuck_is e =
+    let same : numbers_from 0 (is_stuck outcomes) made ≡ stuck = sym (same_numbers outcomes made 0) ∙ ap (numbers_from 0 (is_unreachable_at outcomes)) (sym kept_is) ∙ sym stuck_is in
+    rw e (rw (← has.outcomes_are) (ap (λ (ns : List ℕ). Ok ns) same))
 
--- the first such entry is that for which a script is refused
+-- a script is refused for the first such entry
 first_entry : (plan : SavedPlan) (ds : List Data) → result_err (script_of_entries plan ds) ≡ refusal_of (never_beginning_in plan ds)
 unfolding script_of_entries never_beginning_in
 first_entry plan ds = of (all_or_first (each_with_earlier (entry_at plan.changes) ds))
@@ -59,7 +59,7 @@ first_entry plan ds = of (all_or_first (each_with_earlier (entry_at plan.changes
     refused None script = refl
     refused (Some refusal) script = refl
 
-    of : (r : Result (List Said) ScriptError) → result_err (r >>= λ entries. unless_stuck entries (by_number (length plan.changes) entries)) ≡ refusal_of (r >>= λ entries. Ok (numbers_from 0 (is_stuck (by_number (length plan.changes) entries)) entries))
+    of : (r : Result (List ResolvedEntry) ScriptError) → result_err (r >>= λ entries. unless_stuck entries (by_number (length plan.changes) entries)) ≡ refusal_of (r >>= λ entries. Ok (numbers_from 0 (is_stuck (by_number (length plan.changes) entries)) entries))
     of (Err e) = refl
     of (Ok entries) =
         let script = by_number (length plan.changes) entries in
@@ -67,7 +67,7 @@ first_entry plan ds = of (all_or_first (each_with_earlier (entry_at plan.changes
 
 -- ---- the bytes
 
--- a script is read of the same elements
+-- a script is read from the same elements
 script_of_read : (plan : SavedPlan) (bytes : List ℕ) → script_of plan bytes ≡ (elements_in bytes >>= script_of_entries plan)
 unfolding script_of script_of_tree
 script_of_read plan bytes = sized (nat_lt max_bytes (length bytes))
@@ -80,9 +80,9 @@ script_of_read plan bytes = sized (nat_lt max_bytes (length bytes))
     read None = refl
     read (Some d) = listed (elements_of d)
 
-    sized : (b : Bool) → cond b (Err TooLarge) (or_refuse NotJson (keeping_tree_of is_kept bytes) >>= script_of_tree plan) ≡ (cond b (Err TooLarge) (or_refuse NotJson (keeping_tree_of is_kept bytes) >>= elements_of_tree) >>= script_of_entries plan)
+    sized : (b : Bool) → cond b (Err TooLarge) (or_refuse NotJson (mixed_tree_of is_verbatim_name bytes) >>= script_of_tree plan) ≡ (cond b (Err TooLarge) (or_refuse NotJson (mixed_tree_of is_verbatim_name bytes) >>= elements_of_tree) >>= script_of_entries plan)
     sized true = refl
-    sized false = read (keeping_tree_of is_kept bytes)
+    sized false = read (mixed_tree_of is_verbatim_name bytes)
 
 numbers_of_read : (plan : SavedPlan) (bytes : List ℕ) → never_beginning_of plan bytes ≡ (elements_in bytes >>= never_beginning_in plan)
 unfolding never_beginning_of

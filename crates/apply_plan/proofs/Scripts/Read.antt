@@ -1,12 +1,12 @@
--- Entries as they are read, one behind the other, and forgotten.
+-- Entries as they are read, one after the other, and forgotten.
 use Rattle.std.proofs.Common.{◌≡◌, ◌≢◌, ℕ, ◌+◌, ◌<◌, ◌≤◌, true, false, List, [], ◌∷◌, ◌++◌, codes, length, Option, Some, None, option_map, Result, Ok, Err, refl, sym, ap, ◌∙◌, arith}
 use Rattle.std.specs.Prelude.{is_some}
 use Rattle.std.specs.List.{position_from}
 use Rattle.std.proofs.lemmas.List.{length-append}
 use Rattle.serde_json.specs.Data.{Data, null, boolean, number, string, array, object}
 use Rattle.serde_json.specs.Find.{as_array, get_member}
-use Rattle.apply_json.specs.declared.listed.Listed.TheVariants as kind
-use Rattle.apply_json.specs.Seen.{members_in}
+use Rattle.apply_json.specs.declared.array_presence.ArrayPresence.TheVariants as kind
+use Rattle.apply_json.specs.ShallowView.{members_in}
 use Rattle.apply_json.specs.Tree.{list_of, unless_null}
 use Rattle.apply_json.specs.Tree as json
 use Rattle.apply_json.proofs.Held.{member_in}
@@ -18,11 +18,11 @@ use Rattle.apply_plan.specs.declared.script.script_error.ScriptError.{ScriptErro
 use Rattle.apply_plan.specs.declared.script.script_error.ScriptError.TheVariants.{BadShape, Memory, NeverBegins}
 use Rattle.apply_plan.specs.ListReading.{items_of, made_after}
 use Rattle.apply_plan.specs.Results.{◌>>=◌, or_refuse, unless_refused}
-use Rattle.apply_resolve.specs.Stuck.{is_stuck_at, numbers_from}
-use Rattle.apply_plan.specs.Script.EntriesView.{AreNumbersOf, HoldsEntries, KeepsOneMore, entries_in, kind_of}
+use Rattle.apply_resolve.specs.Unreachable.{is_unreachable_at, numbers_from}
+use Rattle.apply_plan.specs.Script.EntriesView.{AreNumbersOf, HoldsEntries, StoresOneMore, entries_in, kind_of}
 use Rattle.apply_plan.specs.Script.NeverBeginning.{elements_of_tree, never_beginning_in}
-use Rattle.apply_plan.specs.Script.NextEntry.{entry_after, entry_beside}
-use Rattle.apply_plan.specs.Script.OutcomeMap.{Said, by_number, script_of_entries}
+use Rattle.apply_plan.specs.Script.NextEntry.{entry_after, resolved_next}
+use Rattle.apply_plan.specs.Script.OutcomeMap.{ResolvedEntry, by_number, script_of_entries}
 use Rattle.apply_resolve.specs.Placed.{ArePlaced}
 use Rattle.apply_plan.proofs.ListReading.{list_of-items_of, made_more, one_more}
 use Rattle.apply_plan.proofs.Scripts.Entries.{length-by_number}
@@ -31,25 +31,25 @@ use Rattle.apply_plan.proofs.Scripts.WholeList.{entries_one_by_one, made_script,
 
 -- ---- the entries
 
-pub long : (entries : Entries) (ds : List Data) (holds : HoldsEntries entries ds) → length entries.said.items ≡ length entries.plan.now.changes
-long entries ds holds = ap length holds.said.said_is ∙ length-by_number (length entries.plan.now.changes) holds.made
+pub long : (entries : Entries) (ds : List Data) (holds : HoldsEntries entries ds) → length entries.outcomes.items ≡ length entries.plan.now.changes
+long entries ds holds = ap length holds.outcomes.outcomes_are ∙ length-by_number (length entries.plan.now.changes) holds.made
 
-pub holds_none : (entries : Entries) → length entries.plan.now.changes ≤ max_changes → AreNumbersOf entries.numbers entries.plan.now.changes → entries.said.items ≡ by_number (length entries.plan.now.changes) [] → entries.kept.items ≡ [] → entries.waits ≡ 0 → entries.fault ≡ None
+pub holds_none : (entries : Entries) → length entries.plan.now.changes ≤ max_changes → AreNumbersOf entries.numbers entries.plan.now.changes → entries.outcomes.items ≡ by_number (length entries.plan.now.changes) [] → entries.kept.items ≡ [] → entries.waits ≡ 0 → entries.fault ≡ None
     → HoldsEntries entries []
 unfolding made_after
-holds_none entries few numbered said kept waits fault =
+holds_none entries few numbered outcomes kept waits fault =
     let changes = entries.plan.now.changes in
     record {
       made = [];
       few_changes = few;
       numbered = numbered;
-      said = rw (waits, kept) (nothing_said changes entries.said.items said);
+      outcomes = rw (waits, kept) (nothing_said changes entries.outcomes.items outcomes);
       kept = nothing_kept (length changes) entries.kept.items kept;
       few = omega (arith, waits);
       so_far = λ not. rw fault refl;
     }
 
--- behind a fault
+-- one entry more, after a fault
 pub holds_past : (entries : Entries) (ds : List Data) (d : Data) → is_some entries.fault ≡ true → HoldsEntries entries ds → HoldsEntries entries (ds ++ d ∷ [])
 holds_past entries ds d some holds =
     let changes = entries.plan.now.changes in
@@ -57,7 +57,7 @@ holds_past entries ds d some holds =
       made = holds.made;
       few_changes = holds.few_changes;
       numbered = holds.numbered;
-      said = holds.said;
+      outcomes = holds.outcomes;
       kept = holds.kept;
       few = holds.few;
       so_far = λ not. made_more (entry_after changes) [] ds d ∙ ap (λ r. r >>= one_more (entry_after changes) d) (holds.so_far not) ∙ stays entries.fault some;
@@ -75,49 +75,49 @@ no_want : (fault : Option ScriptError) → is_some fault ≡ false → fault ≢
 no_want None h = λ is. absurd cc
 no_want (Some x) h = absurd cc
 
--- the next entry, where there was no fault
-next_entry : (entries : Entries) (ds : List Data) (d : Data) (holds : HoldsEntries entries ds) → is_some entries.fault ≡ false → (answer : Result Said ScriptError)
-    → entry_beside entries.plan.now.changes entries.said.items entries.waits (length entries.kept.items) d ≡ answer
+-- one entry more, if there was no fault
+next_entry : (entries : Entries) (ds : List Data) (d : Data) (holds : HoldsEntries entries ds) → is_some entries.fault ≡ false → (answer : Result ResolvedEntry ScriptError)
+    → resolved_next entries.plan.now.changes entries.outcomes.items entries.waits (length entries.kept.items) d ≡ answer
     → made_after (entry_after entries.plan.now.changes) [] (items_of (ds ++ d ∷ [])) ≡ (answer >>= λ one. Ok (holds.made ++ one ∷ []))
 next_entry entries ds d holds none answer is =
     let changes = entries.plan.now.changes in
     made_more (entry_after changes) [] ds d ∙ ap (λ r. r >>= one_more (entry_after changes) d) (holds.so_far (no_want entries.fault none) ∙ ap (λ (o : Option ScriptError). unless_refused o holds.made) (none_there entries.fault none))
-    ∙ ap (λ (r : Result Said ScriptError). r >>= λ one. Ok (holds.made ++ one ∷ [])) (same_entry changes entries.said.items entries.waits (length entries.kept.items) holds.made d answer holds.said is)
+    ∙ ap (λ (r : Result ResolvedEntry ScriptError). r >>= λ one. Ok (holds.made ++ one ∷ [])) (same_entry changes entries.outcomes.items entries.waits (length entries.kept.items) holds.made d answer holds.outcomes is)
 
 pub holds_more : (old new : Entries) (ds : List Data) (d : Data) (change : ℕ) (steps : List ScriptStep) (waits : ℕ) → HoldsEntries old ds → is_some old.fault ≡ false
-    → entry_beside old.plan.now.changes old.said.items old.waits (length old.kept.items) d ≡ Ok (record { change = change; steps = steps; waits = waits })
-    → change < length old.said.items → ArePlaced (length old.said.items) steps → old.waits + waits ≤ max_waits
-    → KeepsOneMore old change steps waits new → HoldsEntries new (ds ++ d ∷ [])
+    → resolved_next old.plan.now.changes old.outcomes.items old.waits (length old.kept.items) d ≡ Ok (record { change = change; steps = steps; waits = waits })
+    → change < length old.outcomes.items → ArePlaced (length old.outcomes.items) steps → old.waits + waits ≤ max_waits
+    → StoresOneMore old change steps waits new → HoldsEntries new (ds ++ d ∷ [])
 holds_more old new ds d change steps waits holds none is below placed few keeps =
     let changes = old.plan.now.changes in
-    let one : Said = record { change = change; steps = steps; waits = waits } in
-    let more = said_more changes old.said.items old.waits (length old.kept.items) holds.made d one holds.said is placed in
+    let one : ResolvedEntry = record { change = change; steps = steps; waits = waits } in
+    let more = said_more changes old.outcomes.items old.waits (length old.kept.items) holds.made d one holds.outcomes is placed in
     let longer : length (old.kept.items ++ (change, length steps) ∷ []) ≡ length old.kept.items + 1 = omega (arith, length-append old.kept.items ((change, length steps) ∷ [])) in
     record {
       made = holds.made ++ one ∷ [];
       few_changes = rw keeps.plan holds.few_changes;
       numbered = rw (keeps.numbers, keeps.plan) holds.numbered;
-      said = rw (keeps.plan, keeps.said, keeps.waits, keeps.kept, longer) more;
+      outcomes = rw (keeps.plan, keeps.outcomes, keeps.waits, keeps.kept, longer) more;
       kept = rw (keeps.plan, keeps.kept) (one_kept (length changes) old.kept.items holds.made one holds.kept (omega (arith, below, long old ds holds)) placed.few);
       few = rw keeps.waits few;
       so_far = λ not. rw (keeps.plan, keeps.fault) (next_entry old ds d holds none (Ok one) is ∙ ap (λ (o : Option ScriptError). unless_refused o (holds.made ++ one ∷ [])) (sym (none_there old.fault none)));
     }
 
 pub holds_refused : (old new : Entries) (ds : List Data) (d : Data) (fault : ScriptError) → HoldsEntries old ds → is_some old.fault ≡ false
-    → (fault ≢ Memory → entry_beside old.plan.now.changes old.said.items old.waits (length old.kept.items) d ≡ Err fault)
+    → (fault ≢ Memory → resolved_next old.plan.now.changes old.outcomes.items old.waits (length old.kept.items) d ≡ Err fault)
     → new ≡ record old { fault = Some fault } → HoldsEntries new (ds ++ d ∷ [])
 holds_refused old new ds d fault holds none is same = rw same
     (record {
       made = holds.made;
       few_changes = holds.few_changes;
       numbered = holds.numbered;
-      said = holds.said;
+      outcomes = holds.outcomes;
       kept = holds.kept;
       few = holds.few;
       so_far = λ not. next_entry old ds d holds none (Err fault) (is (λ want. not (ap (λ (e : ScriptError). Some e) want)));
     })
 
--- ---- the script that they make
+-- ---- the script of the entries
 
 pub refused_entries : (entries : Entries) (ds : List Data) (fault : ScriptError) → HoldsEntries entries ds → entries.fault ≡ Some fault → fault ≢ Memory → script_of_entries entries.plan.now ds ≡ Err fault
 refused_entries entries ds fault holds is known =
@@ -128,15 +128,15 @@ refused_entries entries ds fault holds is known =
     same : {x y : ScriptError} → Some x ≡ Some y → x ≡ y
     same e = cc
 
-pub made_entries : (entries : Entries) (ds : List Data) (stuck : Option ℕ) → HoldsEntries entries ds → entries.fault ≡ None → stuck ≡ position_from (is_stuck_at entries.said.items) 0 entries.kept.items
-    → script_of_entries entries.plan.now ds ≡ unless_refused (option_map NeverBegins stuck) entries.said.items
+pub made_entries : (entries : Entries) (ds : List Data) (stuck : Option ℕ) → HoldsEntries entries ds → entries.fault ≡ None → stuck ≡ position_from (is_unreachable_at entries.outcomes.items) 0 entries.kept.items
+    → script_of_entries entries.plan.now ds ≡ unless_refused (option_map NeverBegins stuck) entries.outcomes.items
 made_entries entries ds stuck holds none is =
     let plan = entries.plan.now in
     ap (script_of_entries plan) (sym (list_of-items_of ds))
-    ∙ made_script plan (items_of ds) entries.said.items entries.waits (length entries.kept.items) holds.made entries.kept.items stuck holds.said holds.kept.kept_is is
+    ∙ made_script plan (items_of ds) entries.outcomes.items entries.waits (length entries.kept.items) holds.made entries.kept.items stuck holds.outcomes holds.kept.kept_is is
     (sym (entries_one_by_one plan.changes (items_of ds)) ∙ holds.so_far (λ want. absurd (let never : None ≡ Some Memory = sym none ∙ want in cc)) ∙ rw none refl)
 
--- the entries of them that never begin
+-- the entries with a step that can never start
 pub refused_beginning : (entries : Entries) (ds : List Data) (fault : ScriptError) → HoldsEntries entries ds → entries.fault ≡ Some fault → fault ≢ Memory → never_beginning_in entries.plan.now ds ≡ Err fault
 refused_beginning entries ds fault holds is known =
     let plan = entries.plan.now in
@@ -146,12 +146,12 @@ refused_beginning entries ds fault holds is known =
     same : {x y : ScriptError} → Some x ≡ Some y → x ≡ y
     same e = cc
 
-pub made_beginning : (entries : Entries) (ds : List Data) (stuck : List ℕ) → HoldsEntries entries ds → entries.fault ≡ None → stuck ≡ numbers_from 0 (is_stuck_at entries.said.items) entries.kept.items
+pub made_beginning : (entries : Entries) (ds : List Data) (stuck : List ℕ) → HoldsEntries entries ds → entries.fault ≡ None → stuck ≡ numbers_from 0 (is_unreachable_at entries.outcomes.items) entries.kept.items
     → never_beginning_in entries.plan.now ds ≡ Ok stuck
 made_beginning entries ds stuck holds none is =
     let plan = entries.plan.now in
     ap (never_beginning_in plan) (sym (list_of-items_of ds))
-    ∙ made_numbers plan (items_of ds) entries.said.items entries.waits (length entries.kept.items) holds.made entries.kept.items stuck holds.said holds.kept.kept_is is
+    ∙ made_numbers plan (items_of ds) entries.outcomes.items entries.waits (length entries.kept.items) holds.made entries.kept.items stuck holds.outcomes holds.kept.kept_is is
     (sym (entries_one_by_one plan.changes (items_of ds)) ∙ holds.so_far (λ want. absurd (let never : None ≡ Some Memory = sym none ∙ want in cc)) ∙ rw none refl)
 
 -- ---- the top level

@@ -4,11 +4,11 @@ use Rattle.std.proofs.lemmas.Bool.{and_parts, leb-true}
 use Rattle.std.proofs.lemmas.List.{get_or-map, length-map}
 use Rattle.apply_model.specs.declared.script.timed_text.TimedText.{TimedText}
 use Rattle.apply_model.specs.Script.Outcome.{are_in_time}
-use Rattle.apply_plan.specs.declared.script.tree_output.TreeOutput.{TreeOutput}
+use Rattle.apply_plan.specs.declared.script.raw_output.RawOutput.{RawOutput}
 use Rattle.apply_plan.specs.Script.Entry.{timed}
 use Rattle.apply_plan.specs.Script.OutputView.{output_view, outputs_view}
 
--- each of them comes before the end
+-- each output comes before the end
 before_end : (low seconds : ℕ) (texts : List TimedText) (i : ℕ) (d : TimedText) → are_in_time low seconds texts ≡ true → i < length texts → (get_or texts i d).after ≤ seconds
 before_end low seconds [] i d all below = absurd (omega (arith, below))
 before_end low seconds (text ∷ texts) zero d all below =
@@ -18,8 +18,8 @@ before_end low seconds (text ∷ texts) (suc i) d all below =
     let parts = and_parts (nat_le low text.after && nat_le text.after seconds) (are_in_time text.after seconds texts) all in
     before_end text.after seconds texts i d parts.1 (omega (arith, below))
 
--- so does one that a reader keeps, and it is within the limits where the end is
-pub output_in_limits : (limit seconds : ℕ) (outputs : List TreeOutput) (i : ℕ) (d : TreeOutput) → are_in_time 0 seconds (map (timed seconds) (outputs_view outputs)) ≡ true → i < length outputs → seconds ≤ limit
+-- each stored output comes before the end, and is within the limits if the end is
+pub output_in_limits : (limit seconds : ℕ) (outputs : List RawOutput) (i : ℕ) (d : RawOutput) → are_in_time 0 seconds (map (timed seconds) (outputs_view outputs)) ≡ true → i < length outputs → seconds ≤ limit
     → (timed seconds (output_view (get_or outputs i d))).after ≤ limit
 output_in_limits limit seconds outputs i d all below short =
     let items = outputs_view outputs in

@@ -1,4 +1,4 @@
--- An element of `resource_changes`: its members, each under its rule.
+-- An element of `resource_changes`, and the rule of each of its members.
 use Rattle.std.specs.Prelude.{ℕ, List, [], codes, Bool, false, ◌||◌, if◌then◌else◌, Option, Some, None, option_map}
 use Rattle.std.specs.Option.{option_map_or}
 use Rattle.std.specs.Str.{bytes_eq}
@@ -27,7 +27,7 @@ mode_named word =
     else if bytes_eq word (codes "data") then Some DataSource
     else None
 
--- the instance key that `index` is: a text, or a whole number that fits 64 bits with a sign
+-- the instance key by `index`: a text, or a whole number that fits 64 bits with a sign
 abbrev pub key_of : Option Data → Option Key
 key_of None = Some key.None
 key_of (Some null) = None
@@ -37,7 +37,7 @@ key_of (Some (string s)) = Some (key.Name s)
 key_of (Some (array ds)) = None
 key_of (Some (object ms)) = None
 
--- `before_sensitive` hides the id where it is `true`, or an object whose `id` is `true`
+-- `before_sensitive` hides the id if it is `true`, or an object whose `id` is `true`
 abbrev pub is_true : Option Data → Bool
 is_true None = false
 is_true (Some d) = option_map_or (λ b. b) (as_bool d) false
@@ -46,13 +46,13 @@ abbrev pub hides_id : Option Data → Bool
 hides_id None = false
 hides_id (Some sensitive) = is_true (Some sensitive) || is_true (member_of (codes "id") sensitive)
 
--- the id before the change: a text that is not empty and not hidden
+-- the id before the change; none if it is no text, empty or hidden
 abbrev pub prior_id_of : Data → Option (List ℕ)
 prior_id_of change =
     if hides_id (member_of (codes "before_sensitive") change) then None
     else (member_of (codes "before") change >>= λ before. non_empty_text_of (codes "id") before)
 
--- what the member `change` says: the actions, and the id before the change
+-- what the member `change` states: the actions, and the id before the change
 abbrev pub planned_change_of : Data → Option (Items × Option (List ℕ))
 planned_change_of d = do
   change ← member_of (codes "change") d
@@ -60,7 +60,7 @@ planned_change_of d = do
   actions ← as_array list
   Some (actions, prior_id_of change)
 
--- the element's members; none where one of them breaks its rule
+-- the element; none if one of its members is invalid or missing
 unfoldable pub element_of : Data → Option Element
 element_of d = do
   address ← text_of (codes "address") d

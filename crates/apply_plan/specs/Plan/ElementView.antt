@@ -1,4 +1,4 @@
--- What contracts see of an element that was read, for the private type that holds one.
+-- Contracts see an element with its steps in place of its actions, for private types.
 use Rattle.std.specs.Prelude.{ℕ, List, Option, option_map}
 use Rattle.std.specs.Option.{option_copied}
 use Rattle.apply_plan.specs.declared.plan.element.Element as read
@@ -14,8 +14,8 @@ use Rattle.apply_model.specs.Plan.ResourceChange.{ResourceChange}
 use Rattle.apply_plan.specs.Plan.Element.{Element}
 use Rattle.apply_plan.specs.Plan.Steps.{steps_of_actions}
 
--- an element, with the steps of its actions in their place, if these are in scope
-pub record FoundElement : Type 0 where
+-- an element with the steps of its actions; no steps if the action list is invalid
+pub record ReadElement : Type 0 where
   pub address : List ℕ
   pub mode : Mode
   pub kind_name : List ℕ
@@ -26,7 +26,7 @@ pub record FoundElement : Type 0 where
   pub steps : Option (List StepKind)
   pub prior_id : Option (List ℕ)
 
-abbrev pub with_steps : Element → FoundElement
+abbrev pub with_steps : Element → ReadElement
 with_steps e = record {
   address = e.address;
   mode = e.mode;
@@ -39,9 +39,9 @@ with_steps e = record {
   prior_id = e.prior_id;
 }
 
--- what it describes, with these steps
-abbrev pub change_found : FoundElement → List StepKind → ResourceChange
-change_found e steps = record {
+-- the change of an element, with these steps
+abbrev pub change_with_steps : ReadElement → List StepKind → ResourceChange
+change_with_steps e steps = record {
   address = e.address;
   module_address = e.module_address;
   mode = e.mode;
@@ -61,7 +61,7 @@ key_view (index.Name s) = key.Name s.now
 abbrev pub planned_change_view : PlannedChange → Option (List StepKind) × Option (List ℕ)
 planned_change_view change = (option_map steps_of_action change.action, option_copied change.prior_id)
 
-abbrev pub element_view : read.Element → FoundElement
+abbrev pub element_view : read.Element → ReadElement
 element_view e = record {
   address = e.address.now;
   mode = e.mode;

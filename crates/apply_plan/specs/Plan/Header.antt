@@ -7,10 +7,11 @@ use Rattle.apply_json.specs.Tree.{◌>>=◌, member_of, text_of, text_or, items_
 pub record Header : Type 0 where
   -- the version of Terraform that made the plan
   pub version : List ℕ
-  -- what stands in `resource_changes`
+  -- the items of `resource_changes`
   pub elements : Items
 
--- `format_version` is 1.x, `terraform_version` a text or absent, `resource_changes` an array or absent
+-- the header; none unless `format_version` is 1.x, `terraform_version` is a text or absent, and
+-- `resource_changes` is an array or absent
 unfoldable pub header_of : Data → Option Header
 header_of d = do
   format ← text_of (codes "format_version") d

@@ -1,9 +1,9 @@
--- What is kept of the members of a plan's elements, for the private types that keep it.
+-- The members of an element of a plan as slots store them, for private types.
 use Rattle.std.specs.Prelude.{◌≡◌, ℕ, List, [], codes, Bool, false, if◌then◌else◌, Option, Some, None, option_map, Result, Ok}
 use Rattle.std.specs.Option.{option_copied}
 use Rattle.serde_json.specs.Data.{Data, Members}
 use Rattle.serde_json.specs.Find.{as_array, as_i64, get_member}
-use Rattle.apply_json.specs.Seen.{Seen, absent, truth, number, text, an_array, an_object, scalar_view, seen, text_seen, text_seen_or}
+use Rattle.apply_json.specs.ShallowView.{ShallowView, absent, truth, number, text, an_array, an_object, shallow_view, shallow_of, shallow_text, shallow_text_or}
 use Rattle.apply_json.specs.Tree.{◌>>=◌, member_of, non_empty_text_of, unless_empty, unless_null}
 use Rattle.apply_model.specs.declared.plan.key.Key.{Key}
 use Rattle.apply_model.specs.declared.plan.key.Key.TheVariants as key
@@ -13,7 +13,7 @@ use Rattle.apply_model.specs.Plan.Action.{steps_of_action}
 use Rattle.apply_model.specs.Plan.Address.{relative_address}
 use Rattle.apply_model.specs.Plan.ResourceChange.{ResourceChange}
 use Rattle.apply_plan.specs.declared.plan.change_slots.ChangeSlots.{ChangeSlots}
-use Rattle.apply_json.specs.declared.scalar.Scalar.{Scalar}
+use Rattle.apply_json.specs.declared.shallow.Shallow.{Shallow}
 use Rattle.apply_plan.specs.declared.plan.element_member.ElementMember.{ElementMember}
 use Rattle.apply_plan.specs.declared.plan.element_member.ElementMember.TheVariants as member
 use Rattle.apply_plan.specs.declared.plan.element_slots.ElementSlots.{ElementSlots}
@@ -21,29 +21,29 @@ use Rattle.apply_plan.specs.declared.plan.id_slots.IdSlots.{IdSlots}
 use Rattle.apply_plan.specs.declared.plan.plan_error.PlanError.{PlanError}
 use Rattle.apply_plan.specs.declared.plan.plan_error.PlanError.TheVariants.{BadActions, BadAddress, BadChange}
 use Rattle.apply_plan.specs.Plan.Element.{hides_id, mode_named, prior_id_of}
-use Rattle.apply_plan.specs.Plan.ElementView.{FoundElement, change_found, planned_change_view}
+use Rattle.apply_plan.specs.Plan.ElementView.{ReadElement, change_with_steps, planned_change_view}
 use Rattle.apply_plan.specs.Plan.Steps.{steps_of_actions}
 use Rattle.apply_plan.specs.Results as results
 use Rattle.apply_plan.specs.Results.{or_refuse}
 
 -- ---- members that are no scalars; `null` counts as absent
 
--- the id in `before`, where it is a text that is not empty
+-- the `id` of `before`; none if it is not a text or is empty
 abbrev pub id_member : Option Data → Option (List ℕ)
 id_member found = (found >>= unless_null) >>= λ before. non_empty_text_of (codes "id") before
 
--- whether `before_sensitive` hides it
+-- whether `before_sensitive` hides the id
 abbrev pub sensitive_member : Option Data → Bool
 sensitive_member found = hides_id (found >>= unless_null)
 
--- the steps of a list of actions, if it is in scope; none where it is no list
+-- the steps of an action list, if it is valid; none if there is no list
 abbrev pub actions_member : Option Data → Option (Option (List StepKind))
 actions_member found = do
   list ← found >>= unless_null
   actions ← as_array list
   Some (steps_of_actions actions)
 
--- what `change` says: these steps, and the id before the change
+-- what `change` states: the steps, and the id before the change
 abbrev pub change_member : Option Data → Option (Option (List StepKind) × Option (List ℕ))
 change_member found = do
   change ← found >>= unless_null
@@ -53,24 +53,24 @@ change_member found = do
 
 -- ---- scalars
 
-abbrev pub truth_seen : Seen → Bool
-truth_seen absent = false
-truth_seen (truth b) = b
-truth_seen (number n) = false
-truth_seen (text s) = false
-truth_seen an_array = false
-truth_seen an_object = false
+abbrev pub is_true_read : ShallowView → Bool
+is_true_read absent = false
+is_true_read (truth b) = b
+is_true_read (number n) = false
+is_true_read (text s) = false
+is_true_read an_array = false
+is_true_read an_object = false
 
-abbrev pub mode_seen : Seen → Option Mode
-mode_seen found = text_seen found >>= mode_named
+abbrev pub mode_read : ShallowView → Option Mode
+mode_read found = shallow_text found >>= mode_named
 
-abbrev pub key_seen : Seen → Option Key
-key_seen absent = Some key.None
-key_seen (truth b) = None
-key_seen (number n) = option_map key.Number (as_i64 n)
-key_seen (text s) = Some (key.Name s)
-key_seen an_array = None
-key_seen an_object = None
+abbrev pub key_read : ShallowView → Option Key
+key_read absent = Some key.None
+key_read (truth b) = None
+key_read (number n) = option_map key.Number (as_i64 n)
+key_read (text s) = Some (key.Name s)
+key_read an_array = None
+key_read an_object = None
 
 abbrev pub name_of : ElementMember → List ℕ
 name_of member.Address = codes "address"
@@ -81,8 +81,8 @@ name_of member.ModuleAddress = codes "module_address"
 name_of member.Index = codes "index"
 name_of member.Deposed = codes "deposed"
 
--- the slots with that scalar in its place
-abbrev pub with_scalar : ElementSlots → ElementMember → Scalar → ElementSlots
+-- the slots with this scalar stored
+abbrev pub with_scalar : ElementSlots → ElementMember → Shallow → ElementSlots
 with_scalar slots member.Address found = record slots { address = found }
 with_scalar slots member.Mode found = record slots { mode = found }
 with_scalar slots member.Type found = record slots { kind_name = found }
@@ -91,10 +91,10 @@ with_scalar slots member.ModuleAddress found = record slots { module_address = f
 with_scalar slots member.Index found = record slots { index = found }
 with_scalar slots member.Deposed found = record slots { deposed = found }
 
--- ---- what slots hold of some members
+-- ---- the slots hold what the members state
 
 pub record HoldsId (slots : IdSlots) (ms : Members) : Type 0 where
-  pub id : scalar_view slots.id ≡ seen (get_member (codes "id") ms)
+  pub id : shallow_view slots.id ≡ shallow_of (get_member (codes "id") ms)
 
 pub record HoldsChange (slots : ChangeSlots) (ms : Members) : Type 0 where
   pub actions : option_map (λ action. option_map steps_of_action action) slots.actions ≡ actions_member (get_member (codes "actions") ms)
@@ -102,31 +102,31 @@ pub record HoldsChange (slots : ChangeSlots) (ms : Members) : Type 0 where
   pub hides_id : slots.hides_id ≡ sensitive_member (get_member (codes "before_sensitive") ms)
 
 pub record HoldsElement (slots : ElementSlots) (ms : Members) : Type 0 where
-  pub address : scalar_view slots.address ≡ seen (get_member (codes "address") ms)
-  pub mode : scalar_view slots.mode ≡ seen (get_member (codes "mode") ms)
-  pub kind_name : scalar_view slots.kind_name ≡ seen (get_member (codes "type") ms)
-  pub name : scalar_view slots.name ≡ seen (get_member (codes "name") ms)
-  pub module_address : scalar_view slots.module_address ≡ seen (get_member (codes "module_address") ms)
-  pub index : scalar_view slots.index ≡ seen (get_member (codes "index") ms)
-  pub deposed : scalar_view slots.deposed ≡ seen (get_member (codes "deposed") ms)
+  pub address : shallow_view slots.address ≡ shallow_of (get_member (codes "address") ms)
+  pub mode : shallow_view slots.mode ≡ shallow_of (get_member (codes "mode") ms)
+  pub kind_name : shallow_view slots.kind_name ≡ shallow_of (get_member (codes "type") ms)
+  pub name : shallow_view slots.name ≡ shallow_of (get_member (codes "name") ms)
+  pub module_address : shallow_view slots.module_address ≡ shallow_of (get_member (codes "module_address") ms)
+  pub index : shallow_view slots.index ≡ shallow_of (get_member (codes "index") ms)
+  pub deposed : shallow_view slots.deposed ≡ shallow_of (get_member (codes "deposed") ms)
   pub change : option_map planned_change_view slots.change ≡ change_member (get_member (codes "change") ms)
 
--- ---- what the slots make
+-- ---- what is read from the slots; none if a member is invalid or missing
 
-abbrev pub change_held : ChangeSlots → Option (Option (List StepKind) × Option (List ℕ))
-change_held slots = do
+abbrev pub change_read : ChangeSlots → Option (Option (List StepKind) × Option (List ℕ))
+change_read slots = do
   steps ← option_map (λ action. option_map steps_of_action action) slots.actions
   Some (steps, if slots.hides_id then None else option_copied slots.id)
 
-abbrev pub element_held : ElementSlots → Option FoundElement
-element_held slots = do
-  address ← text_seen (scalar_view slots.address)
-  mode ← mode_seen (scalar_view slots.mode)
-  kind_name ← text_seen (scalar_view slots.kind_name) >>= unless_empty
-  name ← text_seen (scalar_view slots.name) >>= unless_empty
-  module_address ← text_seen_or [] (scalar_view slots.module_address)
-  key ← key_seen (scalar_view slots.index)
-  deposed ← text_seen_or [] (scalar_view slots.deposed)
+abbrev pub element_read : ElementSlots → Option ReadElement
+element_read slots = do
+  address ← shallow_text (shallow_view slots.address)
+  mode ← mode_read (shallow_view slots.mode)
+  kind_name ← shallow_text (shallow_view slots.kind_name) >>= unless_empty
+  name ← shallow_text (shallow_view slots.name) >>= unless_empty
+  module_address ← shallow_text_or [] (shallow_view slots.module_address)
+  key ← key_read (shallow_view slots.index)
+  deposed ← shallow_text_or [] (shallow_view slots.deposed)
   change ← option_map planned_change_view slots.change
   Some (record {
     address = address;
@@ -140,8 +140,8 @@ element_held slots = do
     prior_id = change.1;
   })
 
--- the change that the element of that number describes, or the first fault that it has by itself
-abbrev pub planned_held : ℕ → Option FoundElement → Result ResourceChange PlanError
-planned_held n found =
+-- the change of element n, or the first fault of the element by itself
+abbrev pub planned_read : ℕ → Option ReadElement → Result ResourceChange PlanError
+planned_read n found =
     results.◌>>=◌ (or_refuse (BadChange n) found) λ e. results.◌>>=◌ (or_refuse (BadActions n) e.steps) λ steps.
-    results.◌>>=◌ (or_refuse (BadAddress n) (relative_address e.module_address e.address)) λ relative. Ok (change_found e steps)
+    results.◌>>=◌ (or_refuse (BadAddress n) (relative_address e.module_address e.address)) λ relative. Ok (change_with_steps e steps)

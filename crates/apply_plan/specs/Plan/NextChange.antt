@@ -1,4 +1,4 @@
--- The change of an element as a reader meets it, for private clauses: behind the changes of the elements before it.
+-- The change of the next element, for private clauses: it is compared with earlier changes.
 use Rattle.std.specs.Prelude.{List, length, if◌then◌else◌, Result, Ok, Err}
 use Rattle.std.specs.List.{list_any}
 use Rattle.serde_json.specs.Data.{Data}
@@ -9,7 +9,7 @@ use Rattle.apply_resolve.specs.ObjectName.{is_same_object}
 use Rattle.apply_plan.specs.Plan.SavedPlan.{planned_at}
 use Rattle.apply_plan.specs.Results.{◌>>=◌}
 
--- the change of an element behind other changes, with each of which it is compared; or its first fault
+-- the change of the element after `earlier`, or its first fault
 unfoldable pub change_after : List ResourceChange → Data → Result ResourceChange PlanError
 change_after earlier d = do
   change ← planned_at (length earlier) d

@@ -1,4 +1,4 @@
--- The plan that bytes are, or the first refusal (JSON Output Format, "Plan Representation").
+-- The plan that bytes state, or the first fault (JSON Output Format, "Plan Representation").
 use Rattle.std.specs.Prelude.{ℕ, List, length, Bool, false, nat_lt, if◌then◌else◌, Result, Ok, Err}
 use Rattle.std.specs.List.{list_any}
 use Rattle.std.specs.Option.{option_map_or}
@@ -18,7 +18,7 @@ use Rattle.apply_plan.specs.Results.{◌>>=◌, all_or_first, each_with_earlier,
 use Rattle.apply_json.specs.Tree.{list_of}
 use Rattle.apply_plan.specs.Bytes.{of_bytes}
 
--- what an element describes, with its steps
+-- the change of an element, with its steps
 abbrev pub change_of : Element → List StepKind → ResourceChange
 change_of e steps = record {
   address = e.address;
@@ -32,7 +32,7 @@ change_of e steps = record {
   steps = steps;
 }
 
--- the change that element n describes, or the first fault that it has by itself
+-- the change of element n, or the first fault of the element by itself
 unfoldable pub planned_at : ℕ → Data → Result ResourceChange PlanError
 planned_at n d = do
   e ← or_refuse (BadChange n) (element_of d)
@@ -40,20 +40,20 @@ planned_at n d = do
   relative ← or_refuse (BadAddress n) (relative_address e.module_address e.address)
   Ok (change_of e steps)
 
--- whether an element has the address of the change, and its deposed key or none
+-- whether an element has the address and the deposed key of the change
 abbrev pub names_object_of : ResourceChange → Data → Bool
 names_object_of change d =
     option_map_or
     (λ e. name_one_object e.address e.deposed change.address change.deposed)
     (element_of d) false
 
--- what an element describes, or the first fault that holds of it; it is compared with each element before it
+-- the change of an element, or its first fault; it is compared with each element before it
 unfoldable pub change_at : List Data → Data → Result ResourceChange PlanError
 change_at before d = do
   change ← planned_at (length before) d
   if list_any (names_object_of change) before then Err (Duplicate (length before)) else Ok change
 
--- the changes of the elements, or the fault of the first that has one
+-- the changes of the elements, or the fault of the first faulty element
 unfoldable pub changes_of : List Data → Result (List ResourceChange) PlanError
 changes_of elements = all_or_first (each_with_earlier change_at elements)
 
@@ -64,6 +64,6 @@ plan_of_tree d = do
     changes ← changes_of (list_of header.elements)
     Ok (record { version = header.version; changes = changes })
 
--- the plan that the bytes are, or the first refusal
+-- the plan that the bytes state, or the first fault
 unfoldable pub plan_of : List ℕ → Result SavedPlan PlanError
 plan_of bytes = of_bytes TooLarge NotJson plan_of_tree bytes

@@ -1,4 +1,4 @@
--- The words of a list of actions, as far as they are looked at, for the private type that gathers them.
+-- The words of an action list, for the private type `Actions`.
 use Rattle.std.specs.Prelude.{ℕ, List, [], ◌∷◌, codes, Bool, false, ◌&&◌, if◌then◌else◌, Option, Some, None}
 use Rattle.std.specs.Option.{option_copied, option_map_or}
 use Rattle.std.specs.Str.{bytes_eq}
@@ -9,7 +9,7 @@ use Rattle.apply_model.specs.declared.plan.step_kind.StepKind.TheVariants.{Creat
 use Rattle.apply_plan.specs.declared.plan.actions.Actions.{Actions}
 use Rattle.apply_plan.specs.declared.plan.actions.Actions.TheVariants as actions
 
--- an item is a text, or is none
+-- the first two words; an item that is not a text is none
 pub data Words : Type 0 where
   nothing : Words
   one : Option (List ℕ) → Words
@@ -28,17 +28,17 @@ words_view (actions.One word) = one (option_copied word)
 words_view (actions.Two first second) = two (option_copied first) (option_copied second)
 words_view actions.More = more
 
-abbrev pub with_one_more : Words → Option (List ℕ) → Words
-with_one_more nothing word = one word
-with_one_more (one first) word = two first word
-with_one_more (two first second) word = more
-with_one_more more word = more
+abbrev pub with_next_word : Words → Option (List ℕ) → Words
+with_next_word nothing word = one word
+with_next_word (one first) word = two first word
+with_next_word (two first second) word = more
+with_next_word more word = more
 
--- a text and nothing else
+-- whether the item is this word
 abbrev pub says : List ℕ → Option (List ℕ) → Bool
 says word item = option_map_or (λ text. bytes_eq text word) item false
 
--- the steps of a single action
+-- the steps of a list with one action
 abbrev pub steps_of_word : Option (List ℕ) → Option (List StepKind)
 steps_of_word action =
     if says (codes "no-op") action then Some []
@@ -49,7 +49,7 @@ steps_of_word action =
     else if says (codes "forget") action then Some []
     else None
 
--- of a replacement
+-- the steps of a list with two actions: a replacement
 abbrev pub steps_of_two : (first second : Option (List ℕ)) → Option (List StepKind)
 steps_of_two first second =
     if says (codes "delete") first && says (codes "create") second then Some (Delete ∷ Create ∷ [])

@@ -1,11 +1,11 @@
--- What a reader keeps of the entries that it has read, for private types.
+-- What a reader has stored of the entries, for private types.
 use Rattle.std.specs.Prelude.{◌≡◌, ◌≢◌, ℕ, ◌+◌, ◌<◌, ◌≤◌, ◌==◌, List, [], ◌∷◌, ◌++◌, All, codes, count_by, find, get_or, length, map, set, true, is_some, IfSome, Option, Some, None, option_map}
 use Rattle.std.specs.List.{enumerate_from, list_any}
 use Rattle.serde_json.specs.Data.{Data, Members}
 use Rattle.serde_json.specs.Find.{get_member}
-use Rattle.apply_json.specs.declared.listed.Listed.{Listed}
-use Rattle.apply_json.specs.declared.listed.Listed.TheVariants.{Absent}
-use Rattle.apply_json.specs.Seen.{items_in, listed}
+use Rattle.apply_json.specs.declared.array_presence.ArrayPresence.{ArrayPresence}
+use Rattle.apply_json.specs.declared.array_presence.ArrayPresence.TheVariants.{Absent}
+use Rattle.apply_json.specs.ShallowView.{items_in, array_presence}
 use Rattle.apply_json.specs.Tree.{list_of}
 use Rattle.apply_model.specs.declared.script.script_step.ScriptStep.{ScriptStep}
 use Rattle.apply_model.specs.Plan.ResourceChange.{ResourceChange}
@@ -24,74 +24,75 @@ use Rattle.apply_resolve.specs.ObjectIds.{is_of}
 use Rattle.apply_plan.specs.Results.{unless_refused}
 use Rattle.apply_resolve.specs.ChangeNumbers.{number_of}
 use Rattle.apply_plan.specs.Script.NextEntry.{count_waits, entry_after}
-use Rattle.apply_plan.specs.Script.OutcomeMap.{Said, by_number, said_of}
+use Rattle.apply_plan.specs.Script.OutcomeMap.{ResolvedEntry, by_number, outcomes_of}
 use Rattle.apply_resolve.specs.Placed.{ArePlaced}
 
--- what is said of each change has a property
-abbrev pub Says : (List ScriptStep → Type 0) → List Said → Type 0
-Says P made = (number : ℕ) → IfSome (said_of made number) P
+-- the outcomes of each change have a property
+abbrev pub AllResolved : (List ScriptStep → Type 0) → List ResolvedEntry → Type 0
+AllResolved P made = (number : ℕ) → IfSome (outcomes_of made number) P
 
--- what comes of a step is within the limits
+-- the outcome of a step is within the limits
 abbrev pub IsWithin : ScriptStep → Type 0
 IsWithin step = IfSome (answer_to step) IsBounded
 
--- what has been said after n entries is what was made of them
-pub record HasSaid (changes : List ResourceChange) (said : OutcomeMap) (waits n : ℕ) (made : List Said) : Type 0 where
+-- the outcomes after n entries are those of the resolved entries
+pub record HasResolved (changes : List ResourceChange) (outcomes : OutcomeMap) (waits n : ℕ) (made : List ResolvedEntry) : Type 0 where
   pub count : length made ≡ n
   pub waits_are : count_waits made ≡ waits
-  pub said_is : said ≡ by_number (length changes) made
-  pub counted : count_by is_some said ≡ n
-  pub in_range : Says (All IsWithin) made
-  pub placed : Says (ArePlaced (length changes)) made
+  pub outcomes_are : outcomes ≡ by_number (length changes) made
+  pub counted : count_by is_some outcomes ≡ n
+  pub in_range : AllResolved (All IsWithin) made
+  pub placed : AllResolved (ArePlaced (length changes)) made
 
--- what is kept of an entry: its change, and how many steps it has
-abbrev pub kept_of : Said → ℕ × ℕ
+-- an entry as its reader stores it: its change, and how many steps it states
+abbrev pub kept_of : ResolvedEntry → ℕ × ℕ
 kept_of entry = (entry.change, length entry.steps)
 
--- what is kept of the entries that were read
-pub record HasKept (n : ℕ) (kept : List (ℕ × ℕ)) (made : List Said) : Type 0 where
+-- the stored entries are those that were resolved
+pub record HasKept (n : ℕ) (kept : List (ℕ × ℕ)) (made : List ResolvedEntry) : Type 0 where
   pub kept_is : kept ≡ map kept_of made
   pub within : All (λ entry. (entry.0 < n) × (entry.1 ≤ 2)) kept
 
--- the numbers are those of the changes
+-- the numbers are those of the changes, by their objects
 abbrev pub AreNumbersOf : ChangeNumbers → List ResourceChange → Type 0
 AreNumbersOf numbers changes =
     (id : ObjectId) → number_of numbers id ≡ option_map (λ p. p.0) (find (λ p. is_of id p.1) (enumerate_from 0 changes))
 
--- what the entries say that these elements are, up to the first that has a fault; want of memory says nothing of it
+-- `entries` has the outcomes of these elements, up to the first fault; after `Memory` nothing is
+-- stated of them
 pub record HoldsEntries (entries : Entries) (ds : List Data) : Type 0 where
-  pub made : List Said
+  pub made : List ResolvedEntry
   pub few_changes : length entries.plan.now.changes ≤ max_changes
   pub numbered : AreNumbersOf entries.numbers entries.plan.now.changes
-  pub said : HasSaid entries.plan.now.changes entries.said.items entries.waits (length entries.kept.items) made
+  pub outcomes : HasResolved entries.plan.now.changes entries.outcomes.items entries.waits (length entries.kept.items) made
   pub kept : HasKept (length entries.plan.now.changes) entries.kept.items made
   pub few : entries.waits ≤ max_waits
   pub so_far : entries.fault ≢ Some Memory → made_after (entry_after entries.plan.now.changes) [] (items_of ds) ≡ unless_refused entries.fault made
 
--- one entry more is kept
-pub record KeepsOneMore (old : Entries) (change : ℕ) (steps : List ScriptStep) (more : ℕ) (new : Entries) : Type 0 where
+-- `new` is `old` with one entry more
+pub record StoresOneMore (old : Entries) (change : ℕ) (steps : List ScriptStep) (more : ℕ) (new : Entries) : Type 0 where
   pub plan : new.plan ≡ old.plan
   pub numbers : new.numbers ≡ old.numbers
-  pub said : new.said.items ≡ set old.said.items change (Some steps)
+  pub outcomes : new.outcomes.items ≡ set old.outcomes.items change (Some steps)
   pub kept : new.kept.items ≡ old.kept.items ++ (change, length steps) ∷ []
   pub waits : new.waits ≡ old.waits + more
   pub fault : new.fault ≡ old.fault
 
--- all changes of which something is said are kept
-pub record AreCovered (said : OutcomeMap) (kept : List (ℕ × ℕ)) : Type 0 where
-  pub within : All (λ entry. (entry.0 < length said) × (entry.1 ≤ 2)) kept
-  pub covered : (number : ℕ) → number < length said → is_some (get_or said number None) ≡ true → list_any (λ entry. entry.0 == number) kept ≡ true
+-- each change with outcomes has a stored entry
+pub record AreCovered (outcomes : OutcomeMap) (kept : List (ℕ × ℕ)) : Type 0 where
+  pub within : All (λ entry. (entry.0 < length outcomes) × (entry.1 ≤ 2)) kept
+  pub covered : (number : ℕ) → number < length outcomes → is_some (get_or outcomes number None) ≡ true → list_any (λ entry. entry.0 == number) kept ≡ true
 
--- what the member `changes` is
-abbrev pub kind_of : Option Data → Listed
+-- whether the member `changes` is an array
+abbrev pub kind_of : Option Data → ArrayPresence
 kind_of None = Absent
-kind_of (Some d) = listed d
+kind_of (Some d) = array_presence d
 
 abbrev pub entries_in : Option Data → List Data
 entries_in None = []
 entries_in (Some d) = list_of (items_in d)
 
--- the top level of a script
+-- the slots of the top level hold what the members state
 pub record HoldsScript (slots : ScriptSlots) (ms : Members) : Type 0 where
   pub kind : slots.changes ≡ kind_of (get_member (codes "changes") ms)
   pub entries : HoldsEntries slots.entries (entries_in (get_member (codes "changes") ms))

@@ -1,4 +1,4 @@
--- An entry of a script: its members, each under its rule (the script's own format).
+-- An entry of a script, and the rule of each of its members (the script's own format).
 use Rattle.std.specs.Prelude.{ℕ, List, [], ◌∷◌, codes, length, map, Bool, true, false, not, ◌&&◌, ◌||◌, ◌==◌, nat_lt, slice_index, if◌then◌else◌, Option, Some, None, is_some, option_map, unwrap_or}
 use Rattle.std.specs.Option.{option_map_or}
 use Rattle.std.specs.Str.{bytes_eq}
@@ -13,25 +13,25 @@ use Rattle.apply_model.specs.declared.script.timed_text.TimedText.{TimedText}
 use Rattle.apply_model.specs.Script.Outcome.{are_in_time, is_failed, is_warned}
 use Rattle.apply_json.specs.Tree.{◌>>=◌, unless_empty, items_or_empty, list_of, member_of, non_empty_text_of, text_of, text_or}
 
--- an item of `after`: it names a step of the change with that address, and that deposed key or none, by its number or,
--- where it has none, the last one
+-- an item of `after`: it names a step of the change with this address and deposed key, or none;
+-- without a number it names the last step
 pub record WaitName : Type 0 where
   pub address : List ℕ
   pub deposed : Option (List ℕ)
   pub step : Option ℕ
 
--- why a step's provider fails, and whether that only warns
+-- why the provider of a step fails, and whether the failure is only a warning
 pub record Failure : Type 0 where
   pub diag : Diag
   pub only_warns : Bool
 
--- an item of `output`: a text, and after how many seconds it comes, where that is told
+-- an item of `output`: a text, and after how many seconds it comes, if stated
 pub record OutputItem : Type 0 where
   pub after : Option ℕ
   pub text : List ℕ
 
--- a step: what comes of it, but for the steps that it waits for, and the items that name these; one that is skipped has no
--- outcome
+-- a step: its outcome, and the items that name the steps it waits for;
+-- a skipped step has no outcome
 pub record EntryStep : Type 0 where
   pub outcome : Option Outcome
   pub after : List WaitName
@@ -41,28 +41,28 @@ pub record Entry : Type 0 where
   pub deposed : Option (List ℕ)
   pub steps : List EntryStep
 
--- ---- values that are kept as their own texts
+-- ---- members that are read as raw JSON text
 
--- the members of that name are kept so, wherever they stand
-abbrev pub is_kept : List ℕ → Bool
-is_kept name = bytes_eq name (codes "range") || bytes_eq name (codes "snippet")
+-- whether members of this name are read as raw JSON text, at any depth
+abbrev pub is_verbatim_name : List ℕ → Bool
+is_verbatim_name name = bytes_eq name (codes "range") || bytes_eq name (codes "snippet")
 
--- the text of an object begins with its bracket
+-- whether the raw text is that of an object: it starts with `{`
 abbrev pub is_object_text : List ℕ → Bool
 is_object_text text = slice_index text 0 == 123
 
--- the text of an object; `null` counts as absent
+-- the raw text of an object; `null` counts as absent
 abbrev pub object_text : List ℕ → Option (Option (List ℕ))
 object_text text = if bytes_eq text (codes "null") then Some None else if is_object_text text then Some (Some text) else None
 
--- an object that may be absent, where it is kept as its own text
+-- an object that may be absent, as raw JSON text
 abbrev pub object_or_none : Option Data → Option (Option (List ℕ))
 object_or_none None = Some None
 object_or_none (Some d) = as_str d >>= object_text
 
 -- ---- the members
 
--- a diagnostic: a summary, a detail that may be absent, which is then empty, and two objects that may be absent
+-- a diagnostic: a summary, a detail (empty if absent), and two objects that may be absent
 abbrev pub diag_from : Data → Option Diag
 diag_from d = do
   summary ← text_of (codes "summary") d
@@ -76,17 +76,17 @@ abbrev pub diag_or_none : Option Data → Option (Option Diag)
 diag_or_none None = Some None
 diag_or_none (Some d) = option_map Some (diag_from d)
 
--- whether a failure only warns, by the word that says how severe it is
+-- whether a failure is only a warning, by its `severity`
 abbrev pub only_warns_by : List ℕ → Option Bool
 only_warns_by word =
     if bytes_eq word (codes "warning") then Some true else if bytes_eq word (codes "error") then Some false else None
 
--- where the word is absent, it does not
+-- without a `severity`, a failure is an error
 abbrev pub only_warns_or_not : Option Data → Option Bool
 only_warns_or_not None = Some false
 only_warns_or_not (Some d) = as_str d >>= only_warns_by
 
--- why a step's provider fails: a diagnostic that also tells how severe it is
+-- why the provider of a step fails: a diagnostic with a `severity`
 abbrev pub failure_from : Data → Option Failure
 failure_from d = do
   diag ← diag_from d
@@ -102,11 +102,11 @@ failure_or_none (Some d) = option_map Some (failure_from d)
 abbrev pub seconds_of : Data → Option ℕ
 seconds_of d = member_of (codes "seconds") d >>= as_number >>= as_u64
 
--- how a step ends whose provider fails
+-- the ending of a step whose provider fails
 abbrev pub ending_by : Failure → Ending
 ending_by failure = if failure.only_warns then Warned failure.diag else Failed failure.diag
 
--- how a step ends, by its id, its warning and its failure; a step whose provider fails has neither of the others
+-- the ending of a step, by its id, its warning and its failure; a failure excludes the other two
 abbrev pub ending_from : (id : Option (List ℕ)) → (warning : Option Diag) → (failed : Option Failure) → Option Ending
 ending_from id warning None = Some (Done id warning)
 ending_from None None (Some failure) = Some (ending_by failure)
@@ -120,7 +120,7 @@ ending_of d = do
   failed ← failure_or_none (member_of (codes "failed") d)
   ending_from (unless_empty id) warning failed
 
--- all values, where each is there
+-- all values; none if one is missing
 abbrev pub all_some : {A : Type 0} → List (Option A) → Option (List A)
 all_some [] = Some []
 all_some (found ∷ others) = do
@@ -128,13 +128,13 @@ all_some (found ∷ others) = do
   xs ← all_some others
   Some (x ∷ xs)
 
--- what the values of an array are, where each is one; an array that is absent has none
+-- the items of an array, each as `part` reads it; an absent array is empty
 abbrev pub each_of : {A : Type 0} → (Data → Option A) → Option Data → Option (List A)
 each_of part found = do
   items ← items_or_empty found
   all_some (map part (list_of items))
 
--- a number that may be absent: a whole one that fits 64 bits
+-- a number that may be absent: a whole number that fits 64 bits
 abbrev pub number_or_none : Option Data → Option (Option ℕ)
 number_or_none None = Some None
 number_or_none (Some d) = option_map Some (as_number d >>= as_u64)
@@ -146,30 +146,30 @@ output_of_members d = do
   after ← number_or_none (member_of (codes "after") d)
   Some (record { after = after; text = text })
 
--- an item of `output`: a text is put out when its provisioner ends
+-- an item of `output`; a plain text comes when its provisioner ends
 abbrev pub output_from : Data → Option OutputItem
 output_from d = option_map_or (λ text. Some (record { after = None; text = text })) (as_str d) (output_of_members d)
 
--- an item of a provisioner of so many seconds, with its own: where none are told, those of the provisioner
+-- an output of a provisioner; without seconds of its own it comes after those of the provisioner
 abbrev pub timed : (seconds : ℕ) → OutputItem → TimedText
 timed seconds item = record { after = unwrap_or item.after seconds; text = item.text }
 
--- what a provisioner of so many seconds puts out, where each comes in time
+-- the outputs of a provisioner; none if one does not come in time
 abbrev pub timed_outputs : (seconds : ℕ) → List OutputItem → Option (List TimedText)
 timed_outputs seconds items =
     if are_in_time 0 seconds (map (timed seconds) items) then Some (map (timed seconds) items) else None
 
--- whether a provisioner may fail, by the word that says what comes of its failure
+-- whether a provisioner may fail, by its `on_failure`
 abbrev pub may_fail_by : List ℕ → Option Bool
 may_fail_by word =
     if bytes_eq word (codes "continue") then Some true else if bytes_eq word (codes "fail") then Some false else None
 
--- where the word is absent, it may not
+-- without an `on_failure`, a provisioner may not fail
 abbrev pub may_fail_or_not : Option Data → Option Bool
 may_fail_or_not None = Some false
 may_fail_or_not (Some d) = as_str d >>= may_fail_by
 
--- a provisioner: its name, its seconds, why it fails, where it does, what it puts out, and whether it may fail
+-- a provisioner: its name, its seconds, its failure, its outputs, and whether it may fail
 unfoldable pub provisioner_from : Data → Option Provisioner
 provisioner_from d = do
   name ← non_empty_text_of (codes "provisioner") d
@@ -180,7 +180,7 @@ provisioner_from d = do
   may_fail ← may_fail_or_not (member_of (codes "on_failure") d)
   Some (record { name = name; seconds = seconds; output = output; failed = failed; may_fail = may_fail })
 
--- a step with its provisioners; one whose provider fails has none
+-- a step with its provisioners; none if its provider fails and it has some
 abbrev pub with_provisioners : (seconds : ℕ) → Ending → List Provisioner → Option Outcome
 with_provisioners seconds result provisioners =
     if (is_failed result || is_warned result) && nat_lt 0 (length provisioners)
@@ -195,26 +195,26 @@ wait_of_members d = do
   step ← number_or_none (member_of (codes "step") d)
   Some (record { address = address; deposed = unless_empty deposed; step = step })
 
--- an item of `after`: a text is an address and nothing else
+-- an item of `after`; a plain text is an address
 abbrev pub wait_from : Data → Option WaitName
 wait_from d =
     option_map_or (λ address. Some (record { address = address; deposed = None; step = None })) (as_str d)
     (wait_of_members d)
 
--- the ending is that of a step of which nothing else is told
-abbrev pub says_nothing : Ending → Bool
-says_nothing (Done None None) = true
-says_nothing (Done None (Some warning)) = false
-says_nothing (Done (Some id) warning) = false
-says_nothing (Failed diag) = false
-says_nothing (Warned diag) = false
+-- whether the ending has no id, warning or failure
+abbrev pub is_bare : Ending → Bool
+is_bare (Done None None) = true
+is_bare (Done None (Some warning)) = false
+is_bare (Done (Some id) warning) = false
+is_bare (Failed diag) = false
+is_bare (Warned diag) = false
 
--- a step that is skipped: its seconds are not told, nor is anything else of it
+-- a skipped step; none if it has seconds, an ending or provisioners
 abbrev pub skipped_with : (told : Bool) → Ending → List Provisioner → Option (Option Outcome)
 skipped_with told result provisioners =
-    if told || (not (says_nothing result) || nat_lt 0 (length provisioners)) then None else Some None
+    if told || (not (is_bare result) || nat_lt 0 (length provisioners)) then None else Some None
 
--- what comes of a step that is not skipped
+-- the outcome of a step that is not skipped
 abbrev pub answered_with : Option ℕ → Ending → List Provisioner → Option (Option Outcome)
 answered_with None result provisioners = None
 answered_with (Some seconds) result provisioners = option_map Some (with_provisioners seconds result provisioners)
@@ -236,7 +236,7 @@ step_from d = do
       else answered_with (seconds_of d) result provisioners
   Some (record { outcome = outcome; after = after })
 
--- the entry's members; none where one of them breaks its rule
+-- the entry; none if one of its members is invalid or missing
 unfoldable pub entry_of : Data → Option Entry
 entry_of d = do
   address ← text_of (codes "address") d

@@ -1,4 +1,4 @@
--- What goes beyond a limit, for the private type that names one.
+-- Whether an outcome exceeds a limit, for the private type `Limit`.
 use Rattle.std.specs.Prelude.{Bool}
 use Rattle.apply_model.specs.declared.script.outcome.Outcome.{Outcome}
 use Rattle.apply_model.specs.Script.Outcome.{has_too_many_provisioners, has_too_much_output, is_too_long}

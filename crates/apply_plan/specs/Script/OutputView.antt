@@ -1,10 +1,10 @@
--- What contracts see of the items of a provisioner's `output`, for the types that keep them.
+-- Contracts see borrowed outputs of a provisioner as the outputs they state, for private types.
 use Rattle.std.specs.Prelude.{List, map}
-use Rattle.apply_plan.specs.declared.script.tree_output.TreeOutput.{TreeOutput}
+use Rattle.apply_plan.specs.declared.script.raw_output.RawOutput.{RawOutput}
 use Rattle.apply_plan.specs.Script.Entry.{OutputItem}
 
-abbrev pub output_view : TreeOutput → OutputItem
+abbrev pub output_view : RawOutput → OutputItem
 output_view output = record { after = output.after; text = output.text.now }
 
-abbrev pub outputs_view : List TreeOutput → List OutputItem
+abbrev pub outputs_view : List RawOutput → List OutputItem
 outputs_view outputs = map output_view outputs

@@ -1,20 +1,21 @@
-//! The lists of actions that are in scope.
+//! Action lists of a change (JSON Output Format, "Change Representation").
 
 ghost use Rattle.std.specs.Prelude.{◌≡◌, ◌<◌, Err, OnOk, Some, length, option_map};
 ghost use Rattle.std.specs.Option.{option_copied};
 ghost use Rattle.serde_json.specs.Data.{Data};
-ghost use Rattle.apply_json.specs.Keeping.{none_kept};
+ghost use Rattle.apply_json.specs.Verbatim.{none_verbatim};
 ghost use Rattle.apply_json.specs.Tokens.{IsNoValue, IsRead};
 ghost use Rattle.apply_model.specs.Plan.Action.{steps_of_action};
 ghost use Rattle.apply_plan.specs.Plan.Members.{actions_member};
-ghost use Rattle.apply_plan.specs.Plan.Words.{says, steps_of_word, steps_of_words, steps_of_two, with_one_more, words_of, words_view};
+ghost use Rattle.apply_plan.specs.Plan.Words.{says, steps_of_word, steps_of_words, steps_of_two, with_next_word, words_of, words_view};
 
-use apply_json::{Collector, Listed, ReadFault, Reader, read_list, read_scalar};
+use apply_json::{ArrayPresence, Collector, ReadFault, Reader, read_list, read_shallow};
 use apply_model::Action;
 use std::alloc::Global;
 
-/// The words of a list of actions, as far as they are looked at: no list of three or more is in scope. `None` is an item
-/// that is no text.
+/// The words of an action list. `None` is an item that is not a text.
+///
+/// No valid list has more than two words, so further words are not stored.
 #[derive(Clone, Copy, Drop)]
 pub enum Actions<'a> {
     Nothing,
@@ -24,9 +25,9 @@ pub enum Actions<'a> {
 }
 
 impl<'a> Actions<'a> {
-    /// With one word more behind them.
+    /// The list with `word` added at the end.
     fn and(self, word: Option<&'a str>) -> Actions<'a>
-        ensures { words_view result ≡ with_one_more (words_view self.entry) (option_copied word.entry) }
+        ensures { words_view result ≡ with_next_word (words_view self.entry) (option_copied word.entry) }
     {
         match self {
             Actions::Nothing => Actions::One(word),
@@ -35,7 +36,7 @@ impl<'a> Actions<'a> {
         }
     }
 
-    /// The action that the list means. `None` where it is not one of the eight.
+    /// The action. `None` means that the list is not one of the eight valid lists.
     fn action(self) -> Option<Action>
         ensures { option_map steps_of_action result ≡ steps_of_words (words_view self.entry) }
     {
@@ -48,7 +49,7 @@ impl<'a> Actions<'a> {
 }
 
 impl<'a> Collector<'a> for Actions<'a> {
-    ghost kept = { none_kept };
+    ghost is_verbatim = { none_verbatim };
 
     ghost holds = { λ _ actions ds. words_view actions ≡ words_of ds };
 
@@ -58,14 +59,16 @@ impl<'a> Collector<'a> for Actions<'a> {
         reader: &mut Reader<'a>,
         depth: usize,
     ) -> Result<(), ReadFault> {
-        let word = read_scalar(reader, depth)?.text();
+        let word = read_shallow(reader, depth)?.text();
         *self = self.and(word);
         Ok(())
     }
 }
 
-/// Reads a list of actions, in which arrays and objects nest at most `depth` deep, into its slot: the action that it means, if
-/// any. `None` where it is no list.
+/// Reads an action list into its slot.
+///
+/// The slot becomes `None` for a value that is not an array, and `Some(None)` for an invalid list.
+/// `Err` means that the text is not JSON.
 pub fn read_actions(
     alloc: Global,
     reader: &mut Reader<'_>,
@@ -79,13 +82,13 @@ pub fn read_actions(
 {
     let mut actions = Actions::Nothing;
     *slot = match read_list(alloc, reader, depth, &mut actions)? {
-        Listed::List => Some(actions.action()),
-        Listed::Absent | Listed::Other => None,
+        ArrayPresence::List => Some(actions.action()),
+        ArrayPresence::Absent | ArrayPresence::Other => None,
     };
     Ok(())
 }
 
-/// Whether the item is a text, and this one.
+/// Whether the item is the text `word`.
 fn is_word(item: Option<&str>, word: &str) -> bool
     ensures { result ≡ says word.now (option_copied item.entry) }
 {

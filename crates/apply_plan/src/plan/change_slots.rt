@@ -1,6 +1,6 @@
-//! What is kept of the members of `change`.
+//! The members of `change`.
 
-ghost use Rattle.apply_json.specs.Keeping.{none_kept};
+ghost use Rattle.apply_json.specs.Verbatim.{none_verbatim};
 ghost use Rattle.apply_plan.specs.Plan.Members.{HoldsChange};
 
 use crate::members::take_member;
@@ -10,21 +10,21 @@ use apply_json::{ReadFault, Reader, Slots};
 use apply_model::Action;
 use std::alloc::Global;
 
-/// The members of `change`.
+/// The members of `change`, while they are read.
 #[derive(Clone, Copy, Drop)]
 pub struct ChangeSlots<'a> {
-    /// The action that the list of actions means, if any. `None` where there is no such list.
+    /// The action of the list. `Some(None)` is an invalid list, `None` a missing one.
     pub actions: Option<Option<Action>>,
-    /// The id before the change, where it is a text that is not empty.
+    /// The id before the change. `None` means no text or an empty one.
     pub id: Option<&'a str>,
-    /// Whether that id is sensitive.
+    /// Whether `before_sensitive` hides the id.
     pub hides_id: bool,
 }
 
 impl<'a> ChangeSlots<'a> {
     ghost use Rattle.serde_json.specs.Data.{no_members};
 
-    /// No member.
+    /// Slots before any member was read.
     pub fn new() -> ChangeSlots<'a>
         ensures { HoldsChange result no_members }
     {
@@ -37,7 +37,7 @@ impl<'a> ChangeSlots<'a> {
 }
 
 impl<'a> Slots<'a> for ChangeSlots<'a> {
-    ghost kept = { none_kept };
+    ghost is_verbatim = { none_verbatim };
 
     ghost holds = { λ _ slots ms. HoldsChange slots ms };
 

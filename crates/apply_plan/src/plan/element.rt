@@ -1,18 +1,18 @@
-//! An element of `resource_changes`, whose texts are borrowed.
+//! An element of `resource_changes`. Its texts are borrowed from the input.
 
 ghost use Rattle.std.specs.Prelude.{◌≡◌, IfOk, option_map};
-ghost use Rattle.apply_json.specs.Seen.{scalar_view};
+ghost use Rattle.apply_json.specs.ShallowView.{shallow_view};
 ghost use Rattle.apply_plan.specs.Plan.Element.{mode_named};
 ghost use Rattle.apply_plan.specs.Plan.ElementView.{element_view, key_view};
-ghost use Rattle.apply_plan.specs.Plan.Members.{element_held, key_seen, mode_seen};
+ghost use Rattle.apply_plan.specs.Plan.Members.{element_read, key_read, mode_read};
 
 use crate::filled_text::filled_text;
 use crate::plan::element_slots::ElementSlots;
-use apply_json::{Scalar, is_text, non_empty};
+use apply_json::{Shallow, is_text, non_empty};
 use apply_model::{Action, Key, Mode, Text};
 use std::alloc::{AllocError, Global};
 
-/// An instance key.
+/// An instance key: the index of `count`, or the key of `for_each`.
 #[derive(Clone, Copy)]
 pub enum IndexKey<'a> {
     None,
@@ -21,7 +21,7 @@ pub enum IndexKey<'a> {
 }
 
 impl IndexKey<'_> {
-    /// The key, with a copy of its text.
+    /// The key, with a copy of its text. `Err` means that memory was refused.
     pub fn copied(self, alloc: Global) -> Result<Key, AllocError>
         ensures { IfOk result (λ key. key ≡ key_view self.entry) }
     {
@@ -33,7 +33,7 @@ impl IndexKey<'_> {
     }
 }
 
-/// An element, each of whose members obeys its rule.
+/// An element whose members are all valid.
 #[derive(Clone, Copy)]
 pub struct Element<'a> {
     pub address: &'a str,
@@ -43,15 +43,15 @@ pub struct Element<'a> {
     pub module_address: &'a str,
     pub key: IndexKey<'a>,
     pub deposed: Option<&'a str>,
-    /// `None` where the list of actions is out of scope.
+    /// `None` means that the action list is not one of the eight valid lists.
     pub action: Option<Action>,
     pub prior_id: Option<&'a str>,
 }
 
 impl<'a> Element<'a> {
-    /// The element that the members are. `None` where one of them breaks its rule.
+    /// Checks the members. `None` means that one is invalid or missing.
     pub fn of(slots: &ElementSlots<'a>) -> Option<Element<'a>>
-        ensures { option_map element_view result ≡ element_held slots.now }
+        ensures { option_map element_view result ≡ element_read slots.now }
     {
         let kinds = slots.address.text().zip(mode_of(slots.mode));
         let names = filled_text(slots.kind_name).zip(filled_text(slots.name));
@@ -76,9 +76,9 @@ impl<'a> Element<'a> {
     }
 }
 
-/// The mode that the member `mode` is. `None` where it is none.
-fn mode_of(found: Scalar<'_>) -> Option<Mode>
-    ensures { result ≡ mode_seen (scalar_view found.entry) }
+/// The mode, by the member `mode`. `None` means that it is invalid or missing.
+fn mode_of(found: Shallow<'_>) -> Option<Mode>
+    ensures { result ≡ mode_read (shallow_view found.entry) }
 {
     match found.text() {
         Some(word) => mode_named(word),
@@ -98,17 +98,19 @@ fn mode_named(word: &str) -> Option<Mode>
     }
 }
 
-/// The instance key that the member `index` is. `None` where it is none.
-fn index_key(index: Scalar<'_>) -> Option<IndexKey<'_>>
-    ensures { option_map key_view result ≡ key_seen (scalar_view index.entry) }
+/// The instance key, by the member `index`.
+///
+/// `None` means that it is neither a text nor a whole number that fits `i64`.
+fn index_key(index: Shallow<'_>) -> Option<IndexKey<'_>>
+    ensures { option_map key_view result ≡ key_read (shallow_view index.entry) }
 {
     match index {
-        Scalar::Absent => Some(IndexKey::None),
-        Scalar::Number(number) => match number.as_i64() {
+        Shallow::Absent => Some(IndexKey::None),
+        Shallow::Number(number) => match number.as_i64() {
             Some(number) => Some(IndexKey::Number(number)),
             None => None,
         },
-        Scalar::Text(name) => Some(IndexKey::Name(name)),
-        Scalar::Bool(_) | Scalar::Array | Scalar::Object => None,
+        Shallow::Text(name) => Some(IndexKey::Name(name)),
+        Shallow::Bool(_) | Shallow::Array | Shallow::Object => None,
     }
 }

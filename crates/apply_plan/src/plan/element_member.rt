@@ -1,6 +1,6 @@
-//! The members of an element of `resource_changes` that are scalars.
+//! Names of the scalar members of an element of `resource_changes`.
 
-/// A member of an element that is a scalar.
+/// A scalar member of an element.
 #[derive(Clone, Copy)]
 pub enum ElementMember {
     Address,

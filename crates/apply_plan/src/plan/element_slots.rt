@@ -1,50 +1,50 @@
-//! What is kept of the members of an element of `resource_changes`.
+//! The members of an element of `resource_changes`.
 
 ghost use Rattle.std.specs.Prelude.{◌≡◌, MatchOption, false, true};
 ghost use Rattle.std.specs.Str.{bytes_eq};
-ghost use Rattle.apply_json.specs.Keeping.{none_kept};
+ghost use Rattle.apply_json.specs.Verbatim.{none_verbatim};
 ghost use Rattle.apply_plan.specs.declared.plan.element_member.ElementMember.{ElementMember};
 ghost use Rattle.apply_plan.specs.Plan.Members.{HoldsElement, name_of, with_scalar};
 
 use crate::plan::element_member::ElementMember;
 use crate::plan::planned_change::PlannedChange;
-use apply_json::{ReadFault, Reader, Scalar, Slots, is_text, pass_member, read_scalar};
+use apply_json::{ReadFault, Reader, Shallow, Slots, is_text, read_shallow, skip_member};
 use std::alloc::Global;
 
-/// The members of an element.
+/// The members of an element, while they are read.
 #[derive(Clone, Copy, Drop)]
 pub struct ElementSlots<'a> {
-    pub address: Scalar<'a>,
-    pub mode: Scalar<'a>,
-    pub kind_name: Scalar<'a>,
-    pub name: Scalar<'a>,
-    pub module_address: Scalar<'a>,
-    pub index: Scalar<'a>,
-    pub deposed: Scalar<'a>,
+    pub address: Shallow<'a>,
+    pub mode: Shallow<'a>,
+    pub kind_name: Shallow<'a>,
+    pub name: Shallow<'a>,
+    pub module_address: Shallow<'a>,
+    pub index: Shallow<'a>,
+    pub deposed: Shallow<'a>,
     pub change: Option<PlannedChange<'a>>,
 }
 
 impl<'a> ElementSlots<'a> {
     ghost use Rattle.serde_json.specs.Data.{no_members};
 
-    /// No member.
+    /// Slots before any member was read.
     pub fn new() -> ElementSlots<'a>
         ensures { HoldsElement result no_members }
     {
         ElementSlots {
-            address: Scalar::Absent,
-            mode: Scalar::Absent,
-            kind_name: Scalar::Absent,
-            name: Scalar::Absent,
-            module_address: Scalar::Absent,
-            index: Scalar::Absent,
-            deposed: Scalar::Absent,
+            address: Shallow::Absent,
+            mode: Shallow::Absent,
+            kind_name: Shallow::Absent,
+            name: Shallow::Absent,
+            module_address: Shallow::Absent,
+            index: Shallow::Absent,
+            deposed: Shallow::Absent,
             change: None,
         }
     }
 
-    /// Puts a scalar in the place of what was there.
-    fn set(&mut self, member: ElementMember, found: Scalar<'a>)
+    /// Stores a scalar member. It replaces an earlier one.
+    fn set(&mut self, member: ElementMember, found: Shallow<'a>)
         ensures { self.new ≡ with_scalar self.old member found.entry }
     {
         match member {
@@ -60,7 +60,7 @@ impl<'a> ElementSlots<'a> {
 }
 
 impl<'a> Slots<'a> for ElementSlots<'a> {
-    ghost kept = { none_kept };
+    ghost is_verbatim = { none_verbatim };
 
     ghost holds = { λ _ slots ms. HoldsElement slots ms };
 
@@ -76,16 +76,16 @@ impl<'a> Slots<'a> for ElementSlots<'a> {
         }
         match scalar_of_name(name) {
             Some(member) => {
-                let found = read_scalar(reader, depth)?;
+                let found = read_shallow(reader, depth)?;
                 self.set(member, found);
                 Ok(())
             }
-            None => pass_member(reader, depth),
+            None => skip_member(reader, depth),
         }
     }
 }
 
-/// The scalar of that name. `None` where there is none.
+/// The scalar member of this name. `None` means that there is none.
 fn scalar_of_name(name: &str) -> Option<ElementMember>
     ensures { MatchOption result ((member : ElementMember) → bytes_eq name.now (name_of member) ≡ false)
         (λ member. bytes_eq name.now (name_of member) ≡ true) }

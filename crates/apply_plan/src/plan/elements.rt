@@ -1,8 +1,8 @@
-//! The changes of the elements of `resource_changes`.
+//! Reads the elements of `resource_changes` into changes.
 
 ghost use Rattle.std.specs.Prelude.{◌≡◌, ◌≤◌, ◌++◌, ◌∷◌, [], IfOk, List, length, vec_len};
 ghost use Rattle.serde_json.specs.Data.{Data};
-ghost use Rattle.apply_json.specs.Keeping.{none_kept};
+ghost use Rattle.apply_json.specs.Verbatim.{none_verbatim};
 ghost use Rattle.apply_model.specs.Plan.ResourceChange.{ResourceChange};
 ghost use Rattle.apply_model.specs.Plan.SavedPlan.{max_changes};
 ghost use Rattle.apply_plan.specs.Plan.ElementsView.{HoldsElements, changes_within};
@@ -14,36 +14,36 @@ ghost use Rattle.apply_plan.specs.Results.{Gives, IsExactly};
 
 use crate::plan::plan_error::PlanError;
 use crate::plan::planned::Planned;
-use apply_json::{Collector, ReadFault, Reader, pass_member};
+use apply_json::{Collector, ReadFault, Reader, skip_member};
 use apply_model::{Change, MAX_CHANGES};
-use apply_resolve::{ObjectId, SeenObjects};
+use apply_resolve::{ObjectId, ObjectSet};
 use std::alloc::Global;
 
-/// The changes of the elements that were read, up to the first that has a fault.
+/// The changes of the elements that were read, up to the first faulty element.
 #[derive(Drop)]
 pub struct Elements<'a> {
     changes: Vec<Change>,
-    seen: SeenObjects<'a>,
-    /// How many elements there were, and no more than a plan may have.
+    seen: ObjectSet<'a>,
+    /// How many elements were read, at most `MAX_CHANGES`.
     count: usize,
-    /// The first fault, or that there are more elements than a plan may have.
+    /// The first fault. `PlanError::TooMany` replaces an earlier fault.
     fault: Option<PlanError>,
 }
 
 impl<'a> Elements<'a> {
-    /// No element.
+    /// The state before any element was read.
     pub fn new(alloc: Global) -> Elements<'a>
         ensures { HoldsElements result [] }
     {
         Elements {
             changes: Vec::new(alloc),
-            seen: SeenObjects::new(alloc),
+            seen: ObjectSet::new(alloc),
             count: 0,
             fault: None,
         }
     }
 
-    /// The changes of the elements, or the first refusal.
+    /// The changes of all elements, or the fault as `Err`.
     pub fn changes(self) -> Result<Vec<Change>, PlanError>
         ensures defined { (ds : List Data) → HoldsElements self.entry ds
             → Gives PlanError.Memory (λ changes. changes.items) result (changes_within ds) }
@@ -58,7 +58,7 @@ impl<'a> Elements<'a> {
 }
 
 impl<'a> Collector<'a> for Elements<'a> {
-    ghost kept = { none_kept };
+    ghost is_verbatim = { none_verbatim };
 
     ghost holds = { λ _ elements ds. HoldsElements elements ds };
 
@@ -70,11 +70,11 @@ impl<'a> Collector<'a> for Elements<'a> {
     ) -> Result<(), ReadFault> {
         if self.count >= MAX_CHANGES {
             self.fault = Some(PlanError::TooMany);
-            return pass_member(reader, depth);
+            return skip_member(reader, depth);
         }
         if self.fault.is_some() {
             self.count += 1;
-            return pass_member(reader, depth);
+            return skip_member(reader, depth);
         }
         let number = self.count as u32;
         let planned = Planned::read(alloc, reader, depth, number)?;
@@ -93,13 +93,15 @@ impl<'a> Collector<'a> for Elements<'a> {
     }
 }
 
-/// The change of the element of that number, behind elements whose objects were seen, or its first fault. Its object is then
-/// seen too.
+/// The change of element `number`. The object of the element is added to `seen`.
+///
+/// `Err` is the element's own fault, `PlanError::Duplicate` if `seen` has the object already, or
+/// `PlanError::Memory`.
 fn change_of<'a>(
     alloc: Global,
     number: u32,
     planned: Result<Planned<'a>, PlanError>,
-    seen: &mut SeenObjects<'a>,
+    seen: &mut ObjectSet<'a>,
 ) -> Result<Change, PlanError>
     ensures defined { (d : Data) → (earlier : List ResourceChange) → IsExactly planned_view planned.entry (planned_at number d)
         → length earlier ≡ number → HaveBeenSeen seen.old earlier

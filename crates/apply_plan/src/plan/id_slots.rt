@@ -1,37 +1,39 @@
-//! The id in what was before a change, and in what of that is sensitive.
+//! The member `id` of `before` and of `before_sensitive`.
 
 ghost use Rattle.std.specs.Prelude.{◌≡◌, ◌<◌, Err, OnOk, Some, length};
 ghost use Rattle.std.specs.Option.{option_copied};
 ghost use Rattle.serde_json.specs.Data.{Data};
-ghost use Rattle.apply_json.specs.Keeping.{none_kept};
-ghost use Rattle.apply_json.specs.Seen.{scalar_view};
+ghost use Rattle.apply_json.specs.Verbatim.{none_verbatim};
+ghost use Rattle.apply_json.specs.ShallowView.{shallow_view};
 ghost use Rattle.apply_json.specs.Tokens.{IsNoValue, IsRead};
-ghost use Rattle.apply_plan.specs.Plan.Members.{HoldsId, id_member, sensitive_member, truth_seen};
+ghost use Rattle.apply_plan.specs.Plan.Members.{HoldsId, id_member, sensitive_member, is_true_read};
 
 use crate::filled_text::filled_text;
 use crate::members::take_member;
-use apply_json::{ReadFault, Reader, Scalar, Slots, read_object, read_scalar_into};
+use apply_json::{ReadFault, Reader, Shallow, Slots, read_object, read_shallow_into};
 use std::alloc::Global;
 
-/// The members of `before` or of `before_sensitive`.
+/// The members of `before` or `before_sensitive`, while they are read.
 #[derive(Clone, Copy, Drop)]
 pub struct IdSlots<'a> {
-    pub id: Scalar<'a>,
+    pub id: Shallow<'a>,
 }
 
 impl<'a> IdSlots<'a> {
     ghost use Rattle.serde_json.specs.Data.{no_members};
 
-    /// No member.
+    /// Slots before any member was read.
     pub fn new() -> IdSlots<'a>
         ensures { HoldsId result no_members }
     {
-        IdSlots { id: Scalar::Absent }
+        IdSlots {
+            id: Shallow::Absent,
+        }
     }
 }
 
 impl<'a> Slots<'a> for IdSlots<'a> {
-    ghost kept = { none_kept };
+    ghost is_verbatim = { none_verbatim };
 
     ghost holds = { λ _ slots ms. HoldsId slots ms };
 
@@ -44,13 +46,15 @@ impl<'a> Slots<'a> for IdSlots<'a> {
     ) -> Result<(), ReadFault> {
         take_member! {
             name, reader, depth,
-            "id" => read_scalar_into(reader, depth, &mut self.id),
+            "id" => read_shallow_into(reader, depth, &mut self.id),
         }
     }
 }
 
-/// Reads the id in `before` into its slot, where it is a text that is not empty. Arrays and objects nest at most `depth` deep
-/// there.
+/// Reads the `id` of `before` into its slot.
+///
+/// The slot becomes `None` for an empty text and for a value of another type. `Err` means that the
+/// text is not JSON.
 pub fn read_id<'a>(
     alloc: Global,
     reader: &mut Reader<'a>,
@@ -72,7 +76,10 @@ pub fn read_id<'a>(
     }
 }
 
-/// Reads `before_sensitive` into its slot: whether it hides the id. Arrays and objects nest at most `depth` deep there.
+/// Reads `before_sensitive` into its slot: whether the id is hidden.
+///
+/// `true` hides all values, and an object hides the id if its `id` is `true`. `Err` means that the
+/// text is not JSON.
 pub fn read_hides_id(
     alloc: Global,
     reader: &mut Reader<'_>,
@@ -90,12 +97,12 @@ pub fn read_hides_id(
     Ok(())
 }
 
-/// Whether the value is `true` and nothing else.
-fn is_true(found: Scalar<'_>) -> bool
-    ensures { result ≡ truth_seen (scalar_view found.entry) }
+/// Whether the value is `true`.
+fn is_true(found: Shallow<'_>) -> bool
+    ensures { result ≡ is_true_read (shallow_view found.entry) }
 {
     match found {
-        Scalar::Bool(b) => b,
+        Shallow::Bool(b) => b,
         _ => false,
     }
 }

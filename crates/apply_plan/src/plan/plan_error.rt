@@ -1,4 +1,4 @@
-//! Why bytes are not a plan.
+//! Why a plan was refused.
 
 ghost use Rattle.std.specs.Prelude.{◌≡◌};
 ghost use Rattle.apply_plan.specs.declared.plan.plan_error.PlanError.TheVariants.{Memory};
@@ -11,32 +11,32 @@ use std::fmt;
 
 /// Why bytes were refused as a plan.
 ///
-/// The variants are tested in this order. Those that name an element name the first faulty one, counted from 0,
-/// with its first fault.
+/// The variants are tested in this order. A number is that of the first faulty element of
+/// `resource_changes`, counted from 0, and the variant is the first fault of this element.
 #[derive(Clone, Copy, Drop, PartialEq, Eq)]
 pub enum PlanError {
     /// There are more than 67,108,864 bytes.
     TooLarge,
-    /// The bytes are not JSON (RFC 8259) in UTF-8, or it nests more than 127 deep.
+    /// The bytes are not UTF-8 or not JSON (RFC 8259), or values nest more than 127 deep.
     NotJson,
-    /// The top level is not that of a plan whose `format_version` is 1.x.
+    /// The top level is not that of a plan whose `format_version` is 1.x (JSON Output Format).
     NotAPlan,
     /// `resource_changes` has more than 10,000 elements.
     TooMany,
-    /// A member of the element is missing, or is not what it has to be.
+    /// A member of the element is missing or invalid.
     BadChange(u32),
-    /// The element's `actions` are none of the eight lists that are in scope.
+    /// The element's `actions` are not one of the eight valid lists.
     BadActions(u32),
-    /// The element's `address` is empty, or does not begin with its `module_address`, a dot and something more.
+    /// The element's `address` is empty, or does not extend its `module_address` by a dot and more.
     BadAddress(u32),
-    /// The element has the `address` and the `deposed` key of an earlier one.
+    /// An earlier element has the same `address` and the same `deposed` key.
     Duplicate(u32),
-    /// Memory was refused. It comes where the growth stands, before the refusals that would be found later.
+    /// Memory was refused. It is reported at once, before faults of later parts of the input.
     Memory,
 }
 
 impl PlanError {
-    /// Why bytes are no plan that gave no tree.
+    /// Converts the fault of the JSON reader.
     pub(crate) fn of_json(fault: JsonFault) -> PlanError
         ensures { result ≡ plan_refusal fault }
     {
@@ -47,7 +47,7 @@ impl PlanError {
         }
     }
 
-    /// The element that it names, if any.
+    /// The number of the faulty element. `None` means a fault of the whole plan.
     fn element(self) -> Option<u32> {
         match self {
             PlanError::BadChange(number)
@@ -58,7 +58,7 @@ impl PlanError {
         }
     }
 
-    /// Its text, behind the element that it names.
+    /// The message, without the number of the element.
     fn text(self) -> &'static str {
         match self {
             PlanError::TooLarge => "the plan is larger than 67108864 bytes",
@@ -74,7 +74,7 @@ impl PlanError {
     }
 }
 
-// By hand: a derived one is proved with a way out for each text.
+// Not derived: a derived impl needs one proof case for each text.
 impl fmt::Display for PlanError {
     fn fmt<W: fmt::Write>(&self, f: &mut fmt::Formatter<W>) -> fmt::Result {
         match self.element() {

@@ -1,18 +1,18 @@
-//! An element that has no fault by itself.
+//! A valid element of `resource_changes`, before it is compared with earlier ones.
 
 ghost use Rattle.std.specs.Prelude.{◌≡◌, IfOk, is_some, true};
 ghost use Rattle.apply_model.specs.Plan.Address.{relative_address};
 
-use crate::both_made::both_made;
 use crate::plan::element::Element;
 use crate::plan::element_slots::ElementSlots;
 use crate::plan::plan_error::PlanError;
+use crate::zip_results::zip_results;
 use apply_json::{ReadFault, Reader, read_object};
 use apply_model::{Action, Change, ChangeParts, Text, relative_address};
 use std::alloc::{AllocError, Global};
 
-/// An element of `resource_changes` that is well-formed, with the action that its list means, and whose address
-/// fits its module.
+/// An element of `resource_changes` with valid members, a valid action list, and an address that
+/// lies in its module.
 #[derive(Clone, Copy)]
 pub struct Planned<'a> {
     pub element: Element<'a>,
@@ -24,13 +24,15 @@ impl<'a> Planned<'a> {
     ghost use Rattle.std.specs.Prelude.{◌<◌, Err, OnOk, length};
     ghost use Rattle.serde_json.specs.Data.{Data};
     ghost use Rattle.apply_json.specs.Tokens.{IsNoValue, IsRead};
-    ghost use Rattle.apply_plan.specs.Plan.Members.{element_held, planned_held};
+    ghost use Rattle.apply_plan.specs.Plan.Members.{element_read, planned_read};
     ghost use Rattle.apply_plan.specs.Plan.PlannedView.{planned_view};
     ghost use Rattle.apply_plan.specs.Plan.SavedPlan.{planned_at};
     ghost use Rattle.apply_plan.specs.Results.{IsExactly};
 
-    /// Reads the element of that number, in which arrays and objects nest at most `depth` deep. It may have a fault by itself: the
-    /// first is the inner answer. No memory is taken.
+    /// Reads element `number`. No memory is allocated.
+    ///
+    /// The inner `Err` is the first fault of the element. The outer `Err` means that the text is
+    /// not JSON.
     pub fn read(
         alloc: Global,
         reader: &mut Reader<'a>,
@@ -49,9 +51,9 @@ impl<'a> Planned<'a> {
         }
     }
 
-    /// The element that the members are, or the first fault that it has by itself.
+    /// Checks the members. `Err` is the first fault of the element.
     fn of(number: u32, slots: &ElementSlots<'a>) -> Result<Planned<'a>, PlanError>
-        ensures { IsExactly planned_view result (planned_held number (element_held slots.now)) }
+        ensures { IsExactly planned_view result (planned_read number (element_read slots.now)) }
     {
         let Some(element) = Element::of(slots) else {
             return Err(PlanError::BadChange(number));
@@ -65,25 +67,25 @@ impl<'a> Planned<'a> {
         Ok(Planned { element, action })
     }
 
-    /// The change that the element describes, with copies of its texts.
+    /// The change, with copies of the texts. `Err` means that memory was refused.
     pub fn copied(self, alloc: Global) -> Result<Change, AllocError>
         ensures { IfOk result (λ change. change ≡ planned_view self.entry) }
     {
         let Planned { element, action } = self;
-        let place = both_made(
+        let place = zip_results(
             Text::new(alloc, element.address),
             Text::new(alloc, element.module_address),
         );
-        let names = both_made(
+        let names = zip_results(
             Text::new(alloc, element.kind_name),
             Text::new(alloc, element.name),
         );
-        let ids = both_made(
+        let ids = zip_results(
             Text::of_option(alloc, element.deposed),
             Text::of_option(alloc, element.prior_id),
         );
-        let rest = both_made(element.key.copied(alloc), ids);
-        let all = both_made(both_made(place, names), rest)?;
+        let rest = zip_results(element.key.copied(alloc), ids);
+        let all = zip_results(zip_results(place, names), rest)?;
         let (((address, module_address), (kind_name, name)), (key, (deposed, prior_id))) = all;
         Ok(Change::new(ChangeParts {
             address,

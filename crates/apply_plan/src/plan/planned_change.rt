@@ -1,28 +1,29 @@
-//! What the member `change` of an element says.
+//! The member `change` of an element.
 
 ghost use Rattle.std.specs.Prelude.{◌≡◌, ◌<◌, Err, OnOk, Some, length, option_map};
 ghost use Rattle.serde_json.specs.Data.{Data};
 ghost use Rattle.apply_json.specs.Tokens.{IsNoValue, IsRead};
 ghost use Rattle.apply_plan.specs.Plan.ElementView.{planned_change_view};
-ghost use Rattle.apply_plan.specs.Plan.Members.{change_held, change_member};
+ghost use Rattle.apply_plan.specs.Plan.Members.{change_read, change_member};
 
 use crate::plan::change_slots::ChangeSlots;
 use apply_json::{ReadFault, Reader, read_object};
 use apply_model::Action;
 use std::alloc::Global;
 
-/// What the member `change` of an element says.
+/// The action and the id that `change` states.
 #[derive(Clone, Copy, Drop)]
 pub struct PlannedChange<'a> {
-    /// The action that its list of actions means. `None` where the list is out of scope.
+    /// `None` means that the action list is not one of the eight valid lists.
     pub action: Option<Action>,
-    /// The id before the change, where it is a text that is not empty and not hidden.
+    /// The id before the change. `None` means no text, an empty text, or a hidden one.
     pub prior_id: Option<&'a str>,
 }
 
 impl<'a> PlannedChange<'a> {
-    /// Reads the member, in which arrays and objects nest at most `depth` deep, into its slot. `None` where it has no list of
-    /// actions.
+    /// Reads the member into its slot. The slot becomes `None` if there is no action list.
+    ///
+    /// `Err` means that the text is not JSON.
     pub fn read(
         alloc: Global,
         reader: &mut Reader<'a>,
@@ -44,9 +45,9 @@ impl<'a> PlannedChange<'a> {
         }
     }
 
-    /// What the members say. `None` where there is no list of actions.
+    /// Combines the members. `None` means that there is no action list.
     fn of(slots: &ChangeSlots<'a>) -> Option<PlannedChange<'a>>
-        ensures { option_map planned_change_view result ≡ change_held slots.now }
+        ensures { option_map planned_change_view result ≡ change_read slots.now }
     {
         let Some(action) = slots.actions else {
             return None;

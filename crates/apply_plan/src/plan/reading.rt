@@ -12,11 +12,12 @@ use apply_json::{Scratch, read_slots};
 use apply_model::Plan;
 use std::alloc::Global;
 
-/// Reads a saved plan (JSON Output Format, "Plan Representation") as `terraform show -json` prints it.
+/// Reads a saved plan as `terraform show -json` prints it (JSON Output Format, "Plan
+/// Representation").
 ///
-/// Members that are not known are ignored, `null` counts as absent, and of a member that stands twice the last
-/// counts. The answer is the plan, or the refusal that [`PlanError`] describes; want of memory is answered where it is
-/// met, and never for a plan that is too large.
+/// Unknown members are ignored, `null` counts as absent, and the last of two members with the same
+/// name counts. `Err` is the first fault in the order of [`PlanError`]. `PlanError::Memory` comes
+/// as soon as memory is refused, but never for a plan that is too large.
 #[tactic(auto, unfolding(crate::specs::Plan::SavedPlan::plan_of))]
 pub fn read_plan(alloc: Global, bytes: &[u8]) -> Result<Plan, PlanError>
     ensures defined { Gives PlanError.Memory (λ plan. plan) result (plan_of bytes.now) }

@@ -1,42 +1,44 @@
-//! What is kept of the members of a diagnostic.
+//! The members of a diagnostic.
 
-ghost use Rattle.apply_plan.specs.Script.Entry.{is_kept};
+ghost use Rattle.apply_plan.specs.Script.Entry.{is_verbatim_name};
 ghost use Rattle.apply_plan.specs.Script.Members.{HoldsDiag};
 
 use crate::members::take_member;
 use crate::script::object_text::read_object_text;
-use apply_json::{ReadFault, Reader, Scalar, Slots, read_scalar_into};
+use apply_json::{ReadFault, Reader, Shallow, Slots, read_shallow_into};
 use std::alloc::Global;
 
-/// The members of a diagnostic.
+/// The members of a diagnostic, while they are read.
+///
+/// `range` and `snippet` are raw JSON text. `Some(None)` means absent, `None` means invalid.
 #[derive(Drop)]
 pub struct DiagSlots<'a> {
-    pub summary: Scalar<'a>,
-    pub detail: Scalar<'a>,
+    pub summary: Shallow<'a>,
+    pub detail: Shallow<'a>,
     pub range: Option<Option<String>>,
     pub snippet: Option<Option<String>>,
-    pub severity: Scalar<'a>,
+    pub severity: Shallow<'a>,
 }
 
 impl<'a> DiagSlots<'a> {
     ghost use Rattle.serde_json.specs.Data.{no_members};
 
-    /// No member.
+    /// Slots before any member was read.
     pub fn new() -> DiagSlots<'a>
         ensures { HoldsDiag result no_members }
     {
         DiagSlots {
-            summary: Scalar::Absent,
-            detail: Scalar::Absent,
+            summary: Shallow::Absent,
+            detail: Shallow::Absent,
             range: Some(None),
             snippet: Some(None),
-            severity: Scalar::Absent,
+            severity: Shallow::Absent,
         }
     }
 }
 
 impl<'a> Slots<'a> for DiagSlots<'a> {
-    ghost kept = { is_kept };
+    ghost is_verbatim = { is_verbatim_name };
 
     ghost holds = { λ _ slots ms. HoldsDiag slots ms };
 
@@ -49,11 +51,11 @@ impl<'a> Slots<'a> for DiagSlots<'a> {
     ) -> Result<(), ReadFault> {
         take_member! {
             name, reader, depth,
-            "summary" => read_scalar_into(reader, depth, &mut self.summary),
-            "detail" => read_scalar_into(reader, depth, &mut self.detail),
+            "summary" => read_shallow_into(reader, depth, &mut self.summary),
+            "detail" => read_shallow_into(reader, depth, &mut self.detail),
             "range" => read_object_text(alloc, reader, depth, &mut self.range),
             "snippet" => read_object_text(alloc, reader, depth, &mut self.snippet),
-            "severity" => read_scalar_into(reader, depth, &mut self.severity),
+            "severity" => read_shallow_into(reader, depth, &mut self.severity),
         }
     }
 }

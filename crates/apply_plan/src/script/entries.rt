@@ -1,43 +1,43 @@
-//! What the entries of a script say.
+//! Reads the entries of a script into outcomes of steps.
 
 ghost use Rattle.std.specs.Prelude.{◌≡◌, ◌+◌, ◌<◌, ◌≤◌, [], IfOk, List, OnOk, length};
 ghost use Rattle.serde_json.specs.Data.{Data};
 ghost use Rattle.apply_model.specs.Script.Limits.{max_waits};
 ghost use Rattle.apply_plan.specs.Results.{Gives};
-ghost use Rattle.apply_plan.specs.Script.Entry.{is_kept};
-ghost use Rattle.apply_plan.specs.Script.EntriesView.{AreCovered, HoldsEntries, KeepsOneMore};
+ghost use Rattle.apply_plan.specs.Script.Entry.{is_verbatim_name};
+ghost use Rattle.apply_plan.specs.Script.EntriesView.{AreCovered, HoldsEntries, StoresOneMore};
 ghost use Rattle.apply_plan.specs.Script.NeverBeginning.{never_beginning_in};
 ghost use Rattle.apply_plan.specs.Script.OutcomeMap.{by_number, script_of_entries};
 
-use crate::both_made::both_made;
-use crate::script::said::said_by_entry;
+use crate::script::entry_resolution::resolve_entry;
+use crate::script::raw_entry::RawEntry;
 use crate::script::script_error::ScriptError;
-use crate::script::tree_entry::TreeEntry;
-use apply_json::{Collector, ReadFault, Reader, pass_member};
+use crate::zip_results::zip_results;
+use apply_json::{Collector, ReadFault, Reader, skip_member};
 use apply_model::{Plan, Script, StepOutcomes};
-use apply_resolve::{ChangeNumbers, all_stuck, first_stuck};
+use apply_resolve::{ChangeNumbers, all_unreachable, first_unreachable};
 use std::alloc::{AllocError, Global};
 
-/// What the entries say that were read, up to the first that has a fault.
+/// The outcomes that were read, up to the first faulty entry.
 #[derive(Drop)]
 pub struct Entries<'a> {
     plan: &'a Plan,
     numbers: ChangeNumbers<'a>,
-    /// What is said of each change.
-    said: Vec<Option<StepOutcomes>>,
-    /// The change of each entry, and of how many of its steps it tells.
+    /// The outcomes of the steps of each change, by the number of the change.
+    outcomes: Vec<Option<StepOutcomes>>,
+    /// For each entry, the number of its change and how many steps it states.
     kept: Vec<(u32, u8)>,
-    /// How many items of `after` there were.
+    /// How many items all `after` lists have together.
     waits: usize,
     fault: Option<ScriptError>,
 }
 
 impl<'a> Entries<'a> {
-    /// No entry.
+    /// The state before any entry was read. `Err` means that memory was refused.
     pub fn new(alloc: Global, plan: &'a Plan) -> Result<Entries<'a>, AllocError>
         ensures { IfOk result (λ entries. (entries.plan ≡ plan.entry) × HoldsEntries entries []) }
     {
-        let (numbers, said) = both_made(
+        let (numbers, outcomes) = zip_results(
             ChangeNumbers::of(alloc, plan),
             nothing(alloc, plan.len()),
         )?;
@@ -45,38 +45,43 @@ impl<'a> Entries<'a> {
         Ok(Entries {
             plan,
             numbers,
-            said,
+            outcomes,
             kept,
             waits: 0,
             fault: None,
         })
     }
 
-    /// Forgets all entries. It takes no longer than to read them took.
+    /// Forgets all entries, for a second member `changes`.
+    ///
+    /// The time grows with the entries that were read, not with the plan.
     pub fn forget(&mut self)
         requires { (ds : List Data) × HoldsEntries self.old ds }
         ensures plan { self.new.plan ≡ self.old.plan }
         ensures none { HoldsEntries self.new [] }
     {
-        unsay(&mut self.said, &mut self.kept);
+        clear_outcomes(&mut self.outcomes, &mut self.kept);
         self.waits = 0;
         self.fault = None;
     }
 
-    /// Keeps what an entry says.
-    fn keep(&mut self, change: u32, steps: StepOutcomes, waits: usize) -> Result<(), AllocError>
-        requires change { change < length self.old.said.items }
+    /// Stores the outcomes of an entry. `Err` means that memory was refused.
+    fn store(&mut self, change: u32, steps: StepOutcomes, waits: usize) -> Result<(), AllocError>
+        requires change { change < length self.old.outcomes.items }
         requires steps { length steps ≤ 2 }
         requires waits { self.old.waits + waits ≤ max_waits }
-        ensures { OnOk result (KeepsOneMore self.old change steps waits self.new) }
+        ensures { OnOk result (StoresOneMore self.old change steps waits self.new) }
     {
         self.kept.push((change, steps.len() as u8))?;
         self.waits += waits;
-        self.said[change as usize] = Some(steps);
+        self.outcomes[change as usize] = Some(steps);
         Ok(())
     }
 
-    /// The script that the entries make.
+    /// Builds the script.
+    ///
+    /// `Err` is the first fault of an entry, `ScriptError::NeverBegins` for the first entry with a
+    /// step that can never start, or `ScriptError::Memory`.
     pub fn script(self, alloc: Global) -> Result<Script, ScriptError>
         requires { (ds : List Data) × HoldsEntries self ds }
         ensures { (ds : List Data) → HoldsEntries self.entry ds → Gives ScriptError.Memory (λ script. script) result
@@ -85,14 +90,16 @@ impl<'a> Entries<'a> {
         if let Some(fault) = self.fault {
             return Err(fault);
         }
-        let script = Script::new(self.said);
-        match first_stuck(alloc, &script, self.plan.len(), &self.kept)? {
+        let script = Script::new(self.outcomes);
+        match first_unreachable(alloc, &script, self.plan.len(), &self.kept)? {
             Some(number) => Err(ScriptError::NeverBegins(number)),
             None => Ok(script),
         }
     }
 
-    /// The numbers of the entries that have a step which could never begin.
+    /// The numbers of all entries with a step that can never start.
+    ///
+    /// `Err` is the first fault of an entry, or `ScriptError::Memory`.
     pub fn never_beginning(self, alloc: Global) -> Result<Vec<u32>, ScriptError>
         requires { (ds : List Data) × HoldsEntries self ds }
         ensures { (ds : List Data) → HoldsEntries self.entry ds → Gives ScriptError.Memory (λ numbers. numbers.items) result
@@ -101,13 +108,13 @@ impl<'a> Entries<'a> {
         if let Some(fault) = self.fault {
             return Err(fault);
         }
-        let script = Script::new(self.said);
-        Ok(all_stuck(alloc, &script, self.plan.len(), &self.kept)?)
+        let script = Script::new(self.outcomes);
+        Ok(all_unreachable(alloc, &script, self.plan.len(), &self.kept)?)
     }
 }
 
 impl<'a> Collector<'a> for Entries<'a> {
-    ghost kept = { is_kept };
+    ghost is_verbatim = { is_verbatim_name };
 
     ghost holds = { λ start entries ds. (entries.plan ≡ start.plan) × HoldsEntries entries ds };
 
@@ -118,24 +125,24 @@ impl<'a> Collector<'a> for Entries<'a> {
         depth: usize,
     ) -> Result<(), ReadFault> {
         if self.fault.is_some() {
-            return pass_member(reader, depth);
+            return skip_member(reader, depth);
         }
-        let entry = TreeEntry::read(alloc, reader, depth)?;
+        let entry = RawEntry::read(alloc, reader, depth)?;
         let number = self.kept.len() as u32;
-        let said = said_by_entry(
+        let outcomes = resolve_entry(
             alloc,
             number,
             self.waits,
             &entry,
             self.plan,
             &self.numbers,
-            &self.said,
+            &self.outcomes,
         );
-        // Now, and not on each of the ways out.
+        // Dropped here, so that each way out below needs no drop of its own.
         drop(entry);
-        match said {
+        match outcomes {
             Ok((change, steps, waits)) => {
-                self.keep(change, steps, waits)?;
+                self.store(change, steps, waits)?;
                 Ok(())
             }
             Err(ScriptError::Memory) => Err(ReadFault::Memory),
@@ -147,24 +154,24 @@ impl<'a> Collector<'a> for Entries<'a> {
     }
 }
 
-/// Nothing said of so many changes.
+/// A list of `count` changes without outcomes. `Err` means that memory was refused.
 fn nothing(alloc: Global, count: u32) -> Result<Vec<Option<StepOutcomes>>, AllocError>
-    ensures { IfOk result (λ said. said.items ≡ by_number count []) }
+    ensures { IfOk result (λ outcomes. outcomes.items ≡ by_number count []) }
 {
-    let mut said = Vec::with_capacity(alloc, count as usize)?;
+    let mut outcomes = Vec::with_capacity(alloc, count as usize)?;
     for _ in 0..count {
-        said.push(None)?;
+        outcomes.push(None)?;
     }
-    Ok(said)
+    Ok(outcomes)
 }
 
-/// Takes back what was said of the changes that are kept, which are all of which something was said.
-fn unsay(said: &mut [Option<StepOutcomes>], kept: &mut Vec<(u32, u8)>)
-    requires { AreCovered said.old kept.old.items }
-    ensures said { said.new ≡ by_number (length said.old) [] }
+/// Removes all outcomes. Each change with outcomes must be in `kept`.
+fn clear_outcomes(outcomes: &mut [Option<StepOutcomes>], kept: &mut Vec<(u32, u8)>)
+    requires { AreCovered outcomes.old kept.old.items }
+    ensures outcomes { outcomes.new ≡ by_number (length outcomes.old) [] }
     ensures kept { kept.new.items ≡ [] }
 {
     while let Some((change, _steps)) = kept.pop() {
-        said[change as usize] = None;
+        outcomes[change as usize] = None;
     }
 }

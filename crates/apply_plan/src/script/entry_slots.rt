@@ -1,39 +1,39 @@
-//! What is kept of the members of an entry.
+//! The members of an entry.
 
-ghost use Rattle.apply_plan.specs.Script.Entry.{is_kept};
+ghost use Rattle.apply_plan.specs.Script.Entry.{is_verbatim_name};
 ghost use Rattle.apply_plan.specs.Script.Members.{HoldsEntry};
 
 use crate::members::take_member;
-use crate::script::found_items::read_items;
-use crate::script::tree_step::TreeStep;
-use apply_json::{ReadFault, Reader, Scalar, Slots, read_scalar_into};
+use crate::script::list_items::read_items;
+use crate::script::raw_step::RawStep;
+use apply_json::{ReadFault, Reader, Shallow, Slots, read_shallow_into};
 use std::alloc::Global;
 
-/// The members of an entry.
+/// The members of an entry, while they are read.
 #[derive(Drop)]
 pub struct EntrySlots<'a> {
-    pub address: Scalar<'a>,
-    pub deposed: Scalar<'a>,
-    pub steps: Option<Vec<TreeStep<'a>>>,
+    pub address: Shallow<'a>,
+    pub deposed: Shallow<'a>,
+    pub steps: Option<Vec<RawStep<'a>>>,
 }
 
 impl<'a> EntrySlots<'a> {
     ghost use Rattle.serde_json.specs.Data.{no_members};
 
-    /// No member.
+    /// Slots before any member was read.
     pub fn new() -> EntrySlots<'a>
         ensures { HoldsEntry result no_members }
     {
         EntrySlots {
-            address: Scalar::Absent,
-            deposed: Scalar::Absent,
+            address: Shallow::Absent,
+            deposed: Shallow::Absent,
             steps: None,
         }
     }
 }
 
 impl<'a> Slots<'a> for EntrySlots<'a> {
-    ghost kept = { is_kept };
+    ghost is_verbatim = { is_verbatim_name };
 
     ghost holds = { λ _ slots ms. HoldsEntry slots ms };
 
@@ -46,8 +46,8 @@ impl<'a> Slots<'a> for EntrySlots<'a> {
     ) -> Result<(), ReadFault> {
         take_member! {
             name, reader, depth,
-            "address" => read_scalar_into(reader, depth, &mut self.address),
-            "deposed" => read_scalar_into(reader, depth, &mut self.deposed),
+            "address" => read_shallow_into(reader, depth, &mut self.address),
+            "deposed" => read_shallow_into(reader, depth, &mut self.deposed),
             "steps" => read_items(alloc, reader, depth, true, &mut self.steps),
         }
     }

@@ -1,12 +1,12 @@
-//! What a step may go beyond.
+//! The limits of a step.
 
 /// A limit of a step.
 #[derive(Clone, Copy)]
 pub enum Limit {
-    /// Of the seconds that it takes, with all its provisioners.
+    /// The seconds of the step with all its provisioners.
     Seconds,
-    /// Of its provisioners.
+    /// The number of its provisioners.
     Provisioners,
-    /// Of what one of its provisioners puts out.
+    /// The number of outputs of one provisioner.
     Output,
 }

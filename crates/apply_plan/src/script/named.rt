@@ -1,11 +1,11 @@
-//! What a refusal of a script names.
+//! The part of a script that an error names.
 
 use std::fmt;
 
-/// What a refusal of a script names, by its number in the script.
+/// The part of a script that an error names, by its number, counted from 0.
 #[derive(Clone, Copy, Drop)]
 pub enum Named {
-    /// Only the script as a whole, or nothing of it.
+    /// The script as a whole, or no part of it.
     Nothing,
     Entry(u32),
     Output(usize),

@@ -1,17 +1,19 @@
-//! A number that may be absent.
+//! Numbers that may be absent.
 
 ghost use Rattle.std.specs.Prelude.{◌≡◌};
-ghost use Rattle.apply_json.specs.Seen.{scalar_view};
-ghost use Rattle.apply_plan.specs.Script.Members.{number_held};
+ghost use Rattle.apply_json.specs.ShallowView.{shallow_view};
+ghost use Rattle.apply_plan.specs.Script.Members.{number_read};
 
-use apply_json::Scalar;
+use apply_json::Shallow;
 
-/// The whole number that a member is, or none where the member is absent. `None` where it is there and is none.
-pub fn number_or_none(found: Scalar<'_>) -> Option<Option<u64>>
-    ensures { result ≡ number_held (scalar_view found.entry) }
+/// The whole number from 0 to 2^64 - 1, or `Some(None)` for an absent member.
+///
+/// `None` means any other value.
+pub fn number_or_none(found: Shallow<'_>) -> Option<Option<u64>>
+    ensures { result ≡ number_read (shallow_view found.entry) }
 {
     match found {
-        Scalar::Absent => Some(None),
+        Shallow::Absent => Some(None),
         _ => match found.whole() {
             Some(number) => Some(Some(number)),
             None => None,

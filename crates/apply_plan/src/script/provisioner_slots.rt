@@ -1,44 +1,46 @@
-//! What is kept of the members of a provisioner.
+//! The members of a provisioner.
 
-ghost use Rattle.apply_plan.specs.Script.Entry.{is_kept};
+ghost use Rattle.apply_plan.specs.Script.Entry.{is_verbatim_name};
 ghost use Rattle.apply_plan.specs.Script.Members.{HoldsProvisioner};
 
 use crate::members::take_member;
-use crate::script::found_items::read_items;
-use crate::script::tree_diag::TreeDiag;
-use crate::script::tree_output::TreeOutput;
-use apply_json::{ReadFault, Reader, Scalar, Slots, read_scalar_into};
+use crate::script::list_items::read_items;
+use crate::script::raw_diag::RawDiag;
+use crate::script::raw_output::RawOutput;
+use apply_json::{ReadFault, Reader, Shallow, Slots, read_shallow_into};
 use std::alloc::Global;
 
-/// The members of a provisioner.
+/// The members of a provisioner, while they are read.
+///
+/// An outer `None` means that the member is invalid.
 #[derive(Drop)]
 pub struct ProvisionerSlots<'a> {
-    pub name: Scalar<'a>,
-    pub seconds: Scalar<'a>,
-    pub failed: Option<Option<TreeDiag<'a>>>,
-    pub output: Option<Vec<TreeOutput<'a>>>,
-    pub on_failure: Scalar<'a>,
+    pub name: Shallow<'a>,
+    pub seconds: Shallow<'a>,
+    pub failed: Option<Option<RawDiag<'a>>>,
+    pub output: Option<Vec<RawOutput<'a>>>,
+    pub on_failure: Shallow<'a>,
 }
 
 impl<'a> ProvisionerSlots<'a> {
     ghost use Rattle.serde_json.specs.Data.{no_members};
 
-    /// No member.
+    /// Slots before any member was read.
     pub fn new(alloc: Global) -> ProvisionerSlots<'a>
         ensures { HoldsProvisioner result no_members }
     {
         ProvisionerSlots {
-            name: Scalar::Absent,
-            seconds: Scalar::Absent,
+            name: Shallow::Absent,
+            seconds: Shallow::Absent,
             failed: Some(None),
             output: Some(Vec::new(alloc)),
-            on_failure: Scalar::Absent,
+            on_failure: Shallow::Absent,
         }
     }
 }
 
 impl<'a> Slots<'a> for ProvisionerSlots<'a> {
-    ghost kept = { is_kept };
+    ghost is_verbatim = { is_verbatim_name };
 
     ghost holds = { λ _ slots ms. HoldsProvisioner slots ms };
 
@@ -51,11 +53,11 @@ impl<'a> Slots<'a> for ProvisionerSlots<'a> {
     ) -> Result<(), ReadFault> {
         take_member! {
             name, reader, depth,
-            "provisioner" => read_scalar_into(reader, depth, &mut self.name),
-            "seconds" => read_scalar_into(reader, depth, &mut self.seconds),
-            "failed" => TreeDiag::read(alloc, reader, depth, &mut self.failed),
+            "provisioner" => read_shallow_into(reader, depth, &mut self.name),
+            "seconds" => read_shallow_into(reader, depth, &mut self.seconds),
+            "failed" => RawDiag::read(alloc, reader, depth, &mut self.failed),
             "output" => read_items(alloc, reader, depth, false, &mut self.output),
-            "on_failure" => read_scalar_into(reader, depth, &mut self.on_failure),
+            "on_failure" => read_shallow_into(reader, depth, &mut self.on_failure),
         }
     }
 }

@@ -13,16 +13,18 @@ use crate::bytes::MAX_BYTES;
 use crate::script::entries::Entries;
 use crate::script::script_error::ScriptError;
 use crate::script::script_slots::ScriptSlots;
-use apply_json::{Listed, Scratch, read_slots};
+use apply_json::{ArrayPresence, Scratch, read_slots};
 use apply_model::{Plan, Script};
 use std::alloc::Global;
 
-/// Reads a script of outcomes for a plan: a JSON object whose `changes` are entries, each with the `address` and the
-/// `deposed` key of a change, and what comes of its first steps.
+/// Reads a script of outcomes for a plan.
 ///
-/// Members that are not known are ignored, `null` counts as absent, and of a member that stands twice the last counts.
-/// The answer is the script, or the refusal that [`ScriptError`] describes; want of memory is answered where it is met,
-/// and never for a script that is too large.
+/// A script is a JSON object with an array `changes`. Each entry of `changes` has the `address` and
+/// the `deposed` key of a change, and the outcomes of its first steps.
+///
+/// Unknown members are ignored, `null` counts as absent, and the last of two members with the same
+/// name counts. `Err` is the first fault in the order of [`ScriptError`]. `ScriptError::Memory`
+/// comes as soon as memory is refused, but never for a script that is too large.
 pub fn read_script(alloc: Global, bytes: &[u8], plan: &Plan) -> Result<Script, ScriptError>
     ensures defined { Gives ScriptError.Memory (λ script. script) result
         (script_of plan.now bytes.now) }
@@ -32,10 +34,10 @@ pub fn read_script(alloc: Global, bytes: &[u8], plan: &Plan) -> Result<Script, S
     read_entries(alloc, &mut scratch, bytes, plan)?.script(alloc)
 }
 
-/// The numbers of all entries of a script that have a step which could never begin, where it has no other fault: none
-/// where it is a script. [`read_script`] names the first of them alone.
+/// Lists the numbers of all entries with a step that can never start.
 ///
-/// The bytes are read as [`read_script`] reads them, and each other fault is refused as there.
+/// [`read_script`] names only the first of these entries. The list is empty for a valid script.
+/// `Err` is any other fault, as in [`read_script`].
 pub fn never_beginning(alloc: Global, bytes: &[u8], plan: &Plan) -> Result<Vec<u32>, ScriptError>
     ensures defined { Gives ScriptError.Memory (λ numbers. numbers.items) result
         (never_beginning_of plan.now bytes.now) }
@@ -46,7 +48,9 @@ pub fn never_beginning(alloc: Global, bytes: &[u8], plan: &Plan) -> Result<Vec<u
     read_entries(alloc, &mut scratch, bytes, plan)?.never_beginning(alloc)
 }
 
-/// Reads the entries of a script, up to the first that has a fault.
+/// Reads the entries of a script. A fault of an entry is stored in `Entries`.
+///
+/// `Err` is `TooLarge`, `NotJson`, `BadShape(None)` or `Memory`.
 fn read_entries<'a>(
     alloc: Global,
     scratch: &'a mut Scratch,

@@ -1,4 +1,4 @@
-//! Why bytes are not a script.
+//! Why a script was refused.
 
 ghost use Rattle.std.specs.Prelude.{◌≡◌};
 ghost use Rattle.apply_plan.specs.declared.script.script_error.ScriptError.TheVariants.{Memory};
@@ -12,21 +12,23 @@ use std::fmt;
 
 /// Why bytes were refused as a script for a plan.
 ///
-/// The variants are tested in this order. Those that name an entry name the first faulty one, counted from 0, with its
-/// first fault.
+/// The variants are tested in this order. A number is that of the first faulty entry, counted from
+/// 0, and the variant is the first fault of this entry.
 #[derive(Clone, Copy, Drop, PartialEq, Eq)]
 pub enum ScriptError {
-    /// There are more than 67,108,864 bytes.
+    /// The script has more than 67,108,864 bytes.
     TooLarge,
-    /// The bytes are not JSON (RFC 8259) in UTF-8, or it nests more than 127 deep.
+    /// The bytes are not UTF-8 or not JSON (RFC 8259), or values nest more than 127 deep.
     NotJson,
-    /// A member is missing or is not what it has to be, or a step that failed has an id, a warning or a provisioner
-    /// beside it, or a step that is skipped has anything but the steps that it waits for, or an output of a provisioner comes
-    /// before the one in front of it, or behind the provisioner's end: at the top level, or in the entry of that number.
+    /// A value has the wrong shape, in the entry of this number, or for `None` at the top level:
+    /// - A member is missing or invalid.
+    /// - A step whose provider fails has an id, a warning or a provisioner.
+    /// - A skipped step has seconds, an id, a warning, a failure or a provisioner.
+    /// - An output of a provisioner comes before an earlier output, or after the provisioner ends.
     BadShape(Option<u32>),
-    /// The plan has no change with the entry's `address` and `deposed` key.
+    /// The plan has no change with the `address` and `deposed` key of the entry.
     UnknownChange(u32),
-    /// An earlier entry is about the same change.
+    /// An earlier entry has the same change.
     Duplicate(u32),
     /// The entry has more steps than its change.
     TooManySteps(u32),
@@ -36,35 +38,41 @@ pub enum ScriptError {
     TooManyProvisioners(u32),
     /// A provisioner of the entry has more than 100 outputs.
     TooMuchOutput(u32),
-    /// A step of the entry has a provisioner that is neither a create nor a delete which is the first step of a change of
-    /// an object that is not deposed.
+    /// A step of the entry has a provisioner, but cannot run one.
+    ///
+    /// A create can. A delete can if it is the first step of a change whose object is not deposed.
     NotACreate(u32),
-    /// A step of the entry that is not a read has a failure that only warns.
+    /// A step of the entry that is not a read has a failure with the severity `warning`.
     WarnsNotARead(u32),
-    /// The `after` of the entry and of those before it have more than 1,000,000 items together.
+    /// The `after` lists of the entry and of the earlier entries have more than 1,000,000 items.
     TooManyWaits(u32),
-    /// The plan has no change with the address and the `deposed` key of an item of an `after` of the entry.
+    /// An `after` item of the entry names a change that the plan does not have.
     UnknownWait(u32),
-    /// The change that an item of an `after` of the entry names has no step of the number that it tells.
+    /// An `after` item of the entry gives the number of a step that its change does not have.
     NoSuchStep(u32),
-    /// Where no entry has a fault: a step of the entry could never begin, since it waits, directly or through others, for
-    /// itself or for such a step.
+    /// No entry has another fault, and a step of the entry can never start.
+    ///
+    /// Such a step waits, directly or through other steps, for itself or for a step that can never
+    /// start.
     NeverBegins(u32),
-    /// In Terraform's form alone, where no variant above holds: an output of the script, counted from 0 in the order of
-    /// the names' bytes, is no object, has a `sensitive` that is neither `true` nor `false`, or has no `type`.
+    /// An output of the script is not an object, has no `type`, or has a `sensitive` that is not a
+    /// boolean.
+    ///
+    /// Outputs are counted from 0, in the byte order of their names. This variant and the next two
+    /// come only in Terraform's form, if no variant above holds.
     BadOutput(usize),
-    /// In Terraform's form alone, where no variant above holds: the plan has no output of that name, or deletes it.
+    /// The plan has no output of this name, or deletes it.
     UnknownOutput(usize),
-    /// In Terraform's form alone, where no variant above holds: a diagnostic of the script that is of no step, counted from
-    /// 0, is no object, has no `severity` or another one than `error` or `warning`, or has a member that is not what it has
-    /// to be.
+    /// A top-level diagnostic of the script is not an object, or has an invalid member.
+    ///
+    /// Diagnostics are counted from 0. The `severity` of each must be `error` or `warning`.
     BadDiagnostic(usize),
-    /// Memory was refused. It comes where the growth stands, before the refusals that would be found later.
+    /// Memory was refused. It is reported at once, before faults of later parts of the input.
     Memory,
 }
 
 impl ScriptError {
-    /// Why bytes are no script that gave no tree.
+    /// Converts the fault of the JSON reader.
     pub(crate) fn of_json(fault: JsonFault) -> ScriptError
         ensures { result ≡ script_refusal fault }
     {
@@ -75,7 +83,7 @@ impl ScriptError {
         }
     }
 
-    /// What of the script it names.
+    /// The part of the script that the error names.
     fn named(self) -> Named {
         match self {
             ScriptError::BadShape(Some(number))
@@ -102,7 +110,7 @@ impl ScriptError {
         }
     }
 
-    /// Its text, behind what it names.
+    /// The message, without the part that it names.
     fn text(self) -> &'static str {
         match self {
             ScriptError::TooLarge => "the script is larger than 67108864 bytes",
@@ -130,7 +138,7 @@ impl ScriptError {
     }
 }
 
-// By hand: a derived one is proved with a way out for each text.
+// Not derived: a derived impl needs one proof case for each text.
 impl fmt::Display for ScriptError {
     fn fmt<W: fmt::Write>(&self, f: &mut fmt::Formatter<W>) -> fmt::Result {
         write!(f, "{}{}", self.named(), self.text())

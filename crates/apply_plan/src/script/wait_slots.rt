@@ -1,37 +1,37 @@
-//! What is kept of the members of an item of `after`.
+//! The members of an item of `after`.
 
-ghost use Rattle.apply_plan.specs.Script.Entry.{is_kept};
+ghost use Rattle.apply_plan.specs.Script.Entry.{is_verbatim_name};
 ghost use Rattle.apply_plan.specs.Script.Members.{HoldsWait};
 
 use crate::members::take_member;
-use apply_json::{ReadFault, Reader, Scalar, Slots, read_scalar_into};
+use apply_json::{ReadFault, Reader, Shallow, Slots, read_shallow_into};
 use std::alloc::Global;
 
-/// The members of an item of `after`.
+/// The members of an item of `after`, while they are read.
 #[derive(Clone, Copy, Drop)]
 pub struct WaitSlots<'a> {
-    pub address: Scalar<'a>,
-    pub deposed: Scalar<'a>,
-    pub step: Scalar<'a>,
+    pub address: Shallow<'a>,
+    pub deposed: Shallow<'a>,
+    pub step: Shallow<'a>,
 }
 
 impl<'a> WaitSlots<'a> {
     ghost use Rattle.serde_json.specs.Data.{no_members};
 
-    /// No member.
+    /// Slots before any member was read.
     pub fn new() -> WaitSlots<'a>
         ensures { HoldsWait result no_members }
     {
         WaitSlots {
-            address: Scalar::Absent,
-            deposed: Scalar::Absent,
-            step: Scalar::Absent,
+            address: Shallow::Absent,
+            deposed: Shallow::Absent,
+            step: Shallow::Absent,
         }
     }
 }
 
 impl<'a> Slots<'a> for WaitSlots<'a> {
-    ghost kept = { is_kept };
+    ghost is_verbatim = { is_verbatim_name };
 
     ghost holds = { λ _ slots ms. HoldsWait slots ms };
 
@@ -44,9 +44,9 @@ impl<'a> Slots<'a> for WaitSlots<'a> {
     ) -> Result<(), ReadFault> {
         take_member! {
             name, reader, depth,
-            "address" => read_scalar_into(reader, depth, &mut self.address),
-            "deposed" => read_scalar_into(reader, depth, &mut self.deposed),
-            "step" => read_scalar_into(reader, depth, &mut self.step),
+            "address" => read_shallow_into(reader, depth, &mut self.address),
+            "deposed" => read_shallow_into(reader, depth, &mut self.deposed),
+            "step" => read_shallow_into(reader, depth, &mut self.step),
         }
     }
 }

@@ -1,4 +1,4 @@
-//! The steps that the items of `after` name.
+//! Resolves the items of one `after` list to steps of the plan.
 
 ghost use Rattle.std.specs.Prelude.{◌≡◌, ◌≤◌, All, IfOk, IfSome, find, length, option_map};
 ghost use Rattle.std.specs.List.{enumerate_from};
@@ -6,29 +6,32 @@ ghost use Rattle.apply_model.specs.Script.Limits.{max_waits};
 ghost use Rattle.apply_resolve.specs.ObjectIds.{is_of};
 ghost use Rattle.apply_resolve.specs.ChangeNumbers.{number_of};
 ghost use Rattle.apply_resolve.specs.Placed.{IsPlaced};
-ghost use Rattle.apply_plan.specs.Script.TreeView.{waits_view};
+ghost use Rattle.apply_plan.specs.Script.RawView.{waits_view};
 
-use crate::script::tree_wait::TreeWait;
+use crate::script::raw_wait::RawWait;
 use apply_model::{Plan, Wait, Waits};
 use apply_resolve::{ChangeNumbers, ObjectId};
 use std::alloc::{AllocError, Global};
 
-/// What the items of one `after` name, all of which are of changes of the plan.
+/// The resolved items of one `after` list.
 #[derive(Drop)]
 pub struct Waited {
-    /// The steps that they name.
+    /// The steps to wait for.
     pub waits: Waits,
-    /// Whether one names a step that its change does not have.
+    /// Whether an item gives the number of a step that its change does not have.
     pub lacks_step: bool,
 }
 
 impl Waited {
     ghost use Rattle.apply_plan.specs.Script.WaitedView.{waited_by};
 
-    /// What the items name. `None` where one names no change of the plan.
+    /// Resolves the items. `None` means that an item names no change of the plan.
+    ///
+    /// `Err` means that memory was refused. An item without a step number names no step of a change
+    /// that has none, and is left out.
     pub fn of<'a>(
         alloc: Global,
-        items: &[TreeWait<'a>],
+        items: &[RawWait<'a>],
         plan: &Plan,
         numbers: &ChangeNumbers<'a>,
     ) -> Result<Option<Waited>, AllocError>

@@ -1,4 +1,7 @@
-//! Values as their own texts, and how a value begins.
+//! Reads the start of a value, and whole values as JSON text.
+//!
+//! Every `Err` is `ReadFault::NotJson` when the text is no JSON or nests more than `depth` deep,
+//! and `ReadFault::Memory` when memory is refused.
 
 ghost use Rattle.std.specs.Prelude.{◌≡◌, ◌≢◌, ◌<◌, ◌≤◌, ◌-◌, ◌∷◌, length, string_bytes, Err, IfOk, MatchOption, None, OnOk, Some};
 ghost use Rattle.json.specs.Json.{Json, members, object, parse_map, value};
@@ -13,8 +16,8 @@ use apply_json::ReadFault;
 use json::{Reader, Token, Writer};
 use std::alloc::Global;
 
-/// Takes the beginning of a value. `Ok` with `None` where it is an object, whose members are left then, and else with the
-/// text of the whole.
+/// Reads the start of a value. `None` for an object, whose members come next. Any other value is
+/// read to its end, and returned as JSON text.
 pub fn begin(
     alloc: Global,
     reader: &mut Reader<'_>,
@@ -39,7 +42,7 @@ pub fn begin(
     }
 }
 
-/// One value as its text.
+/// Reads one value as JSON text.
 pub fn read_as_text(
     alloc: Global,
     reader: &mut Reader<'_>,
@@ -55,7 +58,7 @@ pub fn read_as_text(
     Ok(String::from_utf8(out.into_inner()).unwrap())
 }
 
-/// One value that begins with that token, which was taken already, as its text.
+/// Reads one value as JSON text. `token` is its first token, which was read already.
 fn read_rest_as_text(
     alloc: Global,
     token: Token<'_>,

@@ -1,4 +1,7 @@
-//! From tokens to their text: a value is copied as it stands, but for blanks and escapes (RFC 8259).
+//! Copies values token by token, without blanks and with the shortest escapes (RFC 8259).
+//!
+//! Every `Err` is `ReadFault::NotJson` when the text is no JSON or nests more than `depth` deep,
+//! and `ReadFault::Memory` when memory is refused.
 
 ghost use Rattle.std.specs.Prelude.{◌≡◌, ◌≢◌, ◌<◌, ◌≤◌, ◌++◌, ◌∷◌, length, Err, None, OnOk, Some};
 ghost use Rattle.json.specs.Json.{Json, Items, Members, items, members, value};
@@ -9,7 +12,7 @@ ghost use Rattle.json.specs.Tree.{json_tokens, items_tokens, members_tokens};
 use apply_json::ReadFault;
 use json::{Reader, Token, Writer};
 
-/// Copies one value, in which arrays and objects nest at most `depth` deep.
+/// Copies one value. Arrays and objects nest at most `depth` deep.
 #[cycle(copy)]
 pub fn copy(reader: &mut Reader<'_>, depth: usize, out: &mut Writer) -> Result<(), ReadFault>
     ensures ok { OnOk result ((j : Json) × (value depth reader.old ≡ Some (j, reader.new))
@@ -22,7 +25,7 @@ pub fn copy(reader: &mut Reader<'_>, depth: usize, out: &mut Writer) -> Result<(
     copy_from(token, reader, depth, out)
 }
 
-/// Copies one value that begins with that token, which was taken already.
+/// Copies one value. `token` is its first token, which was read already.
 #[cycle(copy)]
 pub fn copy_from(
     token: Token<'_>,
@@ -62,7 +65,7 @@ pub fn copy_from(
     }
 }
 
-/// Copies the rest of an array.
+/// Copies the rest of an array, after its opening bracket.
 #[cycle(copy)]
 fn copy_items(reader: &mut Reader<'_>, depth: usize, out: &mut Writer) -> Result<(), ReadFault>
     ensures ok { OnOk result ((js : Items)
@@ -80,7 +83,7 @@ fn copy_items(reader: &mut Reader<'_>, depth: usize, out: &mut Writer) -> Result
     Ok(())
 }
 
-/// Copies the rest of an object.
+/// Copies the rest of an object, after its opening bracket.
 #[cycle(copy)]
 fn copy_members(reader: &mut Reader<'_>, depth: usize, out: &mut Writer) -> Result<(), ReadFault>
     ensures ok { OnOk result ((ms : Members)

@@ -1,4 +1,4 @@
-//! Reading the items of an array, whose members are kept as their own texts.
+//! Reads the diagnostics of a script. Their members stay JSON texts.
 
 ghost use Rattle.std.specs.Prelude.{◌≡◌, ◌<◌, length, map, option_map, Err, IfOk, None, OnOk, Some};
 ghost use Rattle.json.specs.Json.{Items, items, value};
@@ -13,11 +13,13 @@ use json::{Reader, Token};
 use serde_json::Value;
 use std::alloc::Global;
 
-/// The diagnostics that are the items of the array that a text is. `None` where it is no array. `Err` with `ReadFault::NotJson`
-/// where it is no JSON (RFC 8259), or nests more than 127 deep; with `ReadFault::Memory` where memory is refused.
+/// Reads an array of diagnostics. `None` when the text is no array.
+///
+/// `Err` with `ReadFault::NotJson` when the text is no JSON (RFC 8259), or nests more than 127
+/// deep. `Err` with `ReadFault::Memory` when memory is refused.
 pub fn read_items(alloc: Global, text: &str) -> Result<Option<Vec<Value>>, ReadFault>
     ensures ok { IfOk result
-        (λ found. option_map (λ items. map view items.items) found ≡ items_in_text text.now) }
+        (λ collected. option_map (λ items. map view items.items) collected ≡ items_in_text text.now) }
     ensures err { result ≡ Err ReadFault.NotJson → items_in_text text.now ≡ None }
 {
     let mut scratch = Scratch::new(alloc);
@@ -27,30 +29,30 @@ pub fn read_items(alloc: Global, text: &str) -> Result<Option<Vec<Value>>, ReadF
     };
     match token {
         Token::BeginArray => {
-            let found = read_each(alloc, &mut reader, MAX_DEPTH - 1)?;
+            let collected = read_each(alloc, &mut reader, MAX_DEPTH - 1)?;
             if reader.next().is_some() {
                 Ok(None)
             } else {
-                Ok(Some(found))
+                Ok(Some(collected))
             }
         }
         _ => Ok(None),
     }
 }
 
-/// The rest of an array.
+/// Reads the rest of an array. Its errors are those of `read_items`.
 fn read_each(alloc: Global, reader: &mut Reader<'_>, depth: usize) -> Result<Vec<Value>, ReadFault>
-    ensures ok { IfOk result (λ found. (js : Items)
+    ensures ok { IfOk result (λ collected. (js : Items)
         × (items (value depth) (length reader.old) reader.old ≡ Some (js, reader.new))
-        × (map view found.items ≡ items_of js)) }
+        × (map view collected.items ≡ items_of js)) }
     ensures shorter { OnOk result (length reader.new < length reader.old) }
     ensures err { result ≡ Err ReadFault.NotJson
         → items (value depth) (length reader.old) reader.old ≡ None }
 {
-    let mut found = Vec::new(alloc);
+    let mut collected = Vec::new(alloc);
     'items: while !reader.take_end_array() {
         let item = read(alloc, reader, depth, Part::Diagnostic)?;
-        found.push(item)?;
+        collected.push(item)?;
     }
-    Ok(found)
+    Ok(collected)
 }

@@ -1,13 +1,13 @@
-//! What of a plan and of a script is kept as text.
+//! The parts of a plan and a script that are read for Terraform's form.
 
 ghost use Rattle.std.specs.Prelude.{◌≡◌};
-ghost use Rattle.apply_plan_terraform.specs.Sought.{is_beside};
+ghost use Rattle.apply_plan_terraform.specs.Sections.{is_companion};
 ghost use Rattle.apply_plan_terraform.specs.Texts as texts;
 ghost use Rattle.apply_plan_terraform.specs.Texts.{is_text, part_named};
 
 use apply_json::is_text;
 
-/// What of a plan or a script a value is, on the way to what is kept as text. Values of no part are passed over.
+/// Which part of a plan or a script a value is. Values of no part are skipped.
 #[derive(Clone, Copy, Debug, PartialEq, Eq)]
 pub enum Part {
     /// The top level of a plan.
@@ -18,7 +18,7 @@ pub enum Part {
     Values,
     /// The top level of a script.
     Script,
-    /// `diagnostics` of a script, kept as text.
+    /// `diagnostics` of a script, stored as JSON text.
     Diagnostics,
     /// A diagnostic of a script.
     Diagnostic,
@@ -28,14 +28,14 @@ pub enum Part {
     Output,
     /// `output_changes` of a plan, by the names of the outputs.
     OutputChanges,
-    /// What is planned of an output.
+    /// The planned change of an output.
     OutputChange,
-    /// What is kept as text.
+    /// A value that is stored as JSON text.
     Text,
 }
 
 impl Part {
-    /// Whether the value is kept as text, whatever it is.
+    /// Whether any value of this part is stored as JSON text, objects too.
     pub fn is_text(self) -> bool
         ensures { result ≡ is_text self }
     {
@@ -46,9 +46,10 @@ impl Part {
         }
     }
 
-    /// Whether it is looked for beside the outputs: what a plan says of them, and the diagnostics of a script.
-    pub fn is_beside(self) -> bool
-        ensures { result ≡ is_beside self }
+    /// Whether the part is the other section, next to the outputs: `output_changes` or
+    /// `diagnostics`.
+    pub fn is_companion(self) -> bool
+        ensures { result ≡ is_companion self }
     {
         match self {
             Part::OutputChanges | Part::Diagnostics => true,
@@ -57,7 +58,7 @@ impl Part {
         }
     }
 
-    /// What the member of that name is. `None` where it is passed over.
+    /// The part that the member with that name is. `None` when the member is skipped.
     pub fn named(self, name: &str) -> Option<Part>
         ensures { result ≡ part_named self name.now }
     {
@@ -111,7 +112,7 @@ impl Part {
     }
 }
 
-/// Whether a diagnostic has a member of that name.
+/// Whether a diagnostic has a member with that name.
 fn is_of_diagnostic(name: &str) -> bool
     ensures { result ≡ texts.is_of_diagnostic name.now }
 {

@@ -1,4 +1,7 @@
-//! Reading objects as trees in which values are kept as their own texts.
+//! Reads objects as trees whose leaves are JSON texts.
+//!
+//! Every `Err` is `ReadFault::NotJson` when the text is no JSON or nests more than `depth` deep,
+//! and `ReadFault::Memory` when memory is refused.
 
 ghost use Rattle.std.specs.Prelude.{◌≡◌, ◌<◌, length, Err, IfOk, None, OnOk, Some};
 ghost use Rattle.json.specs.Json.{Json, Members, members, value};
@@ -13,7 +16,7 @@ use json::Reader;
 use serde_json::{Map, Value};
 use std::alloc::Global;
 
-/// One value, of which objects are trees down to the values that are kept.
+/// Reads one value. Objects become trees, down to the values that are stored as JSON text.
 #[cycle(read)]
 pub fn read(
     alloc: Global,
@@ -35,7 +38,7 @@ pub fn read(
     }
 }
 
-/// The rest of an object.
+/// Reads the rest of an object, after its opening bracket.
 #[cycle(read)]
 fn read_members(
     alloc: Global,
@@ -50,16 +53,16 @@ fn read_members(
     ensures err { result ≡ Err ReadFault.NotJson
         → members (value depth) (length reader.old) reader.old ≡ None }
 {
-    let mut found = Map::new(alloc);
+    let mut collected = Map::new(alloc);
     'members: while let Some(name) = reader.next_key()? {
         match part.named(name) {
             Some(inner) => {
                 let key = String::from_str(alloc, name)?;
                 let member = read(alloc, reader, depth, inner)?;
-                drop(found.insert(key, member)?);
+                drop(collected.insert(key, member)?);
             }
             None => reader.skip_value(depth)?,
         }
     }
-    Ok(found)
+    Ok(collected)
 }

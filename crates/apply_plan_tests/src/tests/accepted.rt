@@ -1,11 +1,11 @@
-//! What an accepted plan tells of its parts.
+//! The parts of an accepted plan.
 
 use super::plain::reads_as_plainly;
 use super::table::{cells, compare, first_line, push, put, rows};
 use super::*;
 use apply_plan::Change;
 
-/// What a change tells in texts: its address, the module, the resource, its type, the provider, and its name.
+/// The texts of a change: its address, module, resource, type, provider and name.
 fn texts_of(rt: &impl Abort, alloc: Global, change: &Change) -> &'static str {
     let texts = (
         change.address(),
@@ -18,7 +18,7 @@ fn texts_of(rt: &impl Abort, alloc: Global, change: &Change) -> &'static str {
     printed(rt, alloc, &texts)
 }
 
-/// What it tells in other values: its mode, its key, the deposed key, the prior id, and its steps.
+/// The other values of a change: its mode, key, deposed key, prior id and steps.
 fn values_of(rt: &impl Abort, alloc: Global, change: &Change) -> &'static str {
     let values = (
         change.mode(),
@@ -30,13 +30,13 @@ fn values_of(rt: &impl Abort, alloc: Global, change: &Change) -> &'static str {
     printed(rt, alloc, &values)
 }
 
-/// Adds all that a change tells.
+/// Adds all values of a change.
 fn push_parts(rt: &impl Abort, alloc: Global, line: &mut String, change: &Change) {
     push(rt, line, texts_of(rt, alloc, change));
     push(rt, line, values_of(rt, alloc, change));
 }
 
-/// The number of changes and the version of a plan, and all that its changes tell, in one line.
+/// One line with the number of changes, the version of the plan, and all values of its changes.
 fn parts_of(rt: &impl Abort, alloc: Global, plan: &Plan) -> &'static str {
     let mut line = String::new(alloc);
     let top = (plan.len(), plan.version());
@@ -47,8 +47,8 @@ fn parts_of(rt: &impl Abort, alloc: Global, plan: &Plan) -> &'static str {
     kept_text(rt, alloc, line)
 }
 
-/// Reads the plan that has the row's cell in the place of `CELL`, which the plain reader has to read alike, and compares
-/// what it tells.
+/// Reads the plan with the cell of the row in place of `CELL`, and compares its values. The plain
+/// reader must read the same.
 fn plan_tells(rt: &impl Abort, alloc: Global, told: &str, plan: &str, row: &str) {
     let (cell, wanted) = cells(rt, row);
     let text = put(rt, alloc, plan, "CELL", cell);
@@ -57,7 +57,7 @@ fn plan_tells(rt: &impl Abort, alloc: Global, told: &str, plan: &str, row: &str)
     compare(rt, cell, found, put(rt, alloc, told, "CELL", wanted));
 }
 
-/// The same for each row of a block: what its plans tell, and a plan, both with `CELL` in them, and what stands there.
+/// Compares each row of a block. A block has values and a plan, both with `CELL`, and cells.
 fn plans_tell(rt: &impl Abort, alloc: Global, block: &str) {
     let (told, rest) = first_line(rt, block);
     let (plan, table) = first_line(rt, rest);
@@ -66,8 +66,8 @@ fn plans_tell(rt: &impl Abort, alloc: Global, block: &str) {
     }
 }
 
-/// What plans tell, a plan, and rows of what stands in the place of `CELL` in the plan and in what it tells; an empty line
-/// stands between two.
+/// Blocks of values, a plan, and rows. Each row has the cell for the plan and the cell for the
+/// values. An empty line separates blocks.
 const PARTS: &str = r#"CELL
 {CELL,"terraform_version":"1.9.0","resource_changes":[{"address":"module.a[\"x.y\"].aws_instance.web[\"k\\\"1\"]","module_address":"module.a[\"x.y\"]","mode":"managed","type":"aws_instance","name":"web","index":"k\"1","change":{"actions":["create"]}}]}
 "format_version":"1.2" => (1, "1.9.0")("module.a[\"x.y\"].aws_instance.web[\"k\\\"1\"]", "module.a[\"x.y\"]", "aws_instance.web[\"k\\\"1\"]", "aws_instance", "aws", "web")(Managed, Name(Text { inner: "k\"1" }), None, None, [Create])
@@ -140,7 +140,7 @@ fn plans_tell_their_parts(rt: HostRuntime) {
     }
 }
 
-/// Two objects of one address, of which the second is deposed.
+/// Two objects with one address. The second is deposed.
 const DEPOSED: &str =
     r#"(2, "0.0.0")("a.b", "", "a.b", "a", "a", "b")(Managed, None, None, None, [Delete])("a.b", "", "a.b", "a", "a", "b")(Managed, None, Some("CELL"), None, [Delete])
 {"format_version":"1.2","resource_changes":[{"address":"a.b","mode":"managed","type":"a","name":"b","change":{"actions":["delete"]}},{"address":"a.b","deposed":"CELL","mode":"managed","type":"a","name":"b","change":{"actions":["delete"]}}]}

@@ -1,10 +1,11 @@
-//! As many changes as there may be, and a script with an entry for each.
+//! The greatest number of changes, and a script with an entry for each.
 
 use super::table::{listed, put};
 use super::*;
 
-/// A plan of 10,000 changes, and a script with an entry for each, the last change first, which takes as many seconds as its
-/// change has numbers before it.
+/// A plan of 10,000 changes, and a script with an entry for each, in reverse order.
+///
+/// The step of each change takes as many seconds as the number of the change.
 fn largest_script(rt: &impl Abort, alloc: Global) -> &'static Script {
     let element =
         r#"{"address":"a.aNUMBER","mode":"managed","type":"a","name":"aNUMBER","change":{"actions":["update"]}}"#;
@@ -17,7 +18,7 @@ fn largest_script(rt: &impl Abort, alloc: Global) -> &'static Script {
     script_of(rt, alloc, plan, script)
 }
 
-/// How long the step takes, where anything is said of it.
+/// The seconds of the step, if the script states its outcome.
 fn seconds_of(script: &Script, change: u32, step: u8) -> Option<u32> {
     match script.outcome(change, step) {
         Some(outcome) => Some(outcome.seconds),
@@ -25,7 +26,7 @@ fn seconds_of(script: &Script, change: u32, step: u8) -> Option<u32> {
     }
 }
 
-/// Whether the change's first step takes as many seconds, and nothing is said of the second.
+/// Whether the first step of the change takes these seconds, and the script states no second step.
 fn takes_its_number(script: &Script, change: u32) -> bool {
     seconds_of(script, change, 0) == Some(change) && seconds_of(script, change, 1).is_none()
 }

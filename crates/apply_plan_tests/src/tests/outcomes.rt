@@ -1,10 +1,11 @@
-//! What a script says of steps.
+//! The outcomes that a script states for steps.
 
 use super::table::{cells, compare, first_line, rows};
 use super::*;
 
-/// What the script says of the step, as `Debug` prints it: its seconds, how it ends, its provisioners, and what it waits for;
-/// and `default` where the script says nothing.
+/// The outcome of the step as `Debug` prints it: seconds, ending, provisioners and waits.
+///
+/// A step without an outcome in the script gives `default`.
 pub fn said(
     rt: &impl Abort,
     alloc: Global,
@@ -26,7 +27,7 @@ pub fn said(
     }
 }
 
-/// What the script says of the step, by the numbers of its change and of the step in it.
+/// The outcome of a step, by the number of its change and its number in the change.
 fn said_at(
     rt: &impl Abort,
     alloc: Global,
@@ -39,7 +40,7 @@ fn said_at(
     said(rt, alloc, script, change, step)
 }
 
-/// Compares what the script says of each row's change and step.
+/// Compares the outcome of the step of each row.
 fn steps_are_said(rt: &impl Abort, alloc: Global, script: &Script, table: &str) {
     for row in rows(rt, table) {
         let (change, rest) = cells(rt, row);
@@ -48,17 +49,19 @@ fn steps_are_said(rt: &impl Abort, alloc: Global, script: &Script, table: &str) 
     }
 }
 
-/// The same of a block: a plan, a script, and rows.
+/// Compares a block: a plan, a script, and rows.
 fn script_says(rt: &impl Abort, alloc: Global, block: &str) {
     let (plan, rest) = first_line(rt, block);
     let (script, table) = first_line(rt, rest);
     steps_are_said(rt, alloc, script_of(rt, alloc, plan, script), table);
 }
 
-/// Plans, scripts, and what is said by the numbers of the changes, and of the steps in them; an empty line stands between two.
-/// The first plan has five changes: an update, a replacement, a deposed object at the address of the update, a change of
-/// nothing, and a create. Its script is in another order, with nothing of the third change. In the second the deposed object
-/// is named, in the third nothing. In the last an update waits for a replacement that creates first: a text names its last step.
+/// Blocks of a plan, a script, and outcomes by the numbers of change and step.
+///
+/// - The first plan has an update, a replacement, a deposed object at the address of the update, a
+///   no-op, and a create. Its script has another order and no entry for the third change.
+/// - The second script names the deposed object, and the third names nothing.
+/// - In the last, an update waits for a replacement that creates first. A text names its last step.
 const SAID: &str =
     r#"{"format_version":"1.2","resource_changes":[{"address":"a.a","mode":"managed","type":"a","name":"a","change":{"actions":["update"]}},{"address":"a.b","mode":"managed","type":"a","name":"b","change":{"actions":["delete","create"]}},{"address":"a.a","deposed":"00000001","mode":"managed","type":"a","name":"a","change":{"actions":["delete"]}},{"address":"a.c","mode":"managed","type":"a","name":"c","change":{"actions":["no-op"]}},{"address":"a.d","mode":"managed","type":"a","name":"d","change":{"actions":["create"]}}]}
 {"changes":[{"address":"a.d","steps":[{"seconds":5,"failed":{"summary":"boom","detail":"why"}}]},{"address":"a.c","steps":[]},{"address":"a.b","deposed":"","steps":[{"seconds":1},{"seconds":86400,"id":"42","warning":{"summary":"slow","detail":"very"}}]},{"address":"a.a","steps":[{"seconds":3,"id":"i-1"}]}]}
@@ -108,7 +111,7 @@ fn a_script_says_what_is_written(rt: HostRuntime) {
     }
 }
 
-/// What a script says that was not read.
+/// The results for the empty script.
 const NOTHING: &str = r#"
 0 => 0 => default
 1 => 1 => default

@@ -1,10 +1,10 @@
-//! Objects of a diagnostic that are kept as they stand.
+//! Objects of a diagnostic that are read as raw JSON text.
 
 use super::tells::scripts_tell;
 use super::*;
 
-/// Scripts with a range, alone or behind a snippet, and what is kept of both: numbers and members stay as they stand, and
-/// blanks go.
+/// Ranges, alone or after a snippet, and the raw text of both. Numbers and members stay as written,
+/// and blanks go.
 const RANGES: &str = r#"said
 (0, Failed { diag: Diag { summary: Text { inner: "boom" }, detail: Text { inner: "" }, range: CELL, snippet: None } }, Provisioners { provisioners: [] }, Waits { waits: [] })
 {"format_version":"1.2","terraform_version":"1.9.0","resource_changes":[{"address":"null_resource.a","mode":"managed","type":"null_resource","name":"a","change":{"actions":["create"]}}]}
@@ -29,7 +29,7 @@ null => None
 {"a":1},"range":null => None
 {"a":1},"range":{"a":1.00} => Some(Text { inner: "{\"a\":1.00}" })"#;
 
-/// Compares what is kept as the range and as the snippet of each row's object.
+/// Compares the raw text of the range and the snippet of each row.
 #[test]
 fn ranges_and_snippets_are_kept_as_they_stand(rt: HostRuntime) {
     scripts_tell(&rt, rt.alloc(), RANGES);

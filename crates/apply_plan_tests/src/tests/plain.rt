@@ -1,7 +1,7 @@
-//! Reading a plan as the definition says it: from the whole tree, each element by itself, in a plan of its own, and
-//! compared with every one before it. Slow and plain; tests compare the reader with it.
+//! A plain and slow reader of plans, for comparison.
 //!
-//! What was read is handed on as a text, in lines: that is proved sooner than where values are handed on, and dropped.
+//! It reads the whole tree, takes each element in a plan of its own, and compares it with every
+//! earlier element. Results are lines of text: proofs are faster than for values that are dropped.
 
 use super::table::{compare, push, put};
 use super::*;
@@ -11,12 +11,12 @@ use apply_json_tree::parse;
 use apply_plan::{Change, MAX_BYTES, MAX_CHANGES, PlanError};
 use serde_json::Value;
 
-/// What the reader answers to a text.
+/// The result of the reader for a text.
 fn answer_to(rt: &impl Abort, alloc: Global, text: &str) -> &'static Result<Plan, PlanError> {
     kept(rt, alloc, read_plan(alloc, text.as_bytes()))
 }
 
-/// The object of a change in a line of its own, which stands in no lines of other changes.
+/// A line for the object of a change. No line of another change contains it.
 fn object_of(rt: &impl Abort, alloc: Global, change: &Change) -> &'static str {
     let address = change.address();
     let deposed = change.deposed();
@@ -24,13 +24,13 @@ fn object_of(rt: &impl Abort, alloc: Global, change: &Change) -> &'static str {
     kept_text(rt, alloc, line.expect(rt, "memory"))
 }
 
-/// Adds a change: the line of its object, and one of all that it is.
+/// Adds a change: the line of its object, and a line of all its values.
 fn push_change(rt: &impl Abort, alloc: Global, lines: &mut String, change: &Change) {
     push(rt, lines, object_of(rt, alloc, change));
     push(rt, lines, printed(rt, alloc, change));
 }
 
-/// The plan in lines: its version, and two for each change.
+/// The lines of a plan: its version, and two lines for each change.
 fn lines_of(rt: &impl Abort, alloc: Global, plan: &Plan) -> &'static str {
     let mut lines = String::new(alloc);
     push(rt, &mut lines, printed(rt, alloc, &plan.version()));
@@ -40,7 +40,7 @@ fn lines_of(rt: &impl Abort, alloc: Global, plan: &Plan) -> &'static str {
     kept_text(rt, alloc, lines)
 }
 
-/// The plan in lines, or the text of the refusal.
+/// The lines of the plan, or the message of the error.
 fn told(rt: &impl Abort, alloc: Global, answer: &Result<Plan, PlanError>) -> &'static str {
     match answer {
         Ok(plan) => lines_of(rt, alloc, plan),
@@ -48,7 +48,7 @@ fn told(rt: &impl Abort, alloc: Global, answer: &Result<Plan, PlanError>) -> &'s
     }
 }
 
-/// The fault of an element that stood alone, with the number that it has among the others.
+/// The fault of an element in a plan of its own, with its number in the whole plan.
 fn numbered(error: PlanError, number: u32) -> PlanError {
     match error {
         PlanError::BadChange(_) => PlanError::BadChange(number),
@@ -58,14 +58,14 @@ fn numbered(error: PlanError, number: u32) -> PlanError {
     }
 }
 
-/// What the reader answers to the element in a plan of its own.
+/// The result of the reader for the element in a plan of its own.
 fn alone(rt: &impl Abort, alloc: Global, element: &Value) -> &'static Result<Plan, PlanError> {
     let plan = r#"{"format_version":"1.0","resource_changes":[CELL]}"#;
     let plan = put(rt, alloc, plan, "CELL", shown(rt, alloc, element));
     answer_to(rt, alloc, plan)
 }
 
-/// Adds the only change of a plan to the lines. It is at fault where a change before it is of the same object.
+/// Adds the only change of a plan to the lines. An earlier change of the same object is a fault.
 fn fault_of_change(
     rt: &impl Abort,
     alloc: Global,
@@ -84,7 +84,7 @@ fn fault_of_change(
     }
 }
 
-/// The fault of the element; where it has none, its change is added to the lines.
+/// The fault of the element. Without a fault its change is added to the lines.
 fn fault_of(
     rt: &impl Abort,
     alloc: Global,
@@ -98,7 +98,7 @@ fn fault_of(
     }
 }
 
-/// The fault of so many elements, whatever they are.
+/// The fault of this number of elements, whatever they contain.
 fn fault_of_count(count: usize) -> Option<PlanError> {
     if count > MAX_CHANGES {
         Some(PlanError::TooMany)
@@ -107,7 +107,7 @@ fn fault_of_count(count: usize) -> Option<PlanError> {
     }
 }
 
-/// What a plan of that version and these elements is, in lines, or the text of the first fault.
+/// The lines of a plan with this version and these elements, or the message of the first fault.
 fn told_of(rt: &impl Abort, alloc: Global, version: &str, elements: &[Value]) -> &'static str {
     let mut lines = String::new(alloc);
     push(rt, &mut lines, printed(rt, alloc, &version));
@@ -138,7 +138,7 @@ fn header_of(tree: &Value) -> Option<(&str, &[Value])> {
     }
 }
 
-/// What the tree is as a plan.
+/// The result for a tree.
 fn told_of_tree(rt: &impl Abort, alloc: Global, tree: &Value) -> &'static str {
     match header_of(tree) {
         Some((version, elements)) => told_of(rt, alloc, version, elements),
@@ -146,7 +146,7 @@ fn told_of_tree(rt: &impl Abort, alloc: Global, tree: &Value) -> &'static str {
     }
 }
 
-/// Why what is no tree is no plan.
+/// The message for bytes without a tree.
 fn refusal_for(fault: JsonFault) -> PlanError {
     match fault {
         JsonFault::TooLarge => PlanError::TooLarge,
@@ -155,7 +155,7 @@ fn refusal_for(fault: JsonFault) -> PlanError {
     }
 }
 
-/// What the text is as a plan, from a tree that holds all of it.
+/// The result for a text, from its whole tree.
 fn told_plainly(rt: &impl Abort, alloc: Global, text: &str) -> &'static str {
     match kept(rt, alloc, parse(alloc, text.as_bytes(), MAX_BYTES)) {
         Ok(tree) => told_of_tree(rt, alloc, tree),
@@ -163,8 +163,9 @@ fn told_plainly(rt: &impl Abort, alloc: Global, text: &str) -> &'static str {
     }
 }
 
-/// Fails where the reader and the plain reader answer the text as a plan otherwise. What they answer: `accepted`, or the
-/// text of the refusal.
+/// Fails if the reader and the plain reader differ for the text.
+///
+/// Gives `accepted`, or the message of the error.
 pub fn reads_as_plainly(rt: &impl Abort, alloc: Global, text: &str) -> &'static str {
     let answer = answer_to(rt, alloc, text);
     let told = told(rt, alloc, answer);

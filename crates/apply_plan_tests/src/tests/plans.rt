@@ -1,11 +1,15 @@
-//! Which plans are accepted, and what the others are refused with: each member absent, `null`, of each wrong type, empty, and of
-//! values that are refused or not; of two faults the first; and what nobody looks at, which is JSON all the same.
+//! Accepted plans, and the errors of other plans.
+//!
+//! Each member is absent, `null`, empty, of each wrong type, and of valid and invalid values. Of
+//! two faults the first is reported. Ignored members must be JSON too.
 
 use super::table::{listed, plans_are_answered, put};
 use super::*;
 
-/// Plans with `CELL` in them, a line of a colon, and rows of what stands there and what is answered; an empty line stands
-/// between two. In the place of `NUMBERS` stand 10,000 numbers: what stands behind one more element is left out.
+/// Blocks of a plan with `CELL`, a line with a colon, and rows of a cell and the result.
+///
+/// An empty line separates blocks. `NUMBERS` stands for 10,000 numbers: anything after one more
+/// element is left out.
 const PLANS: &str = r#"CELL
 :
 [] => the plan is not a plan of format 1.x
@@ -303,7 +307,7 @@ tru => the plan is not JSON
 5],"resource_changes":[5 => change 0 is malformed
 5],"format_version":["2.0" => the plan is not a plan of format 1.x"#;
 
-/// Compares the answers to the plans of a block, with these numbers in the place of `NUMBERS`.
+/// Compares the results for the plans of a block, with these numbers in place of `NUMBERS`.
 fn block_is_answered(rt: &impl Abort, alloc: Global, numbers: &str, block: &str) {
     let (plans, table) = block.split_once("\n:\n").expect(rt, block);
     for plan in plans.lines() {

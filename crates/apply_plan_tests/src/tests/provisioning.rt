@@ -1,22 +1,22 @@
-//! What a script says of provisioners, and which of them run.
+//! Provisioners of a script, and which of them run.
 
 use super::table::{compare, listed, put};
 use super::*;
 use apply_plan::{Outcome, StepKind};
 
-/// What is said of the only step.
+/// The outcome of the only step.
 fn only_outcome<'a>(rt: &impl Abort, script: &'a Script) -> &'a Outcome {
     script.outcome(0, 0).expect(rt, "nothing is said")
 }
 
-/// How long the only step takes, with its provisioners.
+/// The seconds of the only step, with its provisioners.
 pub fn seconds_taken(rt: &impl Abort, script: &Script) -> u32 {
     let outcome = script.outcome(0, 0).expect(rt, "nothing is said");
     outcome.took(StepKind::Create)
 }
 
-/// What comes of the only step, as `Debug` prints it: how long it takes, how many of its provisioners run, why it fails, where
-/// it does, and whether it does.
+/// The end of the only step as `Debug` prints it: its seconds, how many provisioners run, its
+/// failure if any, and whether it fails.
 pub fn comes(rt: &impl Abort, alloc: Global, script: &Script) -> &'static str {
     let outcome = only_outcome(rt, script);
     let comes = (
@@ -28,7 +28,7 @@ pub fn comes(rt: &impl Abort, alloc: Global, script: &Script) -> &'static str {
     printed(rt, alloc, &comes)
 }
 
-/// A script with as many provisioners as there may be, each of which puts out as much as it may.
+/// A script with the most provisioners, each with the most outputs.
 fn most_provisioners(rt: &impl Abort, alloc: Global) -> &'static Script {
     let output = listed(rt, alloc, 100, false, r#""hi""#);
     let one = r#"{"provisioner":"a","seconds":10800,"output":[CELL]}"#;
@@ -39,7 +39,7 @@ fn most_provisioners(rt: &impl Abort, alloc: Global) -> &'static Script {
     script_of(rt, alloc, ONE_CREATE, put(rt, alloc, script, "CELL", eight))
 }
 
-/// Fails where the only step has not the most provisioners, or the last of them puts out less, or another text at last.
+/// Fails unless the step has the most provisioners, and the last one the most outputs.
 fn has_the_most(rt: &impl Abort, script: &Script) {
     holds(rt, "a day", seconds_taken(rt, script) == 86_400);
     let provisioners = &only_outcome(rt, script).provisioners;
@@ -49,7 +49,7 @@ fn has_the_most(rt: &impl Abort, script: &Script) {
     compare(rt, "the last", output.get(99).text.as_str(), "hi");
 }
 
-/// As many provisioners as there may be, each of which puts out as much as it may.
+/// The most provisioners, each with the most outputs.
 #[test]
 fn the_most_provisioners_are_kept(rt: HostRuntime) {
     has_the_most(&rt, most_provisioners(&rt, rt.alloc()));

@@ -1,17 +1,17 @@
-//! Steps that a script skips: what it says of them, and what they name.
+//! Skipped steps: their outcomes, and the steps that they wait for.
 
 use super::*;
 
-/// A plan of one change, which replaces `null_resource.a`, and one that creates `null_resource.b`.
+/// A plan that replaces `null_resource.a` and creates `null_resource.b`.
 const REPLACE_CREATE: &str =
     r#"{"format_version":"1.2","resource_changes":[{"address":"null_resource.a","mode":"managed","type":"null_resource","name":"a","change":{"actions":["delete","create"]}},{"address":"null_resource.b","mode":"managed","type":"null_resource","name":"b","change":{"actions":["create"]}}]}"#;
 
-/// A script that skips the second step of the replacement, which names the other change twice.
+/// A script that skips the second step of the replacement. This step names the other change twice.
 const NAMED_TWICE: &str =
     r#"{"changes":[{"address":"null_resource.a","steps":[{"seconds":0},{"skipped":true,"after":["null_resource.b","null_resource.b"]}]}]}"#;
 
-/// What the script says of the first change, as `Debug` prints it: of both steps, the first that is skipped, and whether it
-/// has waits.
+/// The script for the first change as `Debug` prints it: both steps, the first skipped step, and
+/// whether the script has waits.
 pub fn said(rt: &impl Abort, alloc: Global, script: &Script) -> &'static str {
     let said = (
         script.outcome(0, 0),
@@ -22,7 +22,7 @@ pub fn said(rt: &impl Abort, alloc: Global, script: &Script) -> &'static str {
     printed(rt, alloc, &said)
 }
 
-/// The script names steps for the second step of the replacement, skipped or not.
+/// The second step of the replacement waits for the named steps, skipped or not.
 #[test]
 fn a_skipped_step_names_steps(rt: HostRuntime) {
     let script = script_of(&rt, rt.alloc(), REPLACE_CREATE, NAMED_TWICE);

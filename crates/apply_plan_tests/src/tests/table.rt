@@ -1,36 +1,36 @@
-//! Tables as texts: a row a line, its cells set apart by ` => `, and in the last cell what is to be found.
+//! Tables as texts: one row per line, cells separated by ` => `, the wanted result last.
 //!
-//! A test is proved before it runs. The prover reads one text at once, and takes minutes for an array of as many rows.
-//! It also takes long where many values are dropped at many places, so these functions are short and keep little, and end
-//! the test at once where memory is refused.
+//! A test is proved before it runs. The prover reads one text at once, but takes minutes for an
+//! array of as many rows. It is also slow if many values are dropped at many places. So these
+//! functions are short, store little, and end the test at once if memory is refused.
 
 use super::plain::reads_as_plainly;
 use super::*;
 use std::str::Lines;
 
-/// The rows of a table, which has one at least.
+/// The rows of a table. A table must have a row.
 pub fn rows<'a>(rt: &impl Abort, table: &'a str) -> Lines<'a> {
     let table = table.trim();
     holds(rt, "a table has a row", !table.is_empty());
     table.lines()
 }
 
-/// What stands before the first mark of a row, and behind it.
+/// Splits a row at its first mark.
 pub fn cells<'a>(rt: &impl Abort, row: &'a str) -> (&'a str, &'a str) {
     row.split_once(" => ").expect(rt, row)
 }
 
-/// The first line of a block, and the lines behind it.
+/// The first line of a block, and the lines after it.
 pub fn first_line<'a>(rt: &impl Abort, block: &'a str) -> (&'a str, &'a str) {
     block.split_once("\n").expect(rt, block)
 }
 
-/// Adds more to a text.
+/// Adds `more` to a text.
 pub fn push(rt: &impl Abort, text: &mut String, more: &str) {
     text.push_str(more).expect(rt, "memory");
 }
 
-/// The text with another one in each place of the mark.
+/// The text with `other` in place of each mark.
 pub fn put(rt: &impl Abort, alloc: Global, text: &str, mark: &str, other: &str) -> &'static str {
     kept_text(
         rt,
@@ -39,7 +39,7 @@ pub fn put(rt: &impl Abort, alloc: Global, text: &str, mark: &str, other: &str) 
     )
 }
 
-/// Adds the text to a list, with the number in the place of `NUMBER`.
+/// Adds the text to a list, with the number in place of `NUMBER`.
 fn push_numbered(rt: &impl Abort, alloc: Global, list: &mut String, text: &str, number: u32) {
     if !list.is_empty() {
         push(rt, list, ",");
@@ -48,7 +48,9 @@ fn push_numbered(rt: &impl Abort, alloc: Global, list: &mut String, text: &str, 
     push(rt, list, put(rt, alloc, text, "NUMBER", digits));
 }
 
-/// So many texts with commas between them, each with its number, from 0 on, in the place of `NUMBER`; or the last one first.
+/// `count` texts with commas between them, each with its number in place of `NUMBER`.
+///
+/// Numbers count from 0. `is_reversed` puts the last text first.
 pub fn listed(
     rt: &impl Abort,
     alloc: Global,
@@ -65,13 +67,13 @@ pub fn listed(
     kept_text(rt, alloc, list)
 }
 
-/// Fails where another text was found in the row of that cell.
+/// Fails if the text for the row of this cell is not the wanted one.
 pub fn compare(rt: &impl Abort, cell: &str, found: &str, wanted: &str) {
     assert!(rt; found == wanted, "at {cell}: {found}");
 }
 
-/// For each row, reads the plan that has the first cell in the place of `CELL`, and compares the answer. The plain
-/// reader has to agree.
+/// For each row, reads the plan with the first cell in place of `CELL`, and compares the result.
+/// The plain reader must agree.
 pub fn plans_are_answered(rt: &impl Abort, alloc: Global, plan: &str, table: &str) {
     for row in rows(rt, table) {
         let (cell, wanted) = cells(rt, row);

@@ -1,4 +1,4 @@
-//! What scripts tell of the first change's steps, and which entries never begin.
+//! Outcomes of the steps of the first change, and entries with a step that can never start.
 
 use super::outcomes::said;
 use super::provisioning::comes;
@@ -6,10 +6,15 @@ use super::table::{cells, compare, first_line, put, rows};
 use super::*;
 use apply_plan::never_beginning;
 
-/// What is asked, what is told, a plan, a script, and rows of what stands in the place of `CELL` in the script and in what is
-/// told; an empty line stands between two. `said` asks what is said of the first step, `comes` what comes of it, `steps` what
-/// is said of a replacement, `waits` whether any step waits for one, and `never` which entries never begin, all of them. In the
-/// script for that `t.b` and `t.d` wait for each other, `t.a` for `t.b`, and `t.c` for itself; `t.e` waits for nothing.
+/// Blocks of a question, a result, a plan, a script, and rows. An empty line separates blocks.
+///
+/// Each row has the cells in place of `CELL` in the script and in the result. The questions are:
+/// - `said`: the outcome of the first step in the script.
+/// - `comes`: how the first step ends.
+/// - `steps`: the outcomes of a replacement.
+/// - `waits`: whether any step waits for another.
+/// - `never`: all entries with a step that can never start. In its script `t.b` and `t.d` wait for
+///   each other, `t.a` for `t.b`, and `t.c` for itself. `t.e` waits for nothing.
 const TELLS: &str = r#"said
 (CELL, Provisioners { provisioners: [] }, Waits { waits: [] })
 {"format_version":"1.2","resource_changes":[{"address":"null_resource.a","mode":"managed","type":"null_resource","name":"a","change":{"actions":["delete"]}}]}
@@ -124,7 +129,7 @@ CELL
 {"changes":[]} => Ok([])
 [] => Err(the script is malformed)"#;
 
-/// What the script tells of that.
+/// The result for a question to a script.
 fn told(rt: &impl Abort, alloc: Global, what: &str, script: &Script) -> &'static str {
     match what {
         "said" => said(rt, alloc, script, 0, 0),
@@ -134,18 +139,18 @@ fn told(rt: &impl Abort, alloc: Global, what: &str, script: &Script) -> &'static
     }
 }
 
-/// A word for that.
+/// The word for a boolean.
 fn yes_or_no(is_so: bool) -> &'static str {
     if is_so { "yes" } else { "no" }
 }
 
-/// The numbers of the entries that never begin, or why the text is refused.
+/// The numbers of the entries with a step that can never start, or the message of the error.
 fn never(rt: &impl Abort, alloc: Global, plan: &Plan, text: &str) -> &'static str {
     let numbers = never_beginning(alloc, text.as_bytes(), plan);
     printed(rt, alloc, kept(rt, alloc, numbers))
 }
 
-/// What the text tells of that.
+/// The result for a question to the text of a script.
 fn answer(rt: &impl Abort, alloc: Global, what: &str, plan: &str, text: &str) -> &'static str {
     match what {
         "never" => never(rt, alloc, plan_of(rt, alloc, plan), text),
@@ -153,7 +158,7 @@ fn answer(rt: &impl Abort, alloc: Global, what: &str, plan: &str, text: &str) ->
     }
 }
 
-/// Fails where a script of the block tells otherwise.
+/// Fails if a script of the block gives another result.
 fn block_tells(rt: &impl Abort, alloc: Global, block: &str) {
     let (what, rest) = first_line(rt, block);
     let (told, rest) = first_line(rt, rest);
@@ -167,7 +172,7 @@ fn block_tells(rt: &impl Abort, alloc: Global, block: &str) {
     }
 }
 
-/// Fails where a script of one of the blocks tells otherwise.
+/// Fails if a script of one of the blocks gives another result.
 pub fn scripts_tell(rt: &impl Abort, alloc: Global, blocks: &str) {
     for block in blocks.split("\n\n") {
         block_tells(rt, alloc, block);

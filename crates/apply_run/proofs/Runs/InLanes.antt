@@ -8,11 +8,11 @@ use Rattle.apply_writer.specs.declared.fault.Fault.{Fault}
 use Rattle.apply_writer.specs.declared.why.Why.TheVariants.{Memory, Write}
 use Rattle.apply_writer.specs.Stream.Ended.{IsCutOff, IsFaulted}
 use Rattle.apply_run.specs.Lanes.{HasFailedInFormAndLanes}
-use Rattle.apply_run.specs.Run.{Sight}
+use Rattle.apply_run.specs.Run.{SinkState}
 use Rattle.apply_writer.specs.Stream.Form.{StreamForm, lines_in, stream_in}
 
 -- a write failed, or memory was refused for a line
-pub faulted_in_lanes : (form : StreamForm) (work : Work) (lanes : ℕ) (fault : Fault) (before after : Sight) (events : List Event) → IsTimeLine work lanes events
+pub faulted_in_lanes : (form : StreamForm) (work : Work) (lanes : ℕ) (fault : Fault) (before after : SinkState) (events : List Event) → IsTimeLine work lanes events
     → IsFaulted form events fault before.bytes after.bytes before.failed after.failed → HasFailedInFormAndLanes fault.why form work lanes fault.report before after
 faulted_in_lanes form work lanes fault before after events line h = ⊎_elim
     (λ (w : (fault.why ≡ Write) × IsCutOff form.plan events (stream_in form events) fault.report before.bytes after.bytes (before.failed + 1) after.failed).

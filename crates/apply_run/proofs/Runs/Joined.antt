@@ -1,4 +1,4 @@
--- What the joins of all workers tell.
+-- What is known once all workers were joined.
 use Rattle.std.proofs.Common.{◌≡◌, ◌≢◌, ℕ, zero, suc, ◌+◌, ◌<◌, true, false, List, [], ◌∷◌, All, cond, length, get_or, map, refl, sym, ap, ◌∙◌, subst, ⊎_elim, add-zero, arith}
 use Rattle.std.proofs.lemmas.Bool.{eq-eqb, ne_eqb}
 use Rattle.std.proofs.lemmas.Bool.Decides.{eqb_tells}
@@ -98,7 +98,7 @@ pub applied_in_part : (work : Work) (claims : ClaimsName) (taken : List Item) (d
     → NamesWorkersBelow claims.workers taken → EachAt (IsReconciled work taken) drawings → (m : ℕ) → IsDealtOut claims drawings m → IsAppliedInPart work claims.workers (lists_drawn drawings) (events taken)
 applied_in_part work claims taken drawings some count limit named h m dealt = record {
   dealt_out = dealt_out work claims taken drawings (omega arith) limit h m dealt;
-  told = record {
+  interleaved = record {
     named = named;
     parts = λ w low.
         let first = blank claims in let here : w < length drawings = omega arith in
@@ -111,7 +111,7 @@ pub applied : (work : Work) (claims : ClaimsName) (taken : List Item) (drawings 
     → IsApplied work claims.workers (lists_drawn drawings) (events taken)
 applied work claims taken drawings some count limit named h whole m dealt = record {
   dealt_out = dealt_out work claims taken drawings (omega arith) limit h m dealt;
-  told = record {
+  interleaved = record {
     named = named;
     parts = λ w low.
         let first = blank claims in let here : w < length drawings = omega arith in

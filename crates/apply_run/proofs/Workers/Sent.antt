@@ -7,7 +7,7 @@ use Rattle.apply_plan.specs.Plan.SavedPlan.{SavedPlan}
 use Rattle.apply_events.specs.declared.event.Event.{Event}
 use Rattle.apply_events.specs.Fits.{IsOfPlan}
 
--- behind what was sent before, a part was sent, of events of the plan; with the rest it is all
+-- after what was sent before, a part was sent, of events of the plan; with the rest it is all
 pub record IsSentBefore (plan : SavedPlan) (before sent rest all : List Event) : Type 0 where
   pub part : List Event
   pub sent_is : sent ≡ before ++ part

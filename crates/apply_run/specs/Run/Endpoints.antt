@@ -5,8 +5,8 @@ use Rattle.apply_bus.specs.Claims.{ClaimsName}
 use Rattle.apply_run.specs.declared.run.prepared.Endpoints.{Endpoints}
 use Rattle.apply_run.specs.Run.Threads.{EachAt, IsNewDrawer, IsNewSender}
 
--- a new drawer and a new sender for each worker, in their order, and a new receiver, with room for what the workers
--- leave behind
+-- a new drawer and a new sender for each worker, in their order; a new receiver; and room for what
+-- the workers return
 pub record AreReady (claims : ClaimsName) (bus : BusName) (endpoints : Endpoints) : Type 0 where
   pub some : 0 < claims.workers
   pub drawers : EachAt (IsNewDrawer claims) endpoints.drawers.items

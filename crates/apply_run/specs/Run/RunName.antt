@@ -1,4 +1,4 @@
--- Work that nobody does, for a run that has no name yet.
+-- Work without any change, for a run that has no name yet.
 use Rattle.std.specs.Prelude.{[]}
 use Rattle.apply_events.specs.Step.{Work}
 

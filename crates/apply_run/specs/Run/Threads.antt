@@ -10,11 +10,11 @@ use Rattle.apply_plan.specs.Script.OutcomeMap.{OutcomeMap}
 use Rattle.apply_run.specs.declared.run.threads.WorkerPromise.{WorkerPromise}
 use Rattle.apply_run.specs.declared.worker.StoppedWorker.{StoppedWorker}
 
--- the fact holds of each item of a list and its place
+-- the fact holds of each item of the list, with its index
 abbrev pub EachAt : {X : Type 0} → (ℕ → X → Type 0) → List X → Type 0
 EachAt {X} F xs = (k : ℕ) (x : X) → k < length xs → F k (get_or xs k x)
 
--- the work is this plan, this script and these hooks, and these claims are on the plan's changes
+-- the work is this plan, this script and these hooks, and the claims are on the plan's changes
 pub record IsRun (work : Work) (name : ClaimsName) (plan : SavedPlan) (script : OutcomeMap) (hooks : List (List Rule))
     (claims : ClaimsName) : Type 0 where
   pub work_is : record { plan = plan; script = script; hooks = hooks } ≡ work
@@ -28,6 +28,6 @@ IsNewDrawer claims worker drawer = drawer ≡ record { claims = claims; worker =
 abbrev pub IsNewSender : BusName → ℕ → Sender → Type 0
 IsNewSender bus worker sender = (sender.bus ≡ bus) × (sender.worker ≡ worker) × (sender.sent ≡ [])
 
--- the thread is that of the worker
+-- the thread is that of this worker
 abbrev pub IsThreadOf : {K : Type 0} → ℕ → PromisedHandle StoppedWorker (WorkerPromise K) → Type 0
 IsThreadOf worker thread = thread.promise.worker ≡ worker

@@ -2,7 +2,7 @@
 use Rattle.std.specs.Prelude.{ℕ, ◌<◌, List, All}
 use Rattle.std.specs.List.Sorted.{IsStrictlyIncreasing}
 
--- they rise, and stay below the limit
+-- the numbers rise, and stay below the limit
 pub record IsDrawn (limit : ℕ) (numbers : List ℕ) : Type 0 where
   pub rising : IsStrictlyIncreasing numbers
   pub below : All (λ number. number < limit) numbers

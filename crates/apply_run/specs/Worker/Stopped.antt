@@ -11,7 +11,7 @@ use Rattle.apply_run.specs.declared.worker.SenderEnd.{SenderEnd}
 use Rattle.apply_run.specs.declared.worker.SenderEnd.TheVariants.{Closed, Open}
 use Rattle.apply_run.specs.declared.worker.StoppedWorker.{StoppedWorker}
 
--- a sender at its end, as the bus sees it
+-- the sender of a worker that has stopped, as the bus sees it
 abbrev pub sender_of : SenderEnd → bus.Sender
 sender_of (Closed closed) = closed
 sender_of (Open tx) = tx
@@ -20,8 +20,9 @@ abbrev pub is_closed : SenderEnd → Bool
 is_closed (Closed closed) = true
 is_closed (Open tx) = false
 
--- the worker of these claims and of this bus has sent a prefix of the events of the changes that it drew, each an event
--- of the plan; where it closed its sender, it has met the end of the changes and sent all of their events
+-- the worker of these claims and this bus has sent a prefix of the events of the changes that it
+-- drew, each an event of the plan. If it closed its sender, no change was left, and it has sent all
+-- of their events
 pub record IsStoppedWorker (work : Work) (claims : ClaimsName) (bus : bus.BusName) (worker : ℕ)
     (stopped : StoppedWorker) : Type 0 where
   pub drawer_claims : stopped.drawer.claims ≡ claims

@@ -1,4 +1,4 @@
-//! What a run takes memory for before its threads start.
+//! What a run allocates before its threads start.
 
 ghost use Rattle.std.specs.Prelude.{◌≡◌, IfErr, IfOk};
 ghost use Rattle.apply_bus.specs.Bus.{new_senders};
@@ -10,7 +10,7 @@ use crate::worker::StoppedWorker;
 use apply_bus::{BusError, Claims, Drawer, Rx, Tx, open};
 use std::alloc::Global;
 
-/// What workers and the collector hold of the claims and of the bus of a run.
+/// What the workers and the collector hold of the claims and of the bus.
 #[derive(Drop)]
 pub(crate) struct Endpoints {
     /// A drawer for each worker.
@@ -18,11 +18,11 @@ pub(crate) struct Endpoints {
     /// A sender for each worker.
     pub senders: Vec<Tx>,
     pub rx: Rx,
-    /// Room for what each worker leaves behind.
+    /// Room for what each worker returns.
     pub stopped: Vec<StoppedWorker>,
 }
 
-/// What a run of any form takes memory for before its threads start, but for the list of these threads.
+/// What a run allocates before its threads start, apart from the list of threads.
 #[derive(Drop)]
 pub(crate) struct Prepared {
     pub claims: Claims,
@@ -30,7 +30,8 @@ pub(crate) struct Prepared {
 }
 
 impl Prepared {
-    /// For so many changes; the bus holds as many items as the options say. `Err` where memory is refused.
+    /// Prepares a run over so many changes. The bus holds as many items as the options state. `Err`
+    /// if memory is refused.
     pub fn new(alloc: Global, options: Options, changes: u32) -> Result<Prepared, BusError>
         requires { IsInRange options }
         ensures claims { IfOk result (λ ready. (ready.claims.limit ≡ changes) × (ready.claims.workers ≡ options.workers)) }

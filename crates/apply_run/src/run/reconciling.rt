@@ -1,4 +1,4 @@
-//! What the workers have sent and drawn, held against what was taken.
+//! Compares what the workers drew and sent with what was taken.
 
 ghost use Rattle.std.specs.Prelude.{◌≡◌, ◌++◌, ◌∷◌, ◌<◌, ℕ, List, [], All, length, slice_index_or, true};
 ghost use mathlib.Core.List.{IsPrefix};
@@ -13,13 +13,15 @@ ghost use Rattle.apply_run.specs.Worker.Stopped.{sender_of, is_closed, IsStopped
 
 use crate::run::run_name::RunName;
 use crate::worker::{SenderEnd, StoppedWorker};
-use apply_bus::{Claims, Drawer, Gathering, Taken};
+use apply_bus::{Claims, Drawer, DrawerJoin, Taken};
 use apply_events::{
     a_rising_list_fits_below_its_limit, a_rising_list_rises_on, workers_in_order_stand_once,
 };
 
-/// Joins the drawers and senders of workers whose threads have ended, and says whether all that they had to send was taken.
-/// Numbers that none of them drew are drawn for them, so that all changes are dealt out.
+/// Joins the drawers and senders of workers whose threads have ended. Returns whether all that the
+/// workers had to send was taken.
+///
+/// Numbers that nobody drew are drawn here, so that every change is dealt to a worker.
 pub(crate) fn reconcile<K: RunName>(
     claims: &Claims,
     mut taken: Taken,
@@ -36,15 +38,15 @@ pub(crate) fn reconcile<K: RunName>(
     ensures fits { All (IsOfPlan K.work.plan) (events taken.taken) }
 {
     workers_in_order_stand_once();
-    let mut gathering = Gathering::begin(claims);
+    let mut drawer_join = DrawerJoin::begin(claims);
     let mut closed = true;
     for worker in stopped {
         let StoppedWorker { mut drawer, sender } = worker;
         draw_all(claims, &mut drawer);
-        gathering.join(claims, drawer);
+        drawer_join.join(claims, drawer);
         closed &= join_sender(&mut taken, sender);
     }
-    gathering.finish(claims);
+    drawer_join.finish(claims);
     let left = taken.open_left();
     closed && left == 0
 }
@@ -58,13 +60,13 @@ fn draw_all(claims: &Claims, drawer: &mut Drawer)
     ensures more { IsPrefix drawer.old.drawn drawer.new.drawn }
     ensures none_left { drawer.old.met_none ≡ true → drawer.new.drawn ≡ drawer.old.drawn }
 {
-    // The numbers rise below the limit, so they end.
+    // The drawn numbers rise and stay below the limit, so the loop ends.
     a_rising_list_rises_on();
     a_rising_list_fits_below_its_limit();
     while let Some(_) = claims.draw(drawer) {}
 }
 
-/// Joins a sender, and says whether it was closed.
+/// Joins a sender, and returns whether it was closed.
 fn join_sender(taken: &mut Taken, sender: SenderEnd) -> bool
     requires { (sender_of sender).bus ≡ taken.old.bus }
     ensures joined { taken.new ≡ record taken.old { sent_lists = taken.old.sent_lists ++ sent_list_of (sender_of sender) ∷ [] } }
@@ -79,7 +81,7 @@ fn join_sender(taken: &mut Taken, sender: SenderEnd) -> bool
             true
         }
         SenderEnd::Open(tx) => {
-            taken.join_open(tx);
+            taken.join_unclosed(tx);
             false
         }
     }

@@ -1,9 +1,9 @@
-//! What names a run in types.
+//! The name of a run in the types of its threads.
 
 use std::marker::Brand;
 
-/// What names a run in the types of its threads: the work that is applied, the claims from which the workers draw, and the
-/// bus on which they send. The call that starts the threads picks these.
+/// The name of a run in the types of its threads: the work, the claims from which the workers draw,
+/// and the bus on which they send. The call that starts the threads chooses all three.
 pub(crate) trait RunName {
     ghost use Rattle.apply_bus.specs.Bus.{BusName};
     ghost use Rattle.apply_bus.specs.Claims.{ClaimsName};

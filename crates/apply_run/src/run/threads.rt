@@ -1,4 +1,4 @@
-//! The threads of workers.
+//! Starts and joins the threads of the workers.
 
 ghost use Rattle.std.specs.Prelude.{◌≡◌, ◌<◌, ◌≤◌, [], true, length, vec_capacity};
 ghost use Rattle.apply_hooks.specs.Registry.{rules_of};
@@ -7,14 +7,14 @@ ghost use Rattle.apply_run.specs.Worker.Stopped.{IsStoppedWorker};
 
 use crate::run::run_name::RunName;
 use crate::worker::gate::Gate;
-use crate::worker::job::Job;
+use crate::worker::job::WorkerJob;
 use crate::worker::{StoppedWorker, work};
 use apply_bus::{Drawer, Tx};
 use std::marker::PhantomData;
 use std::sync::Wait;
 use std::thread::{Promise, PromisedHandle, Scope, Threads};
 
-/// What the thread of a worker promises: that the worker stops as one of the run of that name.
+/// The promise of a worker's thread: the worker stops as one of the run with this name.
 #[derive(Drop)]
 pub(crate) struct WorkerPromise<K> {
     pub worker: u8,
@@ -30,8 +30,9 @@ impl<K: RunName> Promise<StoppedWorker> for WorkerPromise<K> {
 /// The thread of a started worker.
 pub(crate) type WorkerThread<K> = PromisedHandle<StoppedWorker, WorkerPromise<K>>;
 
-/// Starts a thread for each drawer with the sender of its worker, and says whether all were started. A worker that was
-/// refused a thread is gone, and so are those behind it.
+/// Starts a thread for each drawer, with the sender of its worker, and returns whether all were
+/// started. After a refused thread no other is started, and the rest of the drawers and senders is
+/// dropped.
 pub(crate) fn start_all<
     's,
     E: 's,
@@ -41,7 +42,7 @@ pub(crate) fn start_all<
 >(
     scope: &'s Scope<'s, E>,
     rt: &'s R,
-    job: &'s Job<'s, G>,
+    job: &'s WorkerJob<'s, G>,
     drawers: Vec<Drawer>,
     senders: Vec<Tx>,
     started: &mut Vec<WorkerThread<K>>,
@@ -55,9 +56,10 @@ pub(crate) fn start_all<
     ensures few { length started.new.items ≤ length drawers.items }
     ensures all { result ≡ true → length started.new.items ≡ length drawers.items }
 {
-    // A thread takes what they share one by one: that a job may be shared among threads would be proved here at length.
+    // Each thread borrows the parts of the job, one by one. Otherwise sharing a whole job among
+    // threads would have to be proved here.
     let (plan, script, registry) = (job.plan, job.script, job.registry);
-    let (gate, claims, signal) = (job.gate, job.claims, job.signal);
+    let (gate, claims, start_gate) = (job.gate, job.claims, job.start_gate);
     let mut senders = senders.into_iter();
     for drawer in drawers {
         let Some(tx) = senders.next() else {
@@ -75,13 +77,13 @@ pub(crate) fn start_all<
                 requires sender { IsNewSender K.bus tx.worker tx }
                 ensures { IsStoppedWorker K.work K.claims K.bus tx.worker result }
             {
-                let job = Job {
+                let job = WorkerJob {
                     plan: &*plan,
                     script: &*script,
                     registry: &*registry,
                     gate: &*gate,
                     claims: &*claims,
-                    signal: &*signal,
+                    start_gate: &*start_gate,
                 };
                 work::<K, G, R>(rt, &job, drawer, tx)
             },

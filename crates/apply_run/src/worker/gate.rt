@@ -1,13 +1,13 @@
-//! What workers pass before steps.
+//! Gates, with which a test can hold back steps.
 
-/// What a worker passes before each step, and before the hooks are asked. It returns; nothing else is said of it. With a
-/// gate of its own, a test holds steps back until others have been applied.
+/// A gate that each worker passes before each step, before the hooks are asked. No clause says
+/// anything about it. A test can hold steps back until others have been applied.
 pub trait Gate: Sync {
-    /// Called before step `step` of the change of that number, both counted from 0, by the worker that applies it.
+    /// Called by the worker before it starts a step. `change` and `step` count from 0.
     fn pass(&self, worker: u8, change: u32, step: u8);
 }
 
-/// A gate that holds no step back.
+/// A gate that holds back no step.
 #[derive(Clone, Copy, Debug)]
 pub struct NoGate;
 

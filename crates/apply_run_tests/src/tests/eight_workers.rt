@@ -3,16 +3,17 @@
 use super::watching::{EACH, Watch, word_is};
 use super::*;
 
-/// A plan with ten changes: one of each kind of step, both replacements, one of nothing to do, and three more creates.
+/// A plan with ten changes: one of each kind of step, both replacements, one with nothing to do,
+/// and three more creates.
 const TEN_CHANGES: &str =
     r#"{"format_version":"1.2","terraform_version":"1.9.0","resource_changes":[{"address":"null_resource.a","mode":"managed","type":"null_resource","name":"a","change":{"actions":["create"]}},{"address":"null_resource.b","mode":"managed","type":"null_resource","name":"b","change":{"actions":["update"],"before":{"id":"41"}}},{"address":"null_resource.c","mode":"managed","type":"null_resource","name":"c","change":{"actions":["delete"],"before":{"id":"42"}}},{"address":"null_resource.d","mode":"managed","type":"null_resource","name":"d","change":{"actions":["delete","create"]}},{"address":"null_resource.e","mode":"managed","type":"null_resource","name":"e","change":{"actions":["create","delete"]}},{"address":"data.null_resource.f","mode":"data","type":"null_resource","name":"f","change":{"actions":["read"]}},{"address":"null_resource.g","mode":"managed","type":"null_resource","name":"g","change":{"actions":["no-op"]}},{"address":"null_resource.h","mode":"managed","type":"null_resource","name":"h","change":{"actions":["create"]}},{"address":"null_resource.i","mode":"managed","type":"null_resource","name":"i","change":{"actions":["create"]}},{"address":"null_resource.j","mode":"managed","type":"null_resource","name":"j","change":{"actions":["create"]}}]}"#;
 
-/// Its script: a destroy and a create fail, and another create warns.
+/// The script of the plan: a destroy and a create fail, and another create warns.
 const TEN_SPANS: &str =
     r#"{"changes":[{"address":"null_resource.a","steps":[{"seconds":12,"id":"x1"}]},{"address":"null_resource.b","steps":[{"seconds":25}]},{"address":"null_resource.d","steps":[{"seconds":3},{"seconds":11}]},{"address":"null_resource.e","steps":[{"seconds":2},{"seconds":4,"failed":{"summary":"boom"}}]},{"address":"data.null_resource.f","steps":[{"seconds":1}]},{"address":"null_resource.h","steps":[{"seconds":7,"warning":{"summary":"slow","detail":"It took long."}}]},{"address":"null_resource.i","steps":[{"seconds":5,"failed":{"summary":"no","detail":"It was refused."}}]}]}"#;
 
-/// The lines of the stream, without their moments. Each block begins with a text that its lines have in them, and no others.
-/// The change with nothing to do has no lines.
+/// The lines of the stream, without their timestamps. Each block begins with a text that only its
+/// lines contain. The change with nothing to do has no lines.
 const LINES: &str = r#""version"
 {"@level":"info","@message":"Terraform 1.9.0","@module":"terraform.ui","@timestamp":"","terraform":"1.9.0","type":"version","ui":"1.0"}
 
@@ -69,7 +70,7 @@ const LINES: &str = r#""version"
 /// How many lines there are.
 const LINE_COUNT: usize = 31;
 
-/// What stands before the moment of a line.
+/// The text before the timestamp of a line.
 const AT: &str = r#""@timestamp":""#;
 
 /// Adds a piece to a text.
@@ -77,7 +78,7 @@ fn push(rt: &impl Abort, text: &mut String, piece: &str) {
     text.push_str(piece).expect(rt, "memory");
 }
 
-/// Adds a line without its moment.
+/// Adds a line without its timestamp.
 fn push_line(rt: &impl Abort, text: &mut String, line: &str) {
     let (front, rest) = parted(rt, line, AT);
     let (_moment, rest) = parted(rt, rest, "\"");
@@ -86,7 +87,7 @@ fn push_line(rt: &impl Abort, text: &mut String, line: &str) {
     }
 }
 
-/// The lines of the stream that have the mark in them, without their moments.
+/// Returns the lines of the stream that contain the mark, without their timestamps.
 fn lines_with(rt: &impl Abort, alloc: Global, stream: &str, mark: &str) -> &'static str {
     let mut text = String::new(alloc);
     for line in stream.lines() {
@@ -94,15 +95,15 @@ fn lines_with(rt: &impl Abort, alloc: Global, stream: &str, mark: &str) -> &'sta
             push_line(rt, &mut text, line);
         }
     }
-    kept(rt, alloc, text).as_str()
+    leaked(rt, alloc, text).as_str()
 }
 
-/// Fails where the stream has other lines, or those of a change in another order.
+/// Fails if the stream has other lines, or the lines of a change in another order.
 fn has_each_line_once(rt: &impl Abort, alloc: Global, stream: &str) {
     for block in LINES.split("\n\n") {
         let (mark, wanted) = parted(rt, block, "\n");
-        let found = lines_with(rt, alloc, stream, mark);
-        text_is(rt, mark, found.trim_end(), wanted);
+        let actual = lines_with(rt, alloc, stream, mark);
+        text_is(rt, mark, actual.trim_end(), wanted);
     }
     holds(rt, "no other line", stream.lines().count() == LINE_COUNT);
     let first = r#"{"@level":"info","@message":"Terraform 1.9.0","#;
@@ -111,8 +112,8 @@ fn has_each_line_once(rt: &impl Abort, alloc: Global, stream: &str) {
     holds(rt, "the summary last", stream.ends_with(last));
 }
 
-/// Fails where a run does not end well, or its stream or totals are others. Each worker is held before the first step that it
-/// applies, until all eight have come: with the first eight changes that have steps.
+/// Fails if a run fails, or its stream or totals differ. Each worker is held before its first step
+/// until all eight have come, with the first eight changes that have steps.
 fn eight_workers_apply_all<R: Threads + Wait + Sync + Abort>(rt: &R, alloc: Global) {
     let passed = AtomicU64::new(0);
     let gate = Watch::new(&passed, &passed, 0x0501_0101, EACH, 0);
@@ -120,15 +121,15 @@ fn eight_workers_apply_all<R: Threads + Wait + Sync + Abort>(rt: &R, alloc: Glob
     let (sink, end) = apply_texts(rt, alloc, TEN_CHANGES, TEN_SPANS, options, sink, &gate);
     word_is(rt, "missed", &gate.missed, 0);
     word_is(rt, "passed", &passed, 0x2601_0101);
-    let sink = kept(rt, alloc, sink);
+    let sink = leaked(rt, alloc, sink);
     let stream = str::from_utf8(sink.bytes()).ok().expect(rt, "a text");
     has_each_line_once(rt, alloc, stream);
-    let report = told(counts(5, 1, 2, 2, 0), 29, stream.len());
+    let report = report_of(counts(5, 1, 2, 2, 0), 29, stream.len());
     ends(rt, "eight workers", end, Ok(report));
     number_is(rt, "failed writes", sink.failures(), 0);
 }
 
-/// Again and again, since each time the workers' messages come in another order.
+/// The run is repeated, since the workers' messages come in another order each time.
 #[test]
 fn eight_workers_with_room_for_one_message_write_each_line_once(rt: HostRuntime) {
     for _ in 0..20 {

@@ -1,12 +1,12 @@
-//! Streams into sinks that take little at a time, or fail.
+//! Streams into sinks that accept few bytes at a time, or fail.
 
 ghost use Rattle.std.specs.Prelude.{◌<◌, ◌-◌, ◌^◌};
 
 use super::sinks::writing;
 use super::*;
 
-/// Fails where a sink that takes at most so many bytes with each write, and so many in all, gets others of the run's stream
-/// than it has room for, or the run does not end as it has to.
+/// Fails if a sink with these limits gets other bytes of the run's stream than it has room for, or
+/// if the run ends otherwise.
 fn takes_so_many<R: Threads + Wait + Sync + Abort>(
     rt: &R,
     alloc: Global,
@@ -21,7 +21,15 @@ fn takes_so_many<R: Threads + Wait + Sync + Abort>(
     let (options, sink) = (options(workers, 64), limited(rt, alloc, per_write, room));
     let (sink, end) = apply_texts(rt, alloc, plan, script, options, sink, &NoGate);
     let room = room.unwrap_or(stream.len());
-    has_written(rt, kept(rt, alloc, sink), stream, room, end, counts, taken);
+    has_written(
+        rt,
+        leaked(rt, alloc, sink),
+        stream,
+        room,
+        end,
+        counts,
+        taken,
+    );
 }
 
 /// The stream as a whole by 7 bytes, and its first 100 bytes.
@@ -49,32 +57,32 @@ fn creates_into<S: Sink + Drop, R: Threads + Wait + Sync + Abort>(
     sink
 }
 
-/// A writer that takes nothing.
+/// A writer that accepts nothing.
 #[test]
 fn ok_of_nothing(rt: HostRuntime) {
     let alloc = rt.alloc();
-    let wanted = failed(told(counts(1, 0, 0, 0, 0), 2, 0));
+    let wanted = failed(report_of(counts(1, 0, 0, 0, 0), 2, 0));
     let sink = creates_into(&rt, alloc, 1, writing(alloc, 0, false), wanted);
-    number_is(&rt, "failed writes", kept(&rt, alloc, sink).failures(), 1);
+    number_is(&rt, "failed writes", leaked(&rt, alloc, sink).failures(), 1);
 }
 
 #[test]
 fn into_a_writer(rt: HostRuntime) {
     let alloc = rt.alloc();
     let (_, _, stream) = parts_of(&rt, ONE_CREATE);
-    let report = told(counts(1, 0, 0, 0, 0), 2, stream.len());
+    let report = report_of(counts(1, 0, 0, 0, 0), 2, stream.len());
     let sink = StdSink::new(Vec::new(alloc));
     let mut sink = creates_into(&rt, alloc, 8, sink, Ok(report));
     number_is(&rt, "failed writes", sink.failures(), 0);
     holds(&rt, "a flush", sink.flush().is_ok());
-    let bytes = kept(&rt, alloc, sink.into_inner());
+    let bytes = leaked(&rt, alloc, sink.into_inner());
     holds(&rt, "bytes", bytes.as_slice() == stream.as_bytes());
 }
 
-/// The most bytes that a sink takes with each write: single ones, few, and whole lines.
+/// The most bytes that a sink accepts with each write: single bytes, few, and whole lines.
 const WRITES: [usize; 3] = [1, 7, 4096];
 
-/// Whatever byte is the first that a sink which takes so many with each write does not take: it has all before it and nothing
+/// Whichever byte is the first that a sink refuses, the sink has all bytes before it and nothing
 /// more, and all events are taken.
 fn fails_with_each_write<R: Threads + Wait + Sync + Abort>(
     rt: &R,
@@ -90,7 +98,7 @@ fn fails_with_each_write<R: Threads + Wait + Sync + Abort>(
     }
 }
 
-/// The same, by however many it takes.
+/// Tests each number of bytes for a write.
 fn fails_at_each_byte_of<R: Threads + Wait + Sync + Abort>(
     rt: &R,
     alloc: Global,
@@ -107,7 +115,7 @@ fn fails_at_each_byte_around_a_diagnostic(rt: HostRuntime) {
     fails_at_each_byte_of(&rt, rt.alloc(), FIRST_FAILS, 1);
 }
 
-/// The stream of the failed replacement is the same by all numbers of workers.
+/// The stream of the failed replacement is the same with every number of workers.
 #[test]
 fn fails_at_each_byte(rt: HostRuntime) {
     fails_at_each_byte_of(&rt, rt.alloc(), FAILED_DESTROY, 1);
@@ -118,7 +126,7 @@ fn fails_at_each_byte_under_two_workers(rt: HostRuntime) {
     fails_at_each_byte_of(&rt, rt.alloc(), FAILED_DESTROY, 2);
 }
 
-/// Eight threads for each byte take their time, so these are apart.
+/// A test of its own, since eight threads for each byte take their time.
 #[test]
 fn single_bytes_fail_under_eight_workers(rt: HostRuntime) {
     fails_with_each_write(&rt, rt.alloc(), FAILED_DESTROY, 8, 1);

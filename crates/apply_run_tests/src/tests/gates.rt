@@ -1,19 +1,21 @@
-//! Who passes the gate, and when: the worker that applies the change, before the step's first line is sent.
+//! Who passes the gate, and when: the worker that applies the change, before the step's first line
+//! is sent.
 
 use super::watching::{FOUR_CREATES, NO_STEP, Watch, passing, watched, word_is, worker_of};
 use super::*;
 
-/// They take 1, 2, 4 and 8 seconds: the moment of a start tells which changes its worker has applied before.
+/// The changes take 1, 2, 4 and 8 seconds: the timestamp of a start shows which changes its worker
+/// has applied before.
 const FOUR_SPANS: &str =
     r#"{"changes":[{"address":"null_resource.a","steps":[{"seconds":1}]},{"address":"null_resource.b","steps":[{"seconds":2}]},{"address":"null_resource.c","steps":[{"seconds":4}]},{"address":"null_resource.d","steps":[{"seconds":8}]}]}"#;
 
-/// The changes, and what their first lines say.
+/// The changes, and the texts of their first lines.
 const STARTS: &str = "0 null_resource.a: Creating...
 1 null_resource.b: Creating...
 2 null_resource.c: Creating...
 3 null_resource.d: Creating...";
 
-/// The moments of the first seconds of 1970.
+/// The timestamps of the first seconds of 1970.
 const MOMENTS: &str = "1970-01-01T00:00:00Z
 1970-01-01T00:00:01Z
 1970-01-01T00:00:02Z
@@ -31,7 +33,8 @@ const MOMENTS: &str = "1970-01-01T00:00:00Z
 1970-01-01T00:00:14Z
 1970-01-01T00:00:15Z";
 
-/// The seconds that the other change takes, where it stands before the change and the same worker passed the gate of both.
+/// The seconds that the other change takes, where it stands before the change and the same worker
+/// passed the gate of both.
 fn span_of(passed: u64, change: u32, other: u32, seconds: usize) -> usize {
     if other < change && worker_of(passed, change) == worker_of(passed, other) {
         seconds
@@ -40,7 +43,7 @@ fn span_of(passed: u64, change: u32, other: u32, seconds: usize) -> usize {
     }
 }
 
-/// The moment at which the worker of the change has ended the changes before it.
+/// The timestamp at which the worker of the change has ended the changes before it.
 fn own_begin_of(passed: u64, change: u32) -> &'static str {
     let first = span_of(passed, change, 0, 1);
     let second = span_of(passed, change, 1, 2);
@@ -48,17 +51,17 @@ fn own_begin_of(passed: u64, change: u32) -> &'static str {
     cell(MOMENTS, first.saturating_add(second).saturating_add(third))
 }
 
-/// What stands before the moment of a line.
+/// The text before the timestamp of a line.
 const AT: &str = r#""@timestamp":""#;
 
-/// The moment that begins the text.
+/// The timestamp at the beginning of the text.
 fn moment_of<'a>(rt: &impl Abort, text: &'a str) -> &'a str {
     parted(rt, text, r#"",""#).0
 }
 
-/// Fails where the change was not begun when the worker that passed its gate had ended the changes before it, or at the
-/// moment of the line above where that is later; or where there is no such worker among so many. A line has its moment
-/// behind its message.
+/// Fails if the change was not begun when the worker that passed its gate had ended the changes
+/// before it, or at the timestamp of the line above where that is later; or where there is no such
+/// worker among so many. A line has its timestamp after its message.
 fn was_begun_by_its_worker(rt: &impl Abort, text: &str, passed: u64, workers: u8, row: &str) {
     let (change, message) = parted(rt, row, " ");
     let change = change.parse::<u32>().ok().expect(rt, row);
@@ -67,14 +70,14 @@ fn was_begun_by_its_worker(rt: &impl Abort, text: &str, passed: u64, workers: u8
     let (above, line) = parted(rt, text, message);
     let above = moment_of(rt, above.rsplit_once(AT).expect(rt, row).1);
     holds(rt, row, MOMENTS.contains(above));
-    let found = moment_of(rt, parted(rt, line, AT).1);
+    let actual = moment_of(rt, parted(rt, line, AT).1);
     let own = own_begin_of(passed, change);
     let wanted = if own < above { above } else { own };
-    text_is(rt, row, found, wanted);
+    text_is(rt, row, actual, wanted);
 }
 
-/// Fails where one of four changes was not begun by the worker that passed its gate. Where there are several workers, the
-/// first change is held until the last has come. Who passed.
+/// Fails if one of four changes was not begun by the worker that passed its gate. Where there are
+/// several workers, the first change is held until the last has come. Who passed.
 fn workers_pass<R: Threads + Wait + Sync + Abort>(rt: &R, alloc: Global, workers: u8) -> u64 {
     let passed = AtomicU64::new(0);
     let held = if workers > 1 { 0 } else { NO_STEP };

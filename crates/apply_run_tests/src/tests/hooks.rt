@@ -1,4 +1,4 @@
-//! Hooks that halt steps: whole streams, what is told of the run, and which steps pass the gate.
+//! Hooks that halt steps: whole streams, the report of the run, and which steps pass the gate.
 
 ghost use Rattle.std.specs.Prelude.{◌≡◌};
 ghost use Rattle.apply_hooks.specs.HookCall.{call_of};
@@ -12,7 +12,8 @@ use super::*;
 use apply_hooks::{FnHook, HookCall, HookClosure, Phase, Rules, Verdict};
 use apply_plan::StepKind;
 
-/// A replacement that destroys first, and its stream where the second of three hooks is the first to halt it.
+/// A replacement that destroys first, and its stream where the second of three hooks is the first
+/// to halt it.
 const HALTED_REPLACEMENT: &str =
     r#"{"format_version":"1.2","terraform_version":"1.9.0","resource_changes":[{"address":"null_resource.a","mode":"managed","type":"null_resource","name":"a","change":{"actions":["delete","create"]}}]}
 no script
@@ -33,8 +34,8 @@ const HALTED_CREATE: &str =
 {"@level":"info","@message":"Apply complete! Resources: 0 added, 0 changed, 0 destroyed.","@module":"terraform.ui","@timestamp":"1970-01-01T00:00:05Z","changes":{"add":0,"change":0,"operation":"apply","remove":0},"type":"change_summary"}
 "#;
 
-/// A run under hooks, of which so many have no rules and so many behind them halt steps of that kind in that phase, and
-/// what comes of it.
+/// Runs under hooks: so many without rules, then so many that halt steps of that kind in that
+/// phase.
 #[derive(Drop)]
 struct Case {
     quiet: u8,
@@ -54,7 +55,7 @@ fn halting(rt: &impl Abort, alloc: Global, phase: Phase, kind: Option<StepKind>)
     Rules::halting(alloc, Some(phase), kind, "").expect(rt, "memory")
 }
 
-/// What the closure of a hook with that rule answers.
+/// The answer of a hook's closure with that rule.
 fn halts(call: &HookCall<'_>, phase: Phase, kind: Option<StepKind>) -> Verdict
     ensures { result ≡ verdict_of (halting phase kind) (call_of call.now) }
 {
@@ -69,7 +70,7 @@ fn halts(call: &HookCall<'_>, phase: Phase, kind: Option<StepKind>) -> Verdict
     }
 }
 
-/// Adds a hook of that closure, which answers as the rules do.
+/// Adds a hook with that closure, which answers as the rules do.
 fn add_hook(rt: &impl Abort, registry: &mut Registry, rules: Rules, answer: HookClosure)
     requires { AnswersAs (pre answer) (post answer) rules }
 {
@@ -77,8 +78,8 @@ fn add_hook(rt: &impl Abort, registry: &mut Registry, rules: Rules, answer: Hook
     holds(rt, "a hook was added", added.is_ok());
 }
 
-/// Fails where one worker writes another stream of the run under the hooks, or tells otherwise of it, or where other steps
-/// pass the gate while it applies the replacement and the create.
+/// Fails if one worker writes another stream of the run under the hooks, or gives another report,
+/// or if other steps pass the gate.
 fn ends_so<R: Threads + Wait + Sync + Abort>(
     rt: &R,
     alloc: Global,
@@ -89,7 +90,7 @@ fn ends_so<R: Threads + Wait + Sync + Abort>(
     number_is(rt, "passes", passes_of(rt, alloc, registry), case.passes);
 }
 
-/// The same with the hooks of the case.
+/// Runs the test with the hooks of the case.
 fn halts_so<R: Threads + Wait + Sync + Abort>(rt: &R, alloc: Global, case: &Case) {
     let mut registry = Registry::new(alloc);
     let (phase, kind) = (case.phase, case.kind);
@@ -110,8 +111,8 @@ fn halts_so<R: Threads + Wait + Sync + Abort>(rt: &R, alloc: Global, case: &Case
     ends_so(rt, alloc, &registry, case);
 }
 
-/// A hook without rules, and behind it so many that halt each step of the kind before it begins, or each where none is
-/// given: the halt of a replacement's first step is the only event.
+/// A hook without rules, and after it so many that halt each step of the kind before it begins, or
+/// each where none is given: the halt of a replacement's first step is the only event.
 fn replacement_is_halted<R: Threads + Wait + Sync + Abort>(
     rt: &R,
     alloc: Global,
@@ -141,7 +142,8 @@ fn each_step_is_halted(rt: HostRuntime) {
     replacement_is_halted(&rt, rt.alloc(), 1, None);
 }
 
-/// A step passes the gate before a hook halts it, and the next step of that change never does. A create goes on.
+/// A step passes the gate before a hook halts it, and the next step of that change never does. A
+/// create goes on.
 #[test]
 fn halted_steps_pass_the_gate(rt: HostRuntime) {
     let case = Case {
@@ -157,8 +159,8 @@ fn halted_steps_pass_the_gate(rt: HostRuntime) {
     halts_so(&rt, rt.alloc(), &case);
 }
 
-/// A hook halts what has failed: the start, the failure with its diagnostic, and the halt. Where nothing fails, all steps
-/// pass the gate.
+/// A hook halts what has failed: the start, the failure with its diagnostic, and the halt. Where
+/// nothing fails, all steps pass the gate.
 #[test]
 fn hooks_halt_what_has_failed(rt: HostRuntime) {
     let case = Case {

@@ -1,11 +1,11 @@
-//! Plans that are applied in lanes: what is told of a run, refusals, and sinks that fail.
+//! Plans that are applied in lanes: reports, refusals, and sinks that fail.
 
 ghost use Rattle.std.specs.Prelude.{◌<◌, ◌-◌, ◌^◌};
 
 use super::refusals::is_refused;
 use super::*;
 
-/// Applies what both texts say in so many lanes.
+/// Applies plan and script in so many lanes.
 fn apply_texts_in_lanes(
     rt: &impl Abort,
     alloc: Global,
@@ -28,10 +28,10 @@ fn apply_texts_in_lanes(
         Operation::Apply,
         sink,
     );
-    (kept(rt, alloc, sink), end)
+    (leaked(rt, alloc, sink), end)
 }
 
-/// A plan and a script that were read, and what was done.
+/// Applies a plan and a script that were read.
 #[test]
 fn a_plan_that_was_read_in_lanes(rt: HostRuntime) {
     let alloc = rt.alloc();
@@ -48,7 +48,7 @@ fn a_plan_that_was_read_in_lanes(rt: HostRuntime) {
         Operation::Apply,
         memory(alloc),
     );
-    let (sink, end) = (kept(&rt, alloc, sink), end_of(end));
+    let (sink, end) = (leaked(&rt, alloc, sink), end_of(end));
     has_written(
         &rt,
         sink,
@@ -60,7 +60,7 @@ fn a_plan_that_was_read_in_lanes(rt: HostRuntime) {
     );
 }
 
-/// Fails where the texts are not refused so in so many lanes, or anything was written.
+/// Fails unless so many lanes refuse the texts with this refusal and nothing is written.
 fn lanes_refuse(
     rt: &impl Abort,
     alloc: Global,
@@ -92,8 +92,8 @@ fn refusals_in_lanes(rt: HostRuntime) {
     }
 }
 
-/// Whatever byte is the first that the sink does not take: it has all before it and nothing more, and all events are
-/// counted.
+/// Whichever byte is the first that the sink refuses, the sink has all bytes before it and nothing
+/// more, and all events are counted.
 #[test]
 fn fails_at_each_byte_in_lanes(rt: HostRuntime) {
     let alloc = rt.alloc();

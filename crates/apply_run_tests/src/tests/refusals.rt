@@ -1,9 +1,9 @@
-//! Sizes that are refused, behind plans and scripts that are, and the texts of refusals.
+//! Sizes that are refused, after plans and scripts that are refused, and the texts of refusals.
 
 use super::*;
 use std::fmt::Display;
 
-/// Fails where the texts were not refused so, or the sink took anything, or failed.
+/// Fails if the refusal differs, or the sink was written to or failed.
 pub(super) fn is_refused(
     rt: &impl Abort,
     plan: &str,
@@ -16,7 +16,7 @@ pub(super) fn is_refused(
     holds(rt, script, sink.bytes().is_empty() && sink.failures() == 0);
 }
 
-/// Fails where the texts are not refused so, or anything was written.
+/// Fails if the texts are not refused with this refusal, or anything was written.
 fn refuses<R: Threads + Wait + Sync + Abort>(
     rt: &R,
     alloc: Global,
@@ -45,7 +45,8 @@ const SIZES: &str = "0 64 out
 8 1024 in
 9 1025 out";
 
-/// Fails where the sizes of the row are taken for others, or the plan is not refused where they are out of range.
+/// Fails if the sizes of the row are not checked as it states, or the plan is not refused if they
+/// are out of range.
 fn sizes_are<R: Threads + Wait + Sync + Abort>(rt: &R, alloc: Global, plan: &str, row: &str) {
     let workers = cell(row, 0).parse::<u8>().ok().expect(rt, row);
     let capacity = cell(row, 1).parse::<u16>().ok().expect(rt, row);
@@ -71,17 +72,17 @@ const TWO_CREATES: &str =
 /// The first waits for the second.
 const ONE_WAIT: &str = r#"{"changes":[{"address":"a.a","steps":[{"seconds":1,"after":["a.b"]}]}]}"#;
 
-/// A plan of a change more than there may be.
+/// A plan with one change more than allowed.
 fn too_many(rt: &impl Abort, alloc: Global) -> &'static str {
     let changes = "0,".repeat(alloc, 10_000).expect(rt, "memory");
-    let changes = kept(rt, alloc, changes).as_str();
+    let changes = leaked(rt, alloc, changes).as_str();
     let plan = format!(in alloc;
         "{{\"format_version\":\"1.2\",\"resource_changes\":[{changes}0]}}"
     );
-    kept(rt, alloc, plan.expect(rt, "memory")).as_str()
+    leaked(rt, alloc, plan.expect(rt, "memory")).as_str()
 }
 
-/// Fails where nine workers do not refuse the texts so.
+/// Fails if nine workers do not refuse the texts with this refusal.
 fn nine_refuse<R: Threads + Wait + Sync + Abort>(
     rt: &R,
     alloc: Global,
@@ -92,7 +93,7 @@ fn nine_refuse<R: Threads + Wait + Sync + Abort>(
     refuses(rt, alloc, plan, script, options(9, 64), wanted);
 }
 
-/// No size is looked at before the plan, the script, and what steps wait for.
+/// The sizes are checked after the plan, the script, and its dependencies.
 #[test]
 fn sizes_are_looked_at_last(rt: HostRuntime) {
     let alloc = rt.alloc();
@@ -106,20 +107,20 @@ fn sizes_are_looked_at_last(rt: HostRuntime) {
     nine_refuse(&rt, alloc, TWO_CREATES, ONE_WAIT, Refusal::Waits);
 }
 
-/// Fails where the error has another text.
+/// Fails if the error has another text.
 fn shows<E: Display>(rt: &impl Abort, alloc: Global, error: &E, wanted: &str) {
-    let text = kept(rt, alloc, error.to_string(alloc).expect(rt, "memory"));
+    let text = leaked(rt, alloc, error.to_string(alloc).expect(rt, "memory"));
     text_is(rt, "error", text.as_str(), wanted);
 }
 
-/// What no run of the built program says.
+/// The refusals that no run of the built program shows.
 #[test]
 fn errors_have_their_texts(rt: HostRuntime) {
     let alloc = rt.alloc();
     shows(&rt, alloc, &SinkFault, "the sink failed");
     shows(&rt, alloc, &Why::Bus, "the event bus failed");
     shows(&rt, alloc, &Refusal::Size, "the sizes are out of range");
-    let (why, report) = (Why::Bus, told(counts(1, 2, 3, 4, 0), 5, 6));
+    let (why, report) = (Why::Bus, report_of(counts(1, 2, 3, 4, 0), 5, 6));
     let lost = Fault { why, report };
     shows(&rt, alloc, &lost, "the event bus failed");
     shows(&rt, alloc, &Refusal::Fault(lost), "the event bus failed");

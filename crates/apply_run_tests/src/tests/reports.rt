@@ -1,8 +1,8 @@
-//! What is told of runs that ended well: the stream, the steps, the events and the bytes.
+//! The report of runs that succeeded: the stream, the steps, the events and the bytes.
 
 use super::*;
 
-/// Fails where one worker under these hooks writes another stream of the run, or something else is told of it.
+/// Fails if one worker under these hooks writes another stream of the run, or gives another report.
 pub(super) fn runs_so<R: Threads + Wait + Sync + Abort>(
     rt: &R,
     alloc: Global,
@@ -24,7 +24,7 @@ no script
 {"@level":"info","@message":"Apply complete! Resources: 0 added, 0 changed, 0 destroyed.","@module":"terraform.ui","@timestamp":"1970-01-01T00:00:00Z","changes":{"add":0,"change":0,"operation":"apply","remove":0},"type":"change_summary"}
 "#;
 
-/// Of nothing, of a create, and of a replacement whose second step fails.
+/// Tests no change, a create, and a replacement whose second step fails.
 #[test]
 fn reports_of_whole_runs(rt: HostRuntime) {
     let (alloc, registry) = (rt.alloc(), no_hooks(&rt, rt.alloc()));

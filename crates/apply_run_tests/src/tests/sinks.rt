@@ -1,4 +1,4 @@
-//! Sinks whose writes are short, take nothing or fail: what is done with each, and what it answers.
+//! Sinks whose writes are short, accept nothing or fail, and what they answer.
 
 ghost use Rattle.std.specs.Prelude.{◌≡◌};
 
@@ -6,7 +6,7 @@ use super::*;
 use std::io;
 use std::io::{ErrorKind, Write};
 
-/// Takes at most `per_write` bytes a call, or fails, to flush too.
+/// Accepts at most `per_write` bytes a call, or fails; its flush may fail too.
 #[derive(Drop)]
 pub(super) struct TestWriter {
     taken: Vec<u8>,
@@ -48,15 +48,15 @@ fn text_in(text: &str) -> &str {
     if text == "-" { "" } else { text }
 }
 
-/// Fails where other bytes were taken by the step than its third word says, of which `no` is a write that failed, or where
-/// not as many writes have failed since the sink began as the fourth says.
+/// Fails unless the step wrote the bytes of its third word, where `no` is a failed write, and the
+/// number of failed writes since the sink began is its fourth word.
 fn answers_so(rt: &impl Abort, step: &str, taken: Option<usize>, failures: u64) {
     let (bytes, failed) = (cell(step, 2), cell(step, 3));
     holds(rt, step, taken == bytes.parse::<usize>().ok());
     holds(rt, step, Some(failures) == failed.parse::<u64>().ok());
 }
 
-/// Fails where the sink answers otherwise when it is given the text of the step: by one write, or `all` of it.
+/// Fails if the sink answers otherwise to the text of the step, in one write or in `all`.
 fn takes_so<S: Sink, R: Abort>(rt: &R, sink: &mut S, step: &str) {
     assert!(rt; sink.failures() < u64::MAX);
     let text = text_in(cell(step, 1)).as_bytes();
@@ -68,20 +68,20 @@ fn takes_so<S: Sink, R: Abort>(rt: &R, sink: &mut S, step: &str) {
     answers_so(rt, step, taken, sink.failures());
 }
 
-/// Fails where the sink flushes otherwise than the step says.
+/// Fails if the sink flushes otherwise than the step states.
 fn flushes_so(rt: &impl Abort, sink: &mut StdSink<TestWriter>, step: &str) {
     assert!(rt; sink.failures() < u64::MAX);
     let flushed = if sink.flush().is_ok() { Some(0) } else { None };
     answers_so(rt, step, flushed, sink.failures());
 }
 
-/// Fails where the bytes are others.
-fn bytes_are(rt: &impl Abort, found: &[u8], wanted: &[u8]) {
-    holds(rt, "bytes", found == wanted);
+/// Fails if the bytes differ.
+fn bytes_are(rt: &impl Abort, actual: &[u8], wanted: &[u8]) {
+    holds(rt, "bytes", actual == wanted);
 }
 
-/// Sinks in memory, of three lines each: how many bytes it takes with a write, and in all; the steps; and the bytes that it
-/// has then.
+/// Sinks in memory, of three lines each: the bytes it accepts with a write and in all; the steps;
+/// and the bytes that it has then.
 const IN_MEMORY: &str = "7 any
 one abcdefghij 7 0; one - 0 0; one hi 2 0; all jklmnopqrstuvwxyz 17 0
 abcdefghijklmnopqrstuvwxyz
@@ -94,7 +94,7 @@ abcdefghi
 one a no 1
 -";
 
-/// Fails where a sink in memory takes other bytes than the lines say.
+/// Fails if a sink in memory has other bytes than the lines state.
 fn memory_takes_so(rt: &impl Abort, alloc: Global, lines: &str) {
     let (limits, steps, bytes) = parts_of(rt, lines);
     let per_write = cell(limits, 0).parse::<usize>().ok().expect(rt, limits);
@@ -113,8 +113,8 @@ fn memory_takes_as_much_as_it_may(rt: HostRuntime) {
     }
 }
 
-/// Sinks over a writer: how many bytes it takes with a write, and whether it does or fails; the steps; and the bytes that it
-/// has then.
+/// Sinks over a writer: the bytes it accepts with a write, and whether it fails; the steps; and the
+/// bytes that it has then.
 const OVER_WRITERS: &str = "3 does
 one abcdefgh 3 0; all defgh 5 0; flush - 0 0
 abcdefgh
@@ -127,7 +127,7 @@ one - 0 0; one a no 1; all ab 0 2
 one a no 1; flush - no 2; one - 0 2
 -";
 
-/// Fails where a sink over a writer takes other bytes than the lines say.
+/// Fails if a sink over a writer has other bytes than the lines state.
 fn writer_takes_so(rt: &impl Abort, alloc: Global, lines: &str) {
     let (limits, steps, bytes) = parts_of(rt, lines);
     let per_write = cell(limits, 0).parse::<usize>().ok().expect(rt, limits);
@@ -139,7 +139,7 @@ fn writer_takes_so(rt: &impl Abort, alloc: Global, lines: &str) {
             takes_so(rt, &mut sink, step);
         }
     }
-    let writer = kept(rt, alloc, sink.into_inner());
+    let writer = leaked(rt, alloc, sink.into_inner());
     bytes_are(rt, writer.taken.as_slice(), text_in(bytes).as_bytes());
 }
 

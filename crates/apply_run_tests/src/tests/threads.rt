@@ -1,5 +1,5 @@
-//! Workers in threads: that they run at once, that lines are written meanwhile, that a free worker takes the next change,
-//! and that steps pass the gate in their order.
+//! Workers in threads: they run at once, lines are written meanwhile, a free worker takes the next
+//! change, and steps pass the gate in their order.
 
 use super::watching::{EACH, FOUR_CREATES, NO_STEP, Watch, passes_of, watched, word_is};
 use super::*;
@@ -8,8 +8,8 @@ use super::*;
 const REPLACEMENT: &str =
     r#"{"format_version":"1.2","terraform_version":"1.9.0","resource_changes":[{"address":"null_resource.a","mode":"managed","type":"null_resource","name":"a","change":{"actions":["delete","create"]}}]}"#;
 
-/// Fails where two workers, of which the one that applies that change is held until all changes have come, apply others than
-/// so many, or the gate is passed otherwise.
+/// Fails if two workers, of which the one that applies that change is held until all changes have
+/// come, apply others than so many, or the gate is passed otherwise.
 fn come_together<R: Threads + Wait + Sync + Abort>(
     rt: &R,
     alloc: Global,
@@ -34,7 +34,8 @@ fn two_workers_at_once(rt: HostRuntime) {
     come_together(&rt, rt.alloc(), plan, EACH, 0x0101, 2);
 }
 
-/// No change is assigned to a worker beforehand: while one worker is held, the other applies the rest.
+/// No change is assigned to a worker beforehand: while one worker is held, the other applies the
+/// rest.
 #[test]
 fn fixed_assignment(rt: HostRuntime) {
     for change in 0..2 {
@@ -63,8 +64,8 @@ fn lines_while_workers_run(rt: HostRuntime) {
     counts_are(&rt, counted, 1, 1);
 }
 
-/// Fails where of four changes, which one worker applies over a bus with that room, others are begun while the first start
-/// is held.
+/// Fails if of four changes, which one worker applies over a bus with that room, others are begun
+/// while the first start is held.
 fn so_many_begin<R: Threads + Wait + Sync + Abort>(
     rt: &R,
     alloc: Global,
@@ -83,15 +84,15 @@ fn so_many_begin<R: Threads + Wait + Sync + Abort>(
     counts_are(rt, counted, 4, 0);
 }
 
-/// A worker waits where there is no room for what it has to tell: with room for one, the completion of the first change
-/// waits there, and the start of the second, which has begun, finds none.
+/// A worker waits while the bus has no room for its event. With room for one, the completion of the
+/// first change waits there, and the start of the second finds no room.
 #[test]
 fn lines_while_workers_run_into_a_slow_sink(rt: HostRuntime) {
     so_many_begin(&rt, rt.alloc(), 1, 0x0101);
 }
 
-/// It goes on as long as there is room: with room for three, what is told of the second change waits there too, and the
-/// start of the third finds none.
+/// A worker goes on while there is room. With room for three, the events of the second change wait
+/// there too, and the start of the third finds no room.
 #[test]
 fn as_much_waits_as_there_is_room(rt: HostRuntime) {
     so_many_begin(&rt, rt.alloc(), 2, 0x0101);

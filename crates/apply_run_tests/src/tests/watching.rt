@@ -1,4 +1,4 @@
-//! Gates and a sink that watch a run: what passes, and which lines are taken, in what order of both.
+//! Gates and a sink that watch a run: which steps pass, which lines are written, and in what order.
 
 ghost use Rattle.std.specs.Prelude.{◌≡◌, ◌<◌};
 
@@ -8,7 +8,8 @@ use super::*;
 pub(super) const FOUR_CREATES: &str =
     r#"{"format_version":"1.2","terraform_version":"1.9.0","resource_changes":[{"address":"null_resource.a","mode":"managed","type":"null_resource","name":"a","change":{"actions":["create"]}},{"address":"null_resource.b","mode":"managed","type":"null_resource","name":"b","change":{"actions":["create"]}},{"address":"null_resource.c","mode":"managed","type":"null_resource","name":"c","change":{"actions":["create"]}},{"address":"null_resource.d","mode":"managed","type":"null_resource","name":"d","change":{"actions":["create"]}}]}"#;
 
-/// Waits for so many turns at most until the word is at least so much, and says whether it was so in time.
+/// Waits until the word is at least so much, for so many turns at most, and returns whether that
+/// happened in time.
 fn comes_within(word: &AtomicU64, least: u64, turns: u32) -> bool {
     for _ in 0..turns {
         if word.load(Ordering::SeqCst) >= least {
@@ -22,7 +23,7 @@ fn comes_within(word: &AtomicU64, least: u64, turns: u32) -> bool {
 /// How many turns a worker is held for at most.
 const MAX_TURNS: u32 = 10_000_000;
 
-/// Fails where the word is another number.
+/// Fails if the word is another number.
 pub(super) fn word_is(rt: &impl Abort, name: &str, word: &AtomicU64, wanted: u64) {
     number_is(rt, name, word.load(Ordering::SeqCst), wanted);
 }
@@ -42,11 +43,12 @@ fn place_of(change: u32) -> u64
 /// Stands for each change.
 pub(super) const EACH: u32 = u32::MAX;
 
-/// A step that there is not.
+/// A step that does not exist.
 pub(super) const NO_STEP: u8 = u8::MAX;
 
-/// Notes at the place of the change what passes: 1 for its first step and 16 for its second, and one more than the worker's
-/// number. The step of that number, of that change or of each, is held until a word is at least so much.
+/// Records, at the place of the change, which steps pass: 1 for its first step, 16 for its second,
+/// and one more than the worker's number. One step, of one change or of each, is held until a word
+/// is at least so much.
 #[derive(Drop)]
 pub(super) struct Watch<'a> {
     passed: &'a AtomicU64,
@@ -99,8 +101,9 @@ pub(super) fn worker_of(passed: u64, change: u32) -> u64 {
     passed / place_of(change) % 256
 }
 
-/// Keeps what has passed it in one number, for one worker: a hexadecimal digit for each, the last pass last. It may hold each
-/// step for so many turns, and notes where its start was written meanwhile.
+/// Records in one number which steps of one worker have passed: a hexadecimal digit for each, the
+/// last pass last. It may hold each step for so many turns, and records whether the step's start
+/// was written meanwhile.
 #[derive(Drop)]
 pub(super) struct Passes<'a> {
     passes: AtomicU64,
@@ -126,7 +129,7 @@ impl Gate for Passes<'_> {
     }
 }
 
-/// Such a gate.
+/// Makes the gate.
 pub(super) fn passing(starts: &AtomicU64, turns: u32) -> Passes<'_> {
     Passes {
         passes: AtomicU64::new(0),
@@ -137,8 +140,8 @@ pub(super) fn passing(starts: &AtomicU64, turns: u32) -> Passes<'_> {
     }
 }
 
-/// What passes the gate while one worker applies the replacement and the create: 1 and 2 stand for the steps of the
-/// replacement, and 3 for the create.
+/// What passes the gate while one worker applies the replacement and the create: 1 and 2 stand for
+/// the steps of the replacement, and 3 for the create.
 pub(super) fn passes_of<R: Threads + Wait + Sync + Abort>(
     rt: &R,
     alloc: Global,
@@ -152,8 +155,8 @@ pub(super) fn passes_of<R: Threads + Wait + Sync + Abort>(
     gate.passes.load(Ordering::SeqCst)
 }
 
-/// A sink that counts the lines of a type that it has taken. Where it has not `held` one yet, it is slow to take the first,
-/// until the begun changes are so many and for a while more, and then looks how many are.
+/// A sink that counts the lines of one type. It delays the first such line until so many changes
+/// have begun and for a while more, and then records how many have begun.
 #[derive(Drop)]
 pub(super) struct Watching<'a, S: Drop> {
     inner: S,
@@ -196,7 +199,7 @@ fn is_of_type(bytes: &[u8], wanted: &str) -> bool {
     }
 }
 
-/// For how many turns a slow sink holds a line once as many changes have begun as may.
+/// For how many turns a slow sink holds a line, once as many changes as possible have begun.
 const SLOW_TURNS: u32 = 1_000_000;
 
 /// Waits until so many changes have begun, and for a while more. How many have begun then.
@@ -206,7 +209,7 @@ fn begun_meanwhile(begun: &AtomicU64, least: u64) -> u64 {
     begun.load(Ordering::SeqCst)
 }
 
-/// Such a sink in memory.
+/// Makes the sink, in memory.
 pub(super) fn watched<'a>(
     alloc: Global,
     line: &'static str,

@@ -1,11 +1,11 @@
-//! Instance keys that are kept.
+//! Copying and comparing instance keys.
 
 ghost use Rattle.std.specs.Prelude.{◌≡◌, IfOk, IsTrue};
 
 use apply_model::{Key, Text};
 use std::alloc::{AllocError, Global};
 
-/// A copy of the key. `Err` where memory is refused.
+/// Copies the key. `Err` when memory is refused.
 pub fn copy_of(alloc: Global, key: &Key) -> Result<Key, AllocError>
     ensures { IfOk result (λ copy. copy ≡ key.now) }
 {
@@ -16,7 +16,7 @@ pub fn copy_of(alloc: Global, key: &Key) -> Result<Key, AllocError>
     }
 }
 
-/// Whether they are the same key.
+/// Whether both keys are equal.
 pub fn is_same(one: &Key, other: &Key) -> bool
     ensures { IsTrue result → one.now ≡ other.now }
 {

@@ -1,23 +1,23 @@
-//! A point of a step that a message tells of.
+//! The points of a step that have a message: start, completion, failure.
 
 ghost use Rattle.std.specs.Prelude.{◌≡◌};
 ghost use Rattle.apply_text.specs.HookLines as hook_lines;
 
 use apply_model::StepKind;
 
-/// A point of a step that a message tells of.
+/// A point of a step that has a message.
 #[derive(Clone, Copy, Drop)]
 pub enum StepPoint {
-    /// It starts.
+    /// The step starts.
     Start,
-    /// It completes.
+    /// The step completes.
     Complete,
-    /// It fails.
+    /// The step fails.
     Errored,
 }
 
 impl StepPoint {
-    /// What the message says between the address and the seconds.
+    /// The part of the message between the address and the seconds.
     pub fn lead(self, step: StepKind) -> &'static str
         ensures { result.now ≡ hook_lines.lead_text self step }
     {
@@ -40,7 +40,7 @@ impl StepPoint {
     }
 }
 
-/// What is said of a step that starts.
+/// The message text of a start, after the address.
 fn start_lead(step: StepKind) -> &'static str
     ensures { result.now ≡ hook_lines.lead_text StepPoint.Start step }
 {
@@ -52,7 +52,7 @@ fn start_lead(step: StepKind) -> &'static str
     }
 }
 
-/// What is said of a step that completes, up to its seconds.
+/// The message text of a completion, between the address and the seconds.
 fn complete_lead(step: StepKind) -> &'static str
     ensures { result.now ≡ hook_lines.lead_text StepPoint.Complete step }
 {
@@ -64,7 +64,7 @@ fn complete_lead(step: StepKind) -> &'static str
     }
 }
 
-/// What is said of a step that fails, up to its seconds.
+/// The message text of a failure, between the address and the seconds.
 fn errored_lead(step: StepKind) -> &'static str
     ensures { result.now ≡ hook_lines.lead_text StepPoint.Errored step }
 {

@@ -1,30 +1,32 @@
-//! The texts that lines of a step are put together of.
+//! Lines of a step, joined from three fixed texts and what differs from line to line. Every `Err`
+//! means that memory was refused.
 
 ghost use Rattle.std.specs.Prelude.{◌≡◌, ◌/◌, ◌++◌, codes, decimal, string_bytes, IfOk, IsTrue, Ok, OnOk};
 ghost use Rattle.std.specs.Option.{option_copied};
-ghost use Rattle.apply_text.specs.CachedParts.{kept_step, progress_line};
+ghost use Rattle.apply_text.specs.CachedParts.{shown_step, progress_line};
 ghost use Rattle.apply_text.specs.Elapsed.{elapsed_of};
-ghost use Rattle.apply_text.specs.HookLines.{hook_line, lead_text, point_type, seconds_words, told_view};
-ghost use Rattle.apply_text.specs.HookLines.{id_text, seconds_text, told_members};
-ghost use Rattle.apply_text.specs.Message.{id_note};
+ghost use Rattle.apply_text.specs.HookLines.{hook_line, lead_text, point_type, seconds_words, hook_fields_view};
+ghost use Rattle.apply_text.specs.HookLines.{id_text, seconds_text, seconds_and_id_text};
+ghost use Rattle.apply_text.specs.Message.{id_suffix};
 
-use crate::cached_parts::kept_date::KeptDate;
-use crate::cached_parts::shown_step::ShownStep;
+use crate::cached_parts::cached_date::CachedDate;
+use crate::cached_parts::cached_step::CachedStep;
+use crate::cached_parts::hook_fields::HookFields;
 use crate::cached_parts::step_point::StepPoint;
-use crate::cached_parts::told_step::ToldStep;
-use crate::display::elapsed::{push_elapsed, push_told_seconds};
-use crate::display::id_note::push_id_note;
+use crate::display::elapsed::{push_elapsed, push_elapsed_if};
+use crate::display::id_suffix::push_id_suffix;
 use crate::display::number::push_number;
 use apply_model::{Change, StepKind};
 use std::alloc::{AllocError, Global};
 use std::marker::Model;
 
-/// A step, with three texts that lines of it have in common, in one form: lines of its progress, or of its start and end.
+/// A step, and the three texts that its lines have in common: front, middle and back. The lines are
+/// either progress lines, or start and end lines.
 ///
-/// Contracts see the step, with what is shown of its change, and the texts.
+/// Contracts see the texts, and the step with the shown fields of its change.
 #[derive(Drop)]
 pub struct StepTexts {
-    step: ShownStep,
+    step: CachedStep,
     front: String,
     middle: String,
     back: String,
@@ -32,9 +34,9 @@ pub struct StepTexts {
 
 impl Model for StepTexts {
     ghost use Rattle.std.specs.Prelude.{string_bytes};
-    ghost use Rattle.apply_text.specs.CachedParts.{KeptPieces};
+    ghost use Rattle.apply_text.specs.CachedParts.{CachedPieces};
 
-    ghost Value = { KeptPieces };
+    ghost Value = { CachedPieces };
 
     ghost view = { λ texts. record {
       step = texts.step;
@@ -47,10 +49,15 @@ impl Model for StepTexts {
 }
 
 impl StepTexts {
-    /// A step with these texts: of a line of progress up to the time in its message, from behind the second of its moment up
-    /// to its seconds, and from behind these on; of another one up to what is said of the address, from behind the second of
-    /// its moment up to what stands behind the action, and from behind the seconds and the id up to its type.
-    pub fn new(step: ShownStep, front: String, middle: String, back: String) -> StepTexts
+    /// Takes a step and the texts of its lines.
+    ///
+    /// In a progress line, `front` ends before the elapsed time in the message. `middle` runs from
+    /// after the second of the timestamp to the seconds, and `back` follows the seconds.
+    ///
+    /// In a start or end line, `front` ends with the address in the message. `middle` runs from
+    /// after the second of the timestamp to the member `action`. `back` follows the seconds and the
+    /// id, and ends before the type.
+    pub fn new(step: CachedStep, front: String, middle: String, back: String) -> StepTexts
         ensures step { result.step ≡ step }
         ensures front { result.pieces.front ≡ string_bytes front }
         ensures middle { result.pieces.middle ≡ string_bytes middle }
@@ -64,9 +71,10 @@ impl StepTexts {
         }
     }
 
-    /// The same, where memory was refused for none of them. What is joined so has one way out, and not one for each.
+    /// Like `new`, from results. One function handles all refusals, so that the callers have a
+    /// single way out.
     pub fn joined(
-        step: Result<ShownStep, AllocError>,
+        step: Result<CachedStep, AllocError>,
         front: Result<String, AllocError>,
         middle: Result<String, AllocError>,
         back: Result<String, AllocError>,
@@ -79,87 +87,87 @@ impl StepTexts {
         Ok(StepTexts::new(step?, front?, middle?, back?))
     }
 
-    /// No texts, of a step of which nothing is known. Takes no memory.
+    /// No texts and no step. Takes no memory.
     pub fn empty(alloc: Global) -> StepTexts {
         StepTexts {
-            step: ShownStep::empty(alloc),
+            step: CachedStep::empty(alloc),
             front: String::new(alloc),
             middle: String::new(alloc),
             back: String::new(alloc),
         }
     }
 
-    /// The step and its texts, so that others may take their room.
-    pub fn into_parts(self) -> (ShownStep, String, String, String) {
+    /// Gives up the step and the texts, so that a new template can reuse their memory.
+    pub fn into_parts(self) -> (CachedStep, String, String, String) {
         (self.step, self.front, self.middle, self.back)
     }
 
-    /// Whether they are those of such a step, of a change that shows as this one does.
+    /// Whether the texts are those of `step`, of a change with the same shown fields.
     pub fn is_of(&self, change: &Change, step: StepKind) -> bool
-        ensures { IsTrue result → self.now.step ≡ kept_step change.now step }
+        ensures { IsTrue result → self.now.step ≡ shown_step change.now step }
     {
         self.step.is_of(change, step)
     }
 
-    /// Puts a line of progress into `line`, in the place of what stood there: so many seconds after the start of 1970, on that date.
-    /// `Err` where memory is refused.
+    /// Replaces `line` by a progress line. `timestamp` counts seconds from the start of 1970, and
+    /// lies on `date`. `seconds` counts from the start of the step.
     pub fn put_line(
         &self,
         line: &mut String,
-        date: &KeptDate,
-        moment: u64,
+        date: &CachedDate,
+        timestamp: u64,
         seconds: u32,
     ) -> Result<(), AllocError>
-        requires { date.now ≡ moment / 86400 }
-        ensures { OnOk result (string_bytes line.new ≡ progress_line self.now.pieces moment seconds) }
+        requires { date.now ≡ timestamp / 86400 }
+        ensures { OnOk result (string_bytes line.new ≡ progress_line self.now.pieces timestamp seconds) }
     {
         line.clear();
         self.push_front(line, seconds)?;
-        date.push_second(line, moment)?;
+        date.push_second(line, timestamp)?;
         self.push_back(line, seconds)
     }
 
-    /// Puts a line of the step's start or end into `line`, in the place of what stood there: so many seconds after the start
-    /// of 1970, on that date. `Err` where memory is refused.
+    /// Replaces `line` by a start or end line. `timestamp` counts seconds from the start of 1970,
+    /// and lies on `date`.
     pub fn put_hook(
         &self,
         line: &mut String,
         step: StepKind,
-        date: &KeptDate,
-        moment: u64,
-        told: ToldStep<'_>,
+        date: &CachedDate,
+        timestamp: u64,
+        fields: HookFields<'_>,
     ) -> Result<(), AllocError>
-        requires { date.now ≡ moment / 86400 }
+        requires { date.now ≡ timestamp / 86400 }
         ensures { OnOk result
-            (string_bytes line.new ≡ hook_line self.now.pieces step moment (told_view told.entry)) }
+            (string_bytes line.new ≡ hook_line self.now.pieces step timestamp (hook_fields_view fields.entry)) }
     {
         line.clear();
-        self.push_said(line, step, told)?;
-        date.push_second(line, moment)?;
+        self.push_hook_message(line, step, fields)?;
+        date.push_second(line, timestamp)?;
         line.push_str(self.middle.as_str())?;
-        push_members(line, told)?;
-        self.push_type(line, told.point)
+        push_members(line, fields)?;
+        self.push_type(line, fields.point)
     }
 
-    /// Appends a line up to its moment.
-    fn push_said(
+    /// Appends a start or end line up to its timestamp.
+    fn push_hook_message(
         &self,
         line: &mut String,
         step: StepKind,
-        told: ToldStep<'_>,
+        fields: HookFields<'_>,
     ) -> Result<(), AllocError>
         ensures { OnOk result (string_bytes line.new ≡ string_bytes line.old ++ (self.now.pieces.front
-            ++ (lead_text told.entry.point step ++ (seconds_words told.entry.seconds ++ (id_note (option_copied told.entry.id)
+            ++ (lead_text fields.entry.point step ++ (seconds_words fields.entry.seconds ++ (id_suffix (option_copied fields.entry.id)
             ++ codes "\",\"@module\":\"terraform.ui\",\"@timestamp\":"))))) }
     {
         line.push_str(self.front.as_str())?;
-        line.push_str(told.point.lead(step))?;
-        push_told_seconds(line, told.seconds)?;
-        push_id_note(line, told.id)?;
+        line.push_str(fields.point.lead(step))?;
+        push_elapsed_if(line, fields.seconds)?;
+        push_id_suffix(line, fields.id)?;
         line.push_str("\",\"@module\":\"terraform.ui\",\"@timestamp\":")
     }
 
-    /// Appends a line from behind the seconds and the id on.
+    /// Appends the end of a start or end line, from after the seconds and the id.
     fn push_type(&self, line: &mut String, point: StepPoint) -> Result<(), AllocError>
         ensures { OnOk result (string_bytes line.new
             ≡ string_bytes line.old ++ (self.now.pieces.back ++ (point_type point ++ codes "\"}\n"))) }
@@ -169,7 +177,7 @@ impl StepTexts {
         line.push_str("\"}\n")
     }
 
-    /// Appends a line of progress up to its moment.
+    /// Appends a progress line up to its timestamp.
     fn push_front(&self, line: &mut String, seconds: u32) -> Result<(), AllocError>
         ensures { OnOk result (string_bytes line.new ≡ string_bytes line.old
             ++ (self.now.pieces.front ++ (elapsed_of seconds ++ codes " elapsed]\",\"@module\":\"terraform.ui\",\"@timestamp\":"))) }
@@ -179,7 +187,7 @@ impl StepTexts {
         line.push_str(" elapsed]\",\"@module\":\"terraform.ui\",\"@timestamp\":")
     }
 
-    /// Appends a line of progress from behind the second of its moment on.
+    /// Appends the end of a progress line, from after the second of its timestamp.
     fn push_back(&self, line: &mut String, seconds: u32) -> Result<(), AllocError>
         ensures { OnOk result (string_bytes line.new ≡ string_bytes line.old
             ++ (self.now.pieces.middle ++ (decimal seconds ++ self.now.pieces.back))) }
@@ -190,20 +198,20 @@ impl StepTexts {
     }
 }
 
-/// Appends the members for the seconds and the id.
-fn push_members(line: &mut String, told: ToldStep<'_>) -> Result<(), AllocError>
-    ensures { OnOk result (string_bytes line.new ≡ string_bytes line.old ++ told_members (told_view told.entry)) }
+/// Appends the members for the seconds and the id, in the order that `fields` asks for.
+fn push_members(line: &mut String, fields: HookFields<'_>) -> Result<(), AllocError>
+    ensures { OnOk result (string_bytes line.new ≡ string_bytes line.old ++ seconds_and_id_text (hook_fields_view fields.entry)) }
 {
-    if told.id_first {
-        push_id(line, told.id)?;
-        push_seconds(line, told.seconds)
+    if fields.id_first {
+        push_id(line, fields.id)?;
+        push_seconds(line, fields.seconds)
     } else {
-        push_seconds(line, told.seconds)?;
-        push_id(line, told.id)
+        push_seconds(line, fields.seconds)?;
+        push_id(line, fields.id)
     }
 }
 
-/// Appends the member for the seconds, where they are told.
+/// Appends the member `elapsed_seconds`. Nothing for `None`.
 fn push_seconds(line: &mut String, seconds: Option<u32>) -> Result<(), AllocError>
     ensures { OnOk result (string_bytes line.new ≡ string_bytes line.old ++ seconds_text seconds) }
 {
@@ -216,7 +224,7 @@ fn push_seconds(line: &mut String, seconds: Option<u32>) -> Result<(), AllocErro
     }
 }
 
-/// Appends the two members of an id, where it is told.
+/// Appends the members `id_key` and `id_value`. Nothing for `None`.
 fn push_id(line: &mut String, id: Option<&str>) -> Result<(), AllocError>
     ensures { OnOk result
         (string_bytes line.new ≡ string_bytes line.old ++ id_text (option_copied id.entry)) }

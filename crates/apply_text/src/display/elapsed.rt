@@ -1,4 +1,4 @@
-//! How long something took, in words.
+//! Durations in words, as `1h0m5s`. Every `Err` means that memory was refused.
 
 ghost use Rattle.std.specs.Prelude.{◌≡◌, ◌++◌, Some, IfOk, OnOk, string_bytes};
 ghost use Rattle.apply_text.specs.Elapsed.{elapsed_of, minutes_text, seconds_text};
@@ -8,7 +8,7 @@ use crate::display::number::push_number;
 use std::alloc::{AllocError, Global};
 use std::fmt;
 
-/// So many seconds, printed as hours, minutes and seconds.
+/// A duration in seconds, printed as hours, minutes and seconds.
 #[derive(Clone, Copy, Drop)]
 pub struct Elapsed {
     pub seconds: u32,
@@ -31,15 +31,15 @@ impl fmt::Display for Elapsed {
     }
 }
 
-/// So many seconds as hours, minutes and seconds, as Go prints a duration: `1h0m5s`. Units before the first that is not 0
-/// are left out, but for the seconds. `Err` where memory is refused.
+/// Formats a duration in seconds as Go does: `1h0m5s`. Leading units that are 0 are left out,
+/// except the seconds.
 pub fn elapsed_text(alloc: Global, seconds: u32) -> Result<String, AllocError>
     ensures { IfOk result (λ text. string_bytes text ≡ elapsed_of seconds) }
 {
     Elapsed { seconds }.to_string(alloc)
 }
 
-/// Appends so many seconds, as [`elapsed_text`] has them. `Err` where memory is refused.
+/// Appends a duration, formatted as by [`elapsed_text`].
 pub fn push_elapsed(line: &mut String, seconds: u32) -> Result<(), AllocError>
     ensures { OnOk result (string_bytes line.new ≡ string_bytes line.old ++ elapsed_of seconds) }
 {
@@ -54,7 +54,7 @@ pub fn push_elapsed(line: &mut String, seconds: u32) -> Result<(), AllocError>
     push_minutes(line, seconds)
 }
 
-/// Appends the seconds beside whole minutes.
+/// Appends the seconds after the last whole minute.
 #[inline(always)]
 fn push_seconds(line: &mut String, seconds: u32) -> Result<(), AllocError>
     ensures { OnOk result (string_bytes line.new ≡ string_bytes line.old ++ seconds_text seconds) }
@@ -63,7 +63,7 @@ fn push_seconds(line: &mut String, seconds: u32) -> Result<(), AllocError>
     line.push_str("s")
 }
 
-/// Appends the minutes beside whole hours, and the seconds beside these.
+/// Appends the minutes after the last whole hour, and the remaining seconds.
 fn push_minutes(line: &mut String, seconds: u32) -> Result<(), AllocError>
     ensures { OnOk result (string_bytes line.new ≡ string_bytes line.old ++ minutes_text seconds) }
 {
@@ -72,8 +72,8 @@ fn push_minutes(line: &mut String, seconds: u32) -> Result<(), AllocError>
     push_seconds(line, seconds)
 }
 
-/// Appends how long something took, where it is told. `Err` where memory is refused.
-pub fn push_told_seconds(line: &mut String, seconds: Option<u32>) -> Result<(), AllocError>
+/// Appends a duration. Nothing for `None`.
+pub fn push_elapsed_if(line: &mut String, seconds: Option<u32>) -> Result<(), AllocError>
     ensures { OnOk result (string_bytes line.new ≡ string_bytes line.old ++ seconds_words seconds) }
 {
     match seconds {

@@ -5,7 +5,7 @@ ghost use Rattle.std.specs.Prelude.{◌≡◌, ◌++◌, decimal, string_bytes, 
 use itoa::Buffer;
 use std::alloc::AllocError;
 
-/// Appends the digits of a number. `Err` where memory is refused.
+/// Appends the decimal digits of `number`. `Err` when memory is refused.
 #[inline(always)]
 pub fn push_number(line: &mut String, number: u32) -> Result<(), AllocError>
     ensures { OnOk result (string_bytes line.new ≡ string_bytes line.old ++ decimal number) }

@@ -12,8 +12,8 @@ use apply_model::{Change, StepKind};
 use json::Writer;
 use std::alloc::AllocError;
 
-/// Writes the member `hook`: what happens to a step of a change, with the seconds that have passed and the object's id,
-/// where they are told.
+/// Writes the member `hook` of a step of a change, with the elapsed seconds and the object's id if
+/// given.
 pub fn put_hook(
     out: &mut Writer,
     change: &Change,
@@ -33,7 +33,7 @@ pub fn put_hook(
     out.end_object()
 }
 
-/// Writes the member `elapsed_seconds`, where they are told.
+/// Writes the member `elapsed_seconds`. Nothing for `None`.
 pub fn put_elapsed(out: &mut Writer, elapsed: Option<u32>) -> Result<(), AllocError>
     ensures { Sends result out.old out.new (elapsed_tokens elapsed) }
 {
@@ -43,7 +43,7 @@ pub fn put_elapsed(out: &mut Writer, elapsed: Option<u32>) -> Result<(), AllocEr
     }
 }
 
-/// Writes the two members of an id, where it is told.
+/// Writes the members `id_key` and `id_value`. Nothing for `None`.
 pub fn put_id(out: &mut Writer, id: Option<&str>) -> Result<(), AllocError>
     ensures { Sends result out.old out.new (id_tokens (option_copied id.entry)) }
 {

@@ -6,7 +6,7 @@ ghost use Rattle.apply_text.specs.Sending.{Sends, member_tokens};
 use json::Writer;
 use std::alloc::AllocError;
 
-/// Writes a member whose value is a text.
+/// Writes a member whose value is a string.
 pub fn put_text(out: &mut Writer, name: &str, text: &str) -> Result<(), AllocError>
     ensures { Sends result out.old out.new (member_tokens name.now (string text.now)) }
 {

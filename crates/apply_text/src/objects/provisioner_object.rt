@@ -11,7 +11,7 @@ use apply_model::Change;
 use json::Writer;
 use std::alloc::AllocError;
 
-/// Writes the member `hook`: what a provisioner of a change does, with what it puts out, where it does.
+/// Writes the member `hook` of a message about a provisioner, with a line of its output if given.
 pub fn put_provisioner(
     out: &mut Writer,
     change: &Change,
@@ -29,7 +29,7 @@ pub fn put_provisioner(
     out.end_object()
 }
 
-/// Writes the member `output`, where there is one.
+/// Writes the member `output`. Nothing for `None`.
 pub fn put_output(out: &mut Writer, output: Option<&str>) -> Result<(), AllocError>
     ensures { Sends result out.old out.new (output_tokens (option_copied output.entry)) }
 {

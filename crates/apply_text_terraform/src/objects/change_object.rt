@@ -14,7 +14,7 @@ use apply_text::parts::put_text;
 use json::Writer;
 use std::alloc::AllocError;
 
-/// Writes the member `change`: what is planned, in that word, and what else is told of it.
+/// Writes the member `change`: the planned action, and the details of the plan.
 pub fn put_change(
     out: &mut Writer,
     change: &Change,
@@ -35,7 +35,7 @@ pub fn put_change(
     out.end_object()
 }
 
-/// Writes the member `previous_resource`, where the object was moved.
+/// Writes the member `previous_resource`. Nothing when the object was not moved.
 fn put_previous_if(out: &mut Writer, previous: Option<&PreviousResource>) -> Result<(), AllocError>
     ensures { Sends result out.old out.new (previous_tokens (option_copied previous.entry)) }
 {
@@ -45,7 +45,7 @@ fn put_previous_if(out: &mut Writer, previous: Option<&PreviousResource>) -> Res
     }
 }
 
-/// Writes the member `importing`, where something is imported.
+/// Writes the member `importing`. Nothing when the change imports nothing.
 fn put_importing(out: &mut Writer, importing: Option<&Importing>) -> Result<(), AllocError>
     ensures { Sends result out.old out.new (importing_tokens (option_copied importing.entry)) }
 {

@@ -10,7 +10,8 @@ use apply_text::parts::{put_number, put_text};
 use json::Writer;
 use std::alloc::AllocError;
 
-/// Writes the member `changes`: how many additions, changes and removals were completed, and how many changes import.
+/// Writes the member `changes`: the counts of completed additions, changes and removals, and of
+/// imports.
 pub fn put_changes(
     out: &mut Writer,
     operation: Operation,

@@ -11,8 +11,8 @@ use apply_text::parts::{DiagTexts, put_text};
 use json::Writer;
 use std::alloc::AllocError;
 
-/// Writes the member `diagnostic`: an error or a warning, and about which address, where it is about one; but for its range and
-/// its snippet.
+/// Writes the member `diagnostic`, without its range and its snippet. `address` is the resource
+/// that the diagnostic is about, if any.
 pub fn put_diagnostic(
     out: &mut Writer,
     address: Option<&str>,

@@ -11,8 +11,8 @@ use apply_text::parts::{StepWords, put_elapsed, put_id, put_text};
 use json::Writer;
 use std::alloc::AllocError;
 
-/// Writes the member `hook`: what happens to a step of a change, with the object's id and the seconds that have passed,
-/// where they are told.
+/// Writes the member `hook` of a step of a change, with the object's id and the elapsed seconds if
+/// given.
 pub fn put_hook(
     out: &mut Writer,
     change: &Change,

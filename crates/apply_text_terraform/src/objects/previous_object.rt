@@ -9,7 +9,7 @@ use apply_text::parts::{put_key, put_text};
 use json::Writer;
 use std::alloc::AllocError;
 
-/// Writes the member `previous_resource`: the resource that an object was before it was moved.
+/// Writes the member `previous_resource`: the resource that the object was before its move.
 pub fn put_previous(out: &mut Writer, previous: &PreviousResource) -> Result<(), AllocError>
     ensures { Sends result out.old out.new
         (member_tokens (codes "previous_resource") (previous_object previous.now)) }

@@ -11,7 +11,7 @@ use apply_text::parts::{put_output, put_text};
 use json::Writer;
 use std::alloc::AllocError;
 
-/// Writes the member `hook`: what a provisioner of a change does, with what it puts out, where it does.
+/// Writes the member `hook` of a message about a provisioner, with a line of its output if given.
 pub fn put_provisioner(
     out: &mut Writer,
     change: &Change,

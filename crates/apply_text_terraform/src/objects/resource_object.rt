@@ -9,7 +9,7 @@ use apply_text::parts::{put_key, put_text};
 use json::Writer;
 use std::alloc::AllocError;
 
-/// Writes the member `resource`: the resource of a change.
+/// Writes the member `resource`, which names the resource of `change`.
 pub fn put_resource(out: &mut Writer, change: &Change) -> Result<(), AllocError>
     ensures { Sends result out.old out.new
         (member_tokens (codes "resource") (resource_object change.now)) }

@@ -1,4 +1,4 @@
-//! Members that may be left out.
+//! Optional members.
 
 ghost use Rattle.std.specs.Option.{option_copied};
 ghost use Rattle.apply_text_terraform.specs.Sending.{text_tokens};
@@ -8,7 +8,7 @@ use apply_text::parts::put_text;
 use json::Writer;
 use std::alloc::AllocError;
 
-/// Writes a member whose value is a text, where there is one.
+/// Writes a member whose value is a string. Nothing for `None`.
 pub fn put_text_if(out: &mut Writer, name: &str, text: Option<&str>) -> Result<(), AllocError>
     ensures { Sends result out.old out.new (text_tokens name.now (option_copied text.entry)) }
 {

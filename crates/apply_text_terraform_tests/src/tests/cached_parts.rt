@@ -1,13 +1,13 @@
-//! Lines of progress through one buffer. Whatever it told before, each is as one that is made by itself.
+//! Lines through one buffer equal lines through a new buffer, whatever the buffer wrote before.
 
 use super::*;
 
-/// Fails where the first step of that change, after so many seconds, is told by a used buffer otherwise than by a new one.
-/// What both tell.
+/// Fails when a used buffer and a new one write different lines for the first step of a change.
+/// Returns the line.
 fn told_alike(
     rt: &impl Abort,
     alloc: Global,
-    used: &mut FormBuffer,
+    used: &mut TerraformBuffer,
     plan: &Plan,
     change: u32,
     seconds: u32,
@@ -20,7 +20,7 @@ fn told_alike(
         at: 0,
     };
     let script = script_of(rt, alloc, NOTHING_SAID, plan);
-    let mut new = FormBuffer::new(alloc);
+    let mut new = TerraformBuffer::new(alloc);
     check_step(rt, plan, &event);
     let pushed = new.push_event(plan, script, Start::zero(), 0, None, &event);
     pushed.ok().expect(rt, "memory");
@@ -32,7 +32,7 @@ fn told_alike(
     alone
 }
 
-/// Plans of one change. Each shows something else, or takes another step.
+/// Plans of one change. Each change shows something else, or has another step.
 const LOOK_ALIKES: &str =
     r#"{"format_version":"1.2","resource_changes":[{"address":"module.a.module.b.t_u.n","module_address":"module.a","mode":"managed","type":"t_u","name":"n","change":{"actions":["update"]}}]}
 {"format_version":"1.2","resource_changes":[{"address":"module.a.module.c.t_u.n","module_address":"module.a","mode":"managed","type":"t_u","name":"n","change":{"actions":["update"]}}]}
@@ -46,44 +46,44 @@ const LOOK_ALIKES: &str =
 {"format_version":"1.2","resource_changes":[{"address":"module.a.module.b.t_u.n[\"<\"]","module_address":"module.a","mode":"managed","type":"t_u","name":"n","index":"<","change":{"actions":["update"]}}]}
 {"format_version":"1.2","resource_changes":[{"address":"module.a.module.b.t_u.n[\">&\u2028\"]","module_address":"module.a","mode":"managed","type":"t_u","name":"n","index":">&\u2028","change":{"actions":["update"]}}]}"#;
 
-/// Fails where the change of a plan is told otherwise before or behind one of another.
-fn is_told_beside_each(rt: &impl Abort, alloc: Global, used: &mut FormBuffer, plan: &Plan) {
+/// Fails when the line of a plan's change differs, before or after a line of another plan.
+fn is_told_beside_each(rt: &impl Abort, alloc: Global, used: &mut TerraformBuffer, plan: &Plan) {
     for other in LOOK_ALIKES.lines() {
         told_alike(rt, alloc, used, plan, 0, 20);
         told_alike(rt, alloc, used, plan_of(rt, alloc, other), 0, 20);
     }
 }
 
-/// Each behind each, and behind itself.
+/// Every plan after every plan, and after itself.
 #[test]
 fn changes_that_look_alike_are_told_apart(rt: HostRuntime) {
-    let mut used = FormBuffer::new(rt.alloc());
+    let mut used = TerraformBuffer::new(rt.alloc());
     for plan in LOOK_ALIKES.lines() {
         let plan = plan_of(&rt, rt.alloc(), plan);
         is_told_beside_each(&rt, rt.alloc(), &mut used, plan);
     }
 }
 
-/// A change of many, with its number in place of the percent sign.
+/// One change of many. `%` stands for its number.
 const UPDATE: &str =
     r##"{"address":"a.b[\"%<&>\u2028é\"]","mode":"managed","type":"a","name":"b","index":"%<&>\u2028é","change":{"actions":["update"]}}"##;
 
-/// Its line, after so many seconds.
+/// The line of that change.
 const UPDATE_LINE: &str =
     r##"{"@level":"info","@message":"a.b[\"%\u003c\u0026\u003e\u2028é\"]: Still modifying... [#s elapsed]","@module":"terraform.ui","@timestamp":"1970-01-01T00:00:00.000000Z","hook":{"resource":{"addr":"a.b[\"%\u003c\u0026\u003e\u2028é\"]","module":"","resource":"a.b[\"%\u003c\u0026\u003e\u2028é\"]","implied_provider":"a","resource_type":"a","resource_name":"b","resource_key":"%\u003c\u0026\u003e\u2028é"},"action":"update","elapsed_seconds":#},"type":"apply_progress"}
 "##;
 
-/// More changes than texts are kept of.
+/// More changes than the cache has slots.
 const UPDATES: u32 = 130;
 
-/// The text with a number in each place of the mark.
+/// Replaces each mark by a number.
 fn put(rt: &impl Abort, alloc: Global, text: &str, mark: &str, number: u32) -> &'static str {
     let number = number.to_string(alloc).expect(rt, "memory");
     let text = text.replace(alloc, mark, kept(rt, alloc, number).as_str());
     kept(rt, alloc, text.expect(rt, "memory")).as_str()
 }
 
-/// So many updates.
+/// A plan of so many updates.
 fn updates(rt: &impl Abort, alloc: Global) -> &'static Plan {
     let mut text = String::new(alloc);
     let begun = text.push_str(r#"{"format_version":"1.2","resource_changes":["#);
@@ -97,8 +97,14 @@ fn updates(rt: &impl Abort, alloc: Global) -> &'static Plan {
     plan_of(rt, alloc, kept(rt, alloc, text).as_str())
 }
 
-/// Fails where one of the updates is told otherwise.
-fn each_is_told(rt: &impl Abort, alloc: Global, used: &mut FormBuffer, plan: &Plan, seconds: u32) {
+/// Fails when the line of an update differs.
+fn each_is_told(
+    rt: &impl Abort,
+    alloc: Global,
+    used: &mut TerraformBuffer,
+    plan: &Plan,
+    seconds: u32,
+) {
     for change in 0..UPDATES {
         let line = put(rt, alloc, UPDATE_LINE, "%", change + 1);
         let line = put(rt, alloc, line, "#", seconds);
@@ -107,12 +113,12 @@ fn each_is_told(rt: &impl Abort, alloc: Global, used: &mut FormBuffer, plan: &Pl
     }
 }
 
-/// All of them go on at once, and are told of again and again.
+/// All updates run at once, and report progress again and again.
 #[test]
 fn more_changes_than_are_kept_are_told_in_turn(rt: HostRuntime) {
     let alloc = rt.alloc();
     let plan = updates(&rt, alloc);
-    let mut used = FormBuffer::new(alloc);
+    let mut used = TerraformBuffer::new(alloc);
     each_is_told(&rt, alloc, &mut used, plan, 10);
     each_is_told(&rt, alloc, &mut used, plan, 20);
     each_is_told(&rt, alloc, &mut used, plan, 30);

@@ -1,4 +1,4 @@
-//! Characters that have an escape.
+//! Characters that are escaped.
 
 use super::*;
 
@@ -8,23 +8,24 @@ const PLAN: &str =
 const LINE: &str =
     "{\"@level\":\"info\",\"@message\":\"Terraform \\u003c1\\u003e\\u0026\\u2028\\u2029\u{2030}\u{7f}\u{feff}\\t\\\"/é\",\"@module\":\"terraform.ui\",\"@timestamp\":\"1970-01-01T00:00:00.000000Z\",\"terraform\":\"\\u003c1\\u003e\\u0026\\u2028\\u2029\u{2030}\u{7f}\u{feff}\\t\\\"/é\",\"type\":\"version\",\"ui\":\"1.2\"}\n";
 
-/// `<`, `>`, `&`, U+2028 and U+2029 have one in every text, and other characters beside them stand as in any JSON.
+/// `<`, `>`, `&`, U+2028 and U+2029 are escaped in every text. Other characters stand as in any
+/// JSON.
 #[test]
 fn five_characters_have_an_escape(rt: HostRuntime) {
     let alloc = rt.alloc();
     let plan = plan_of(&rt, alloc, PLAN);
-    let mut lines = FormBuffer::new(alloc);
+    let mut lines = TerraformBuffer::new(alloc);
     let pushed = lines.push_version(plan, Start::zero());
     pushed.ok().expect(&rt, "memory");
     compare(&rt, "the version", lines.as_bytes(), LINE);
 }
 
-/// What was told before is gone, and the room stays.
+/// After `clear` the buffer is empty, and writes the same line again.
 #[test]
 fn lines_can_be_dropped(rt: HostRuntime) {
     let alloc = rt.alloc();
     let plan = plan_of(&rt, alloc, PLAN);
-    let mut lines = FormBuffer::with_room(alloc).expect(&rt, "memory");
+    let mut lines = TerraformBuffer::with_room(alloc).expect(&rt, "memory");
     let pushed = lines.push_version(plan, Start::zero());
     pushed.ok().expect(&rt, "memory");
     lines.clear();

@@ -1,18 +1,18 @@
-//! Single lines. Whole streams are compared over the built program, by `checks/examples`.
+//! Single lines. `checks/examples` compares whole streams of the built program.
 
 use super::*;
 
-/// What a line is made of.
+/// The inputs of a line.
 #[derive(Clone, Copy, Drop)]
 struct Told {
     plan: &'static Plan,
     script: &'static Script,
 }
 
-/// Adds the line of an event, at that moment.
+/// Appends the line of an event.
 fn push_event(
     rt: &impl Abort,
-    lines: &mut FormBuffer,
+    lines: &mut TerraformBuffer,
     told: &Told,
     details: &ChangeDetails,
     latest: u64,
@@ -26,14 +26,14 @@ fn push_event(
     pushed.ok().expect(rt, "memory");
 }
 
-/// What the lines of a plan and a script are made of.
+/// The inputs of the lines of a plan and a script.
 fn told_of(rt: &impl Abort, alloc: Global, plan: &str, script: &str) -> &'static Told {
     let plan = plan_of(rt, alloc, plan);
     let script = script_of(rt, alloc, script, plan);
     kept(rt, alloc, Told { plan, script })
 }
 
-/// Nothing that is told besides.
+/// Details of a change, all of them absent.
 fn no_details(rt: &impl Abort, alloc: Global) -> &'static ChangeDetails {
     let details = ChangeDetails {
         forgets: false,
@@ -54,13 +54,13 @@ const HALTED: &str =
     r##"{"@level":"error","@message":"Error: execution halted","@module":"terraform.ui","@timestamp":"1970-01-01T00:00:00.000000Z","diagnostic":{"severity":"error","summary":"execution halted","detail":"Hook 0 answered Halt before create.","address":"random_pet.animal"},"type":"diagnostic"}
 "##;
 
-/// A hook that halts is told of with the address.
+/// The diagnostic of a halted hook has an address.
 #[test]
 fn a_halt_has_its_address(rt: HostRuntime) {
     let alloc = rt.alloc();
     let told = told_of(&rt, alloc, ONE_CREATE, NOTHING_SAID);
     let details = no_details(&rt, alloc);
-    let mut lines = FormBuffer::new(alloc);
+    let mut lines = TerraformBuffer::new(alloc);
     let event = Event {
         worker: 0,
         change: 0,
@@ -79,7 +79,7 @@ const IMPORTED: &str =
     r##"{"@level":"info","@message":"random_pet.animal: Plan to create","@module":"terraform.ui","@timestamp":"1970-01-01T00:00:00.000000Z","change":{"resource":{"addr":"random_pet.animal","module":"","resource":"random_pet.animal","implied_provider":"random","resource_type":"random_pet","resource_name":"animal","resource_key":null},"action":"create","reason":"unknown","importing":{},"generated_config":"a = \u003cb\u003e\n"},"type":"planned_change"}
 "##;
 
-/// What is imported without an id, for a reason that has no word, with a configuration that was made for it.
+/// An import without an id, an unknown reason, and a generated configuration.
 #[test]
 fn each_detail_has_its_place(rt: HostRuntime) {
     let alloc = rt.alloc();
@@ -94,7 +94,7 @@ fn each_detail_has_its_place(rt: HostRuntime) {
         previous: None,
     };
     let details = kept(&rt, alloc, details);
-    let mut lines = FormBuffer::new(alloc);
+    let mut lines = TerraformBuffer::new(alloc);
     let pushed = lines.push_planned(Start::zero(), plan.change(0), details);
     pushed.ok().expect(&rt, "memory");
     compare(&rt, "a planned change", lines.as_bytes(), IMPORTED);
@@ -104,17 +104,17 @@ const UNFINISHED: &str =
     r##"{"@level":"error","@message":"Error: Cannot apply incomplete plan","@module":"terraform.ui","@timestamp":"1970-01-01T00:00:00.000000Z","diagnostic":{"severity":"error","summary":"Cannot apply incomplete plan","detail":"Terraform encountered an error when generating this plan, so it cannot be applied."},"type":"diagnostic"}
 "##;
 
-/// Adds the line of a diagnostic of no step.
-fn push_note(rt: &impl Abort, lines: &mut FormBuffer, note: &Note) {
+/// Appends the line of a diagnostic of no step.
+fn push_note(rt: &impl Abort, lines: &mut TerraformBuffer, note: &Note) {
     let pushed = lines.push_note(Start::zero(), 0, note);
     pushed.ok().expect(rt, "memory");
 }
 
-/// A plan whose making ended with an error.
+/// A plan whose planning ended with an error.
 #[test]
 fn an_unfinished_plan_is_told_of(rt: HostRuntime) {
     let alloc = rt.alloc();
-    let mut lines = FormBuffer::new(alloc);
+    let mut lines = TerraformBuffer::new(alloc);
     let note = Note {
         severity: Severity::Error,
         diag: Diag {
@@ -139,7 +139,7 @@ const PLACED: &str =
 {"@level":"warn","@message":"Warning: \u003cno\u003e","@module":"terraform.ui","@timestamp":"1970-01-01T00:00:00.000000Z","diagnostic":{"severity":"warning","summary":"\u003cno\u003e","detail":"","address":"a.b"},"type":"diagnostic"}
 "##;
 
-/// A warning of no step with an address, a range and a snippet, where it has them.
+/// A warning of no step, with an address, a range and a snippet if given.
 fn placed(
     rt: &impl Abort,
     alloc: Global,
@@ -160,11 +160,11 @@ fn placed(
     kept(rt, alloc, note)
 }
 
-/// What is kept of a diagnostic as text stands behind its address, and has escapes as the rest of the line.
+/// The verbatim members of a diagnostic come after its address, and have the escapes of the line.
 #[test]
 fn a_range_stands_before_a_snippet(rt: HostRuntime) {
     let alloc = rt.alloc();
-    let mut lines = FormBuffer::new(alloc);
+    let mut lines = TerraformBuffer::new(alloc);
     let range = Some(r##"{"filename":"&","b":1.50,"a":null}"##);
     let snippet = Some(r##"{"code":">"}"##);
     push_note(
@@ -181,7 +181,7 @@ const MOVED: &str =
     r##"{"@level":"info","@message":"random_pet.animal: Plan to create","@module":"terraform.ui","@timestamp":"1970-01-01T00:00:00.000000Z","change":{"resource":{"addr":"random_pet.animal","module":"","resource":"random_pet.animal","implied_provider":"random","resource_type":"random_pet","resource_name":"animal","resource_key":null},"previous_resource":{"addr":"module.m.random_pet.a[7]","module":"module.m","resource":"random_pet.a[7]","implied_provider":"random","resource_type":"random_pet","resource_name":"a","resource_key":7},"action":"create","reason":"requested"},"type":"planned_change"}
 "##;
 
-/// The resource that an object was stands behind that which it is.
+/// The previous resource comes after the resource.
 #[test]
 fn a_moved_object_tells_what_it_was(rt: HostRuntime) {
     let alloc = rt.alloc();
@@ -203,7 +203,7 @@ fn a_moved_object_tells_what_it_was(rt: HostRuntime) {
         }),
     };
     let details = kept(&rt, alloc, details);
-    let mut lines = FormBuffer::new(alloc);
+    let mut lines = TerraformBuffer::new(alloc);
     let pushed = lines.push_planned(Start::zero(), plan.change(0), details);
     pushed.ok().expect(&rt, "memory");
     compare(&rt, "a planned change", lines.as_bytes(), MOVED);

@@ -2,7 +2,7 @@
 
 use super::*;
 
-/// An output of a row: its name, whether it is sensitive, its type and its value.
+/// The output of a row: its name, whether it is sensitive, its type and its value.
 fn output_of(rt: &impl Abort, alloc: Global, row: &str) -> Output {
     let (name, row) = parted(rt, row, " ");
     let (sensitive, row) = parted(rt, row, " ");
@@ -37,10 +37,10 @@ const LINE: &str =
     r##"{"@level":"info","@message":"Outputs: 5","@module":"terraform.ui","@timestamp":"1970-01-01T00:00:00.000000Z","outputs":{"Odd":{"sensitive":false,"type":["object",{"a":"string","é\u003c":["tuple",["bool","dynamic","number"]]}],"value":{"a":"b\u0026c","é\u003c":[true,null,2.5]}},"id":{"sensitive":false,"type":"string","value":"7"},"ids":{"sensitive":false,"type":["tuple",["string"]],"value":["7"]},"kept":{"sensitive":false,"type":"number","value":1},"secret":{"sensitive":true,"type":"string"}},"type":"outputs"}
 "##;
 
-/// Fails where the line of the outputs is another.
+/// Fails when the line of the outputs differs.
 fn are_told(rt: &impl Abort, alloc: Global, rows: &str, wanted: &str) {
     let outputs = outputs_of(rt, alloc, rows);
-    let mut lines = FormBuffer::new(alloc);
+    let mut lines = TerraformBuffer::new(alloc);
     let pushed = lines.push_outputs(Start::zero(), 0, outputs.as_slice());
     pushed.ok().expect(rt, "memory");
     compare(rt, rows, lines.as_bytes(), wanted);
@@ -57,7 +57,7 @@ const QUOTED_LINE: &str =
     r##"{"@level":"info","@message":"Outputs: 1","@module":"terraform.ui","@timestamp":"1970-01-01T00:00:00.000000Z","outputs":{"a\"b":{"sensitive":false,"type":"number","value":0.10000000000000000000001}},"type":"outputs"}
 "##;
 
-/// Types and values stand as they are, so that no number is rounded, and names as JSON has them.
+/// Types and values are copied verbatim, so no number is rounded. Names are JSON strings.
 #[test]
 fn numbers_of_outputs_are_not_rounded(rt: HostRuntime) {
     are_told(&rt, rt.alloc(), QUOTED, QUOTED_LINE);

@@ -1,8 +1,8 @@
-//! Lines of progress through one buffer. Whatever it told before, each is as one that is made by itself.
+//! Lines through one buffer equal lines through a new buffer, whatever the buffer wrote before.
 
 use super::*;
 
-/// That a step of a change goes on.
+/// A progress event of a step.
 fn progress_of(change: u32, step: u8, seconds: u32) -> Event {
     Event {
         worker: 0,
@@ -13,12 +13,12 @@ fn progress_of(change: u32, step: u8, seconds: u32) -> Event {
     }
 }
 
-/// A buffer, for as long as the test runs.
+/// A buffer that lives as long as the test.
 fn new_buffer(rt: &impl Abort, alloc: Global) -> &'static mut LineBuffer {
     Box::leak(Box::new(alloc, LineBuffer::new(alloc)).expect(rt, "memory"))
 }
 
-/// Adds the line of an event that the plan has to have.
+/// Appends the line of an event. The plan must have the event's step.
 fn add(
     rt: &impl Abort,
     alloc: Global,
@@ -35,7 +35,7 @@ fn add(
     holds(rt, "memory", pushed.is_ok());
 }
 
-/// Fails where the line of an event is another, by itself or as the only one that a used buffer holds.
+/// Fails when the line of an event differs, as a single line or as the only line of a used buffer.
 fn is_told(
     rt: &impl Abort,
     alloc: Global,
@@ -54,12 +54,13 @@ fn is_told(
     has_lines(rt, wanted, buffer, alone);
 }
 
-/// Fails where a buffer holds other lines at the case.
+/// Fails when the buffer holds other lines.
 fn has_lines(rt: &impl Abort, case: &str, buffer: &LineBuffer, wanted: &str) {
     holds(rt, case, buffer.as_bytes() == wanted.as_bytes());
 }
 
-/// A case, a plan of one change, and its line after 20 seconds. Each change shows something else, or takes another step.
+/// Each row: a case, a plan of one change, and its line after 20 seconds. Each change shows
+/// something else, or has another step.
 const CHANGES: &str =
     r#"the first => {"format_version":"1.2","terraform_version":"1.9.0","resource_changes":[{"address":"module.a.module.b.t_u.n","module_address":"module.a","mode":"managed","type":"t_u","name":"n","change":{"actions":["update"]}}]} => {"@level":"info","@message":"module.a.module.b.t_u.n: Still modifying... [20s elapsed]","@module":"terraform.ui","@timestamp":"1970-01-01T00:00:20Z","hook":{"action":"update","elapsed_seconds":20,"resource":{"addr":"module.a.module.b.t_u.n","implied_provider":"t","module":"module.a","resource":"module.b.t_u.n","resource_key":null,"resource_name":"n","resource_type":"t_u"}},"type":"apply_progress"}
 another address => {"format_version":"1.2","terraform_version":"1.9.0","resource_changes":[{"address":"module.a.module.c.t_u.n","module_address":"module.a","mode":"managed","type":"t_u","name":"n","change":{"actions":["update"]}}]} => {"@level":"info","@message":"module.a.module.c.t_u.n: Still modifying... [20s elapsed]","@module":"terraform.ui","@timestamp":"1970-01-01T00:00:20Z","hook":{"action":"update","elapsed_seconds":20,"resource":{"addr":"module.a.module.c.t_u.n","implied_provider":"t","module":"module.a","resource":"module.c.t_u.n","resource_key":null,"resource_name":"n","resource_type":"t_u"}},"type":"apply_progress"}
@@ -75,7 +76,7 @@ a create => {"format_version":"1.2","terraform_version":"1.9.0","resource_change
 a delete => {"format_version":"1.2","terraform_version":"1.9.0","resource_changes":[{"address":"module.a.module.b.t_u.n","module_address":"module.a","mode":"managed","type":"t_u","name":"n","change":{"actions":["delete"]}}]} => {"@level":"info","@message":"module.a.module.b.t_u.n: Still destroying... [20s elapsed]","@module":"terraform.ui","@timestamp":"1970-01-01T00:00:20Z","hook":{"action":"delete","elapsed_seconds":20,"resource":{"addr":"module.a.module.b.t_u.n","implied_provider":"t","module":"module.a","resource":"module.b.t_u.n","resource_key":null,"resource_name":"n","resource_type":"t_u"}},"type":"apply_progress"}
 a name with a quotation mark => {"format_version":"1.2","terraform_version":"1.9.0","resource_changes":[{"address":"module.a.module.b.t_u.n[\"\\é\n\"]","module_address":"module.a","mode":"managed","type":"t_u","name":"n","index":"\\é\n\"","change":{"actions":["update"]}}]} => {"@level":"info","@message":"module.a.module.b.t_u.n[\"\\é\n\"]: Still modifying... [20s elapsed]","@module":"terraform.ui","@timestamp":"1970-01-01T00:00:20Z","hook":{"action":"update","elapsed_seconds":20,"resource":{"addr":"module.a.module.b.t_u.n[\"\\é\n\"]","implied_provider":"t","module":"module.a","resource":"module.b.t_u.n[\"\\é\n\"]","resource_key":"\\é\n\"","resource_name":"n","resource_type":"t_u"}},"type":"apply_progress"}"#;
 
-/// Fails where the first step of the row's only change is told as another.
+/// Fails when the line of the row's only change differs.
 fn is_shown(rt: &impl Abort, alloc: Global, buffer: &mut LineBuffer, row: &str) {
     let (_, rest) = parted(rt, row, " => ");
     let (plan, wanted) = parted(rt, rest, " => ");
@@ -84,7 +85,7 @@ fn is_shown(rt: &impl Abort, alloc: Global, buffer: &mut LineBuffer, row: &str) 
     is_told(rt, alloc, buffer, plan, Start::zero(), 20, &event, wanted);
 }
 
-/// Fails where the change of a row is told as another, before or behind one of another row.
+/// Fails when the line of a row's change differs, before or after a line of another row.
 fn is_shown_beside_each(rt: &impl Abort, alloc: Global, buffer: &mut LineBuffer, row: &str) {
     for other in CHANGES.lines() {
         is_shown(rt, alloc, buffer, row);
@@ -92,7 +93,7 @@ fn is_shown_beside_each(rt: &impl Abort, alloc: Global, buffer: &mut LineBuffer,
     }
 }
 
-/// Each behind each, and behind itself.
+/// Every row after every row, and after itself.
 #[test]
 fn changes_of_one_number_are_told_apart(rt: HostRuntime) {
     let buffer = new_buffer(&rt, rt.alloc());
@@ -101,25 +102,25 @@ fn changes_of_one_number_are_told_apart(rt: HostRuntime) {
     }
 }
 
-/// A change of many, with its number in place of the percent sign.
+/// One change of many. `%` stands for its number.
 const UPDATE: &str =
     r#"{"address":"a.b%","mode":"managed","type":"a","name":"b%","change":{"actions":["update"]}}"#;
 
-/// Its line, after so many seconds.
+/// The line of that change. `#` stands for its seconds.
 const UPDATE_LINE: &str =
     r#"{"@level":"info","@message":"a.b%: Still modifying... [#s elapsed]","@module":"terraform.ui","@timestamp":"1970-01-01T00:00:00Z","hook":{"action":"update","elapsed_seconds":#,"resource":{"addr":"a.b%","implied_provider":"a","module":"","resource":"a.b%","resource_key":null,"resource_name":"b%","resource_type":"a"}},"type":"apply_progress"}"#;
 
-/// Adds the update of that number, and what stands behind it.
+/// Appends the update with that number, and then `behind`.
 fn push_update(rt: &impl Abort, alloc: Global, text: &mut String, number: u32, behind: &str) {
     let number = shown(rt, alloc, &number);
     push(rt, text, put(rt, alloc, UPDATE, "%", number));
     push(rt, text, behind);
 }
 
-/// The text before the updates.
+/// The plan up to its updates.
 const BEFORE_UPDATES: &str = r#"{"format_version":"1.2","resource_changes":["#;
 
-/// 129 updates.
+/// A plan of 129 updates.
 fn updates(rt: &impl Abort, alloc: Global) -> &'static Plan {
     let mut text = String::new(alloc);
     push(rt, &mut text, BEFORE_UPDATES);
@@ -130,7 +131,8 @@ fn updates(rt: &impl Abort, alloc: Global) -> &'static Plan {
     plan_of(rt, alloc, kept(rt, alloc, text).as_str())
 }
 
-/// Numbers of changes, and after how many seconds they are told: in the same row, once and again, and others beside them.
+/// Numbers of changes, and seconds. The rows share a row of the cache, once and again, and others
+/// stand between them.
 const PLACES: &str = "0 20
 64 20
 128 20
@@ -146,7 +148,7 @@ const PLACES: &str = "0 20
 65 30
 0 50";
 
-/// Fails where the update of a row is told otherwise.
+/// Fails when the line of a row's update differs.
 fn is_told_in_turn(
     rt: &impl Abort,
     alloc: Global,
@@ -175,7 +177,7 @@ fn changes_that_share_a_row_are_told_in_turn(rt: HostRuntime) {
 const REPLACEMENT: &str =
     r#"{"format_version":"1.2","terraform_version":"1.9.0","resource_changes":[{"address":"a.b","mode":"managed","type":"a","name":"b","change":{"actions":["delete","create"]}}]}"#;
 
-/// Its steps and after how many seconds they are told, and their lines.
+/// The steps of the replacement, the seconds, and their lines.
 const STEPS: &str =
     r#"0 20 => {"@level":"info","@message":"a.b: Still destroying... [20s elapsed]","@module":"terraform.ui","@timestamp":"1970-01-01T00:00:00Z","hook":{"action":"delete","elapsed_seconds":20,"resource":{"addr":"a.b","implied_provider":"a","module":"","resource":"a.b","resource_key":null,"resource_name":"b","resource_type":"a"}},"type":"apply_progress"}
 0 30 => {"@level":"info","@message":"a.b: Still destroying... [30s elapsed]","@module":"terraform.ui","@timestamp":"1970-01-01T00:00:00Z","hook":{"action":"delete","elapsed_seconds":30,"resource":{"addr":"a.b","implied_provider":"a","module":"","resource":"a.b","resource_key":null,"resource_name":"b","resource_type":"a"}},"type":"apply_progress"}
@@ -184,7 +186,7 @@ const STEPS: &str =
 1 30 => {"@level":"info","@message":"a.b: Still creating... [30s elapsed]","@module":"terraform.ui","@timestamp":"1970-01-01T00:00:00Z","hook":{"action":"create","elapsed_seconds":30,"resource":{"addr":"a.b","implied_provider":"a","module":"","resource":"a.b","resource_key":null,"resource_name":"b","resource_type":"a"}},"type":"apply_progress"}
 1 86390 => {"@level":"info","@message":"a.b: Still creating... [23h59m50s elapsed]","@module":"terraform.ui","@timestamp":"1970-01-01T00:00:00Z","hook":{"action":"create","elapsed_seconds":86390,"resource":{"addr":"a.b","implied_provider":"a","module":"","resource":"a.b","resource_key":null,"resource_name":"b","resource_type":"a"}},"type":"apply_progress"}"#;
 
-/// Adds the line of a row to a buffer, and to the lines that are wanted.
+/// Appends the line of a row to a buffer, and to the expected lines.
 fn add_step(
     rt: &impl Abort,
     alloc: Global,
@@ -201,7 +203,7 @@ fn add_step(
     push(rt, wanted, "\n");
 }
 
-/// Fails where a buffer that is cleared holds other lines of the replacement then.
+/// Fails when a cleared buffer writes other lines for the replacement.
 fn is_told_again(rt: &impl Abort, alloc: Global, buffer: &mut LineBuffer, plan: &Plan) {
     let mut wanted = String::new(alloc);
     buffer.clear();
@@ -212,7 +214,7 @@ fn is_told_again(rt: &impl Abort, alloc: Global, buffer: &mut LineBuffer, plan: 
     has_lines(rt, "a replacement", buffer, wanted);
 }
 
-/// Step by step, and once more when the lines are dropped.
+/// Line by line, and once more after `clear`.
 #[test]
 fn steps_of_one_change_are_told_apart(rt: HostRuntime) {
     let alloc = rt.alloc();
@@ -222,7 +224,8 @@ fn steps_of_one_change_are_told_apart(rt: HostRuntime) {
     is_told_again(&rt, alloc, buffer, plan);
 }
 
-/// A start and the seconds after it, and the moment that is: within a day, at its ends, and of a day before.
+/// A start, the seconds after it, and the timestamp: within a day, at its ends, and on an earlier
+/// day.
 const DAYS: &str = "1970-01-01T00:00:00Z 0 => 1970-01-01T00:00:00Z
 1970-01-01T23:59:50Z 9 => 1970-01-01T23:59:59Z
 1970-01-01T23:59:50Z 10 => 1970-01-02T00:00:00Z
@@ -237,11 +240,11 @@ const DAYS: &str = "1970-01-01T00:00:00Z 0 => 1970-01-01T00:00:00Z
 1970-01-01T00:00:00Z 1728000000 => 2024-10-04T00:00:00Z
 1970-01-02T00:00:00Z 0 => 1970-01-02T00:00:00Z";
 
-/// The line of a delete, with its moment in place of the percent sign.
+/// The line of a delete. `%` stands for its timestamp.
 const DAY_LINE: &str =
     r#"{"@level":"info","@message":"a.b: Still destroying... [20s elapsed]","@module":"terraform.ui","@timestamp":"%","hook":{"action":"delete","elapsed_seconds":20,"resource":{"addr":"a.b","implied_provider":"a","module":"","resource":"a.b","resource_key":null,"resource_name":"b","resource_type":"a"}},"type":"apply_progress"}"#;
 
-/// Fails where the delete is told with another moment than the row's.
+/// Fails when the line of the delete has another timestamp.
 fn has_its_day(rt: &impl Abort, alloc: Global, buffer: &mut LineBuffer, plan: &Plan, row: &str) {
     let (moment, wanted) = parted(rt, row, " => ");
     let (start, seconds) = parted(rt, moment, " ");

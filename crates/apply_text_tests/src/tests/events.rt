@@ -1,4 +1,4 @@
-//! Single lines: of events and counts that no stream of one worker has.
+//! Single lines of events and counts that no stream of one worker has.
 
 use super::*;
 
@@ -13,7 +13,7 @@ fn event_of(change: u32, what: What, at: u64) -> Event {
     }
 }
 
-/// Fails where the line of an event of the only change, so many seconds after the start, is another.
+/// Fails when the line of an event of the only change differs.
 fn is_told(
     rt: &impl Abort,
     alloc: Global,
@@ -35,13 +35,13 @@ fn is_told(
 const ONE_REPLACEMENT: &str =
     r#"{"format_version":"1.2","terraform_version":"1.9.0","resource_changes":[{"address":"null_resource.a","mode":"managed","type":"null_resource","name":"a","change":{"actions":["delete","create"]}}]}"#;
 
-/// When a hook was asked, and the line that tells that it halted.
+/// When the hook was asked, and the line of its halt.
 const HALTS: &str =
     r#"before => {"@level":"error","@message":"Error: execution halted","@module":"terraform.ui","@timestamp":"1970-01-01T00:00:00Z","diagnostic":{"address":"null_resource.a","detail":"Hook 1 answered Halt before delete.","severity":"error","summary":"execution halted"},"type":"diagnostic"}
 after => {"@level":"error","@message":"Error: execution halted","@module":"terraform.ui","@timestamp":"1970-01-01T00:00:00Z","diagnostic":{"address":"null_resource.a","detail":"Hook 0 answered Halt after delete.","severity":"error","summary":"execution halted"},"type":"diagnostic"}
 after failed => {"@level":"error","@message":"Error: execution halted","@module":"terraform.ui","@timestamp":"1970-01-01T00:00:00Z","diagnostic":{"address":"null_resource.a","detail":"Hook 31 answered Halt after failed delete.","severity":"error","summary":"execution halted"},"type":"diagnostic"}"#;
 
-/// That a hook halts, when it was asked as the text says.
+/// A halt of a hook. The text gives its phase.
 fn halt_of(rt: &impl Abort, text: &str) -> What {
     let (phase, hook) = match text {
         "before" => (Phase::Pre, 1),
@@ -52,7 +52,7 @@ fn halt_of(rt: &impl Abort, text: &str) -> What {
     What::Halted { phase, hook }
 }
 
-/// A step whose hooks halt it before it, after it, or after it failed.
+/// Hooks halt a step before it, after it, and after its failure.
 #[test]
 fn hooks_halt(rt: HostRuntime) {
     let zero = Start::zero();
@@ -76,13 +76,13 @@ fn hooks_halt(rt: HostRuntime) {
 const ONE_CREATE: &str =
     r#"{"format_version":"1.2","terraform_version":"1.9.0","resource_changes":[{"address":"null_resource.a","mode":"managed","type":"null_resource","name":"a","change":{"actions":["create"]}}]}"#;
 
-/// The create takes five seconds.
+/// A create that takes five seconds.
 const FIVE_SECONDS: &str = r#"{"changes":[{"address":"null_resource.a","steps":[{"seconds":5}]}]}"#;
 
 const LATER_LINE: &str =
     r#"{"@level":"info","@message":"null_resource.a: Creation complete after 5s","@module":"terraform.ui","@timestamp":"1970-01-01T00:01:05Z","hook":{"action":"create","elapsed_seconds":5,"resource":{"addr":"null_resource.a","implied_provider":"null","module":"","resource":"null_resource.a","resource_key":null,"resource_name":"a","resource_type":"null_resource"}},"type":"apply_complete"}"#;
 
-/// Where an event of another worker came before it that is later, the line has the moment of that event.
+/// A later event of another worker came before. The line has the timestamp of that later event.
 #[test]
 fn a_line_has_the_latest_moment(rt: HostRuntime) {
     let event = event_of(0, What::Complete(5), 5);
@@ -102,7 +102,7 @@ fn a_line_has_the_latest_moment(rt: HostRuntime) {
 const DESTROYED: &str =
     r#"{"@level":"info","@message":"Destroy complete! Resources: 2 destroyed.","@module":"terraform.ui","@timestamp":"1970-01-01T00:00:00Z","changes":{"add":1,"change":3,"operation":"destroy","remove":2},"type":"change_summary"}"#;
 
-/// Where all is destroyed, the summary tells of nothing else.
+/// When all objects are destroyed, the summary counts removals only.
 #[test]
 fn destroy(rt: HostRuntime) {
     let counts = Counts {

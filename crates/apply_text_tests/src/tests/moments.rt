@@ -1,8 +1,8 @@
-//! Moments and durations, as text.
+//! Timestamps and durations as text.
 
 use super::*;
 
-/// A text, and the start that it says, or why it says none.
+/// A text, and the start that it gives or the reason why it gives none.
 const STARTS: &str = r#"1970-01-01T00:00:00Z => Start { seconds: 0 }
 1970-01-01T00:00:01Z => Start { seconds: 1 }
 1970-01-01T00:00:00.999999999Z => Start { seconds: 0 }
@@ -29,7 +29,7 @@ not a time => the moment is not a moment
 1970-01-01T00:59:59+01:00 => the moment is out of range
 8999-12-31T23:59:59-00:01 => the moment is out of range"#;
 
-/// A start and the seconds after it, and the moment that is.
+/// A start, the seconds after it, and the timestamp.
 const MOMENTS: &str = r#"1970-01-01T00:00:00Z 0 => 1970-01-01T00:00:00Z
 1970-01-01T00:00:00Z 1 => 1970-01-01T00:00:01Z
 1970-01-01T00:00:00Z 59 => 1970-01-01T00:00:59Z
@@ -104,7 +104,7 @@ const DURATIONS: &str = r#"0 => 0s
 90061 => 25h1m1s
 4294967295 => 1193046h28m15s"#;
 
-/// What the text is read as: a start, or why it is none.
+/// The result of reading the text, as text.
 fn start_read(rt: &impl Abort, alloc: Global, text: &str) -> &'static str {
     match Start::read(text) {
         Ok(start) => printed(rt, alloc, &start),
@@ -112,7 +112,7 @@ fn start_read(rt: &impl Abort, alloc: Global, text: &str) -> &'static str {
     }
 }
 
-/// What `Debug` prints of it.
+/// The `Debug` text of a start.
 fn printed(rt: &impl Abort, alloc: Global, start: &Start) -> &'static str {
     let text = format!(in alloc; "{start:?}").expect(rt, "memory");
     kept(rt, alloc, text).as_str()
@@ -127,11 +127,11 @@ fn starts_are_read(rt: HostRuntime) {
     }
 }
 
-/// The summary of an apply that did nothing, with its moment in place of the percent sign.
+/// The summary of an apply without changes. `%` stands for its timestamp.
 const NOTHING_DONE: &str =
     r#"{"@level":"info","@message":"Apply complete! Resources: 0 added, 0 changed, 0 destroyed.","@module":"terraform.ui","@timestamp":"%","changes":{"add":0,"change":0,"operation":"apply","remove":0},"type":"change_summary"}"#;
 
-/// Fails where the summary so many seconds after a start has another moment.
+/// Fails when the summary, so many seconds after a start, has another timestamp.
 fn is_printed(rt: &impl Abort, alloc: Global, moment: &str, wanted: &str) {
     let (start, seconds) = parted(rt, moment, " ");
     let (start, seconds) = (start_of(rt, start), number_of(rt, seconds) as u64);
@@ -149,7 +149,7 @@ fn moments_are_printed(rt: HostRuntime) {
     }
 }
 
-/// The duration of so many seconds.
+/// The text of a duration in seconds.
 fn duration_of(rt: &impl Abort, alloc: Global, seconds: &str) -> &'static str {
     let text = elapsed_text(alloc, number_of(rt, seconds)).expect(rt, "memory");
     kept(rt, alloc, text).as_str()

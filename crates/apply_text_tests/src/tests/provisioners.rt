@@ -1,17 +1,18 @@
-//! What is told of provisioners that a script does not have.
+//! Messages of provisioners that the script does not have.
 
 use super::*;
 
 const ONE_CREATE: &str =
     r#"{"format_version":"1.2","terraform_version":"1.9.0","resource_changes":[{"address":"null_resource.a","mode":"managed","type":"null_resource","name":"a","change":{"actions":["create"]}}]}"#;
 
-/// What is told of a provisioner or an output that the script does not have: which of them, a script, and the line.
+/// The numbers of a provisioner and an output that the script does not have, the script, and the
+/// line.
 const UNSAID: &str =
     r##"0 0 => {"changes":[]} => {"@level":"info","@message":"null_resource.a: (): ","@module":"terraform.ui","@timestamp":"1970-01-01T00:00:00Z","hook":{"output":"","provisioner":"","resource":{"addr":"null_resource.a","implied_provider":"null","module":"","resource":"null_resource.a","resource_key":null,"resource_name":"a","resource_type":"null_resource"}},"type":"provision_progress"}
 1 0 => {"changes":[{"address":"null_resource.a","steps":[{"seconds":0,"provisioners":[{"provisioner":"a","seconds":0,"output":["x"]}]}]}]} => {"@level":"info","@message":"null_resource.a: (): ","@module":"terraform.ui","@timestamp":"1970-01-01T00:00:00Z","hook":{"output":"","provisioner":"","resource":{"addr":"null_resource.a","implied_provider":"null","module":"","resource":"null_resource.a","resource_key":null,"resource_name":"a","resource_type":"null_resource"}},"type":"provision_progress"}
 0 1 => {"changes":[{"address":"null_resource.a","steps":[{"seconds":0,"provisioners":[{"provisioner":"a","seconds":0,"output":["x"]}]}]}]} => {"@level":"info","@message":"null_resource.a: (a): ","@module":"terraform.ui","@timestamp":"1970-01-01T00:00:00Z","hook":{"output":"","provisioner":"a","resource":{"addr":"null_resource.a","implied_provider":"null","module":"","resource":"null_resource.a","resource_key":null,"resource_name":"a","resource_type":"null_resource"}},"type":"provision_progress"}"##;
 
-/// Fails where the row's output is told otherwise.
+/// Fails when the line of a row differs.
 fn is_empty(rt: &impl Abort, alloc: Global, plan: &Plan, row: &str) {
     let (numbers, rest) = parted(rt, row, " => ");
     let (script, wanted) = parted(rt, rest, " => ");
@@ -31,7 +32,7 @@ fn what_is_not_said_of_provisioners_is_empty(rt: HostRuntime) {
     }
 }
 
-/// The event of an output, by the number of its provisioner and its own.
+/// An output event, with the numbers of its provisioner and of the output.
 fn output_of(rt: &impl Abort, numbers: &str) -> Event {
     let (prov, line) = parted(rt, numbers, " ");
     let (prov, line) = (number_of(rt, prov), number_of(rt, line));

@@ -1,9 +1,9 @@
-//! First lines of streams: which version of Terraform made the plan, and when the apply starts.
+//! First lines of streams, with the plan's Terraform version and the start of the apply.
 
 use super::*;
 
-/// A plan and a start, and the first line of their stream. The second row has the version and the moment of an example in Terraform's
-/// documentation of its messages.
+/// A plan, a start, and the first line. The second row has the version and the timestamp of an
+/// example in Terraform's documentation.
 const VERSIONS: &str =
     r#"{"format_version":"1.2","terraform_version":"1.9.0"} => 1970-01-01T00:00:00Z => {"@level":"info","@message":"Terraform 1.9.0","@module":"terraform.ui","@timestamp":"1970-01-01T00:00:00Z","terraform":"1.9.0","type":"version","ui":"1.0"}
 {"format_version":"1.0","terraform_version":"0.15.4"} => 2021-05-25T13:32:41.275359-04:00 => {"@level":"info","@message":"Terraform 0.15.4","@module":"terraform.ui","@timestamp":"2021-05-25T17:32:41Z","terraform":"0.15.4","type":"version","ui":"1.0"}
@@ -13,13 +13,13 @@ const VERSIONS: &str =
 {"format_version":"1.2","terraform_version":""} => 1970-01-01T00:00:00Z => {"@level":"info","@message":"Terraform ","@module":"terraform.ui","@timestamp":"1970-01-01T00:00:00Z","terraform":"","type":"version","ui":"1.0"}
 {"format_version":"1.2","terraform_version":"\"1\\9\"\t\u0001\u00e9/"} => 1970-01-01T00:00:00Z => {"@level":"info","@message":"Terraform \"1\\9\"\t\u0001é/","@module":"terraform.ui","@timestamp":"1970-01-01T00:00:00Z","terraform":"\"1\\9\"\t\u0001é/","type":"version","ui":"1.0"}"#;
 
-/// The version line by itself.
+/// The version line as a single line.
 fn first_line(rt: &impl Abort, alloc: Global, plan: &Plan, start: Start) -> &'static str {
     let line = version_line(alloc, plan, start).expect(rt, "memory");
     kept(rt, alloc, line).as_str()
 }
 
-/// Fails where a buffer has another text than the line twice, when the version line was added to it twice.
+/// Fails when two calls of `push_version` do not append the line twice.
 fn is_told_twice(rt: &impl Abort, alloc: Global, plan: &Plan, start: Start, line: &str) {
     let mut buffer = LineBuffer::new(alloc);
     for _ in 0..2 {
@@ -29,7 +29,7 @@ fn is_told_twice(rt: &impl Abort, alloc: Global, plan: &Plan, start: Start, line
     holds(rt, line, buffer.as_bytes() == wanted.as_bytes());
 }
 
-/// Fails where the stream of a row has another first line.
+/// Fails when a row's stream starts with another line.
 fn begins_so(rt: &impl Abort, alloc: Global, row: &str) {
     let (text, rest) = parted(rt, row, " => ");
     let (start, wanted) = parted(rt, rest, " => ");

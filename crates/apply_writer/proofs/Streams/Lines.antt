@@ -13,7 +13,7 @@ use Rattle.apply_writer.proofs.Prefixes.{prefix_more, prefix_same}
 
 -- ---- moments
 
--- what comes behind is not looked at
+-- what follows is not read
 latest_before : (events more : List Event) (i : ℕ) → i ≤ length events → latest_of (events ++ more) i ≡ latest_of events i
 latest_before events more i few = ap (λ es. fold max 0 (map (λ (event : Event). event.at) es)) (take-append-le i events more few)
 
@@ -36,7 +36,7 @@ text_in form all p = form.line (latest_of all (p.0 + 1)) p.1
 abbrev texts_from : StreamForm → (all : List Event) (n : ℕ) → List Event → List ℕ
 texts_from form all n events = flat_map (text_in form all) (enumerate_from n events)
 
--- what comes behind is not looked at
+-- what follows is not read
 texts_before : (form : StreamForm) (all more : List Event) (n : ℕ) (events : List Event) → n + length events ≤ length all
     → texts_from form (all ++ more) n events ≡ texts_from form all n events
 texts_before form all more n [] few = refl
@@ -75,7 +75,7 @@ lines_more form events event =
 pub lines_none : (form : StreamForm) → lines_in form [] ≡ form.head
 lines_none form = append-nil form.head
 
--- with more events behind them
+-- with more events after them
 pub lines_prefix : (form : StreamForm) (events more : List Event) → IsPrefix (lines_in form events) (lines_in form (events ++ more))
 lines_prefix form events [] = subst (λ es. IsPrefix (lines_in form events) (lines_in form es)) (sym (append-nil events)) (prefix_same (lines_in form events))
 lines_prefix form events (event ∷ more) =

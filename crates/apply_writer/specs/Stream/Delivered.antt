@@ -6,8 +6,8 @@ use Rattle.apply_events.specs.declared.event.Event.{Event}
 use Rattle.apply_events.specs.Totals.{totals_of}
 use Rattle.apply_writer.specs.declared.report.Report.{Report}
 
--- the sink had the bytes `before` and has these more behind them now; the report is that of the events and of these
--- bytes
+-- the sink had the bytes `before`, and now has these bytes after them; the report counts the events
+-- and these bytes
 pub record IsDelivered (plan : SavedPlan) (events : List Event) (bytes : List ℕ) (report : Report)
     (before after : Option (List ℕ)) : Type 0 where
   pub counts : report.counts ≡ totals_of plan events

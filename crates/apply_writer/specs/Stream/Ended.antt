@@ -16,7 +16,7 @@ pub record IsWhole (plan : SavedPlan) (events : List Event) (all : List ℕ) (re
   pub delivered : IsDelivered plan events all report before after
   pub failed : failures' ≡ failures
 
--- a prefix of the bytes was delivered, and there are so many failures now
+-- a prefix of the bytes was delivered, and `failures` is the number of failed writes
 pub record IsCutOff (plan : SavedPlan) (events : List Event) (all : List ℕ) (report : Report)
     (before after : Option (List ℕ)) (failures failures' : ℕ) : Type 0 where
   pub part : List ℕ
@@ -24,7 +24,7 @@ pub record IsCutOff (plan : SavedPlan) (events : List Event) (all : List ℕ) (r
   pub delivered : IsDelivered plan events part report before after
   pub failed : failures' ≡ failures
 
--- a write has failed, or memory was refused for a line, and then nothing of what comes last was written
+-- a write failed; or memory was refused for a line, and then nothing of the tail was written
 abbrev pub IsFaulted : (form : StreamForm) (events : List Event)
     → Fault → (before after : Option (List ℕ)) (failures failed : ℕ) → Type 0
 IsFaulted form events fault before after failures failed =

@@ -1,4 +1,4 @@
--- What a stream tells in some form, and the bytes of it.
+-- The form of a stream, and its bytes.
 use Rattle.std.specs.Prelude.{ℕ, ◌+◌, List, ◌++◌, length, flat_map}
 use Rattle.std.specs.List.{enumerate_from}
 use Rattle.apply_model.specs.Plan.SavedPlan.{SavedPlan}
@@ -11,21 +11,22 @@ use Rattle.apply_text.specs.Latest.{latest_of}
 use Rattle.apply_text.specs.Lines.{event_text, summary_text, version_text}
 use Rattle.apply_text.specs.Order.{as_written}
 
--- what is told of a plan in some form: what comes first, the line of an event so many seconds after the start, or nothing,
--- and what comes last, of what the events add up to
+-- a form for one plan: the head, the line of an event so many seconds after the start (or nothing),
+-- and the tail, from the totals of the events
 pub record StreamForm : Type 0 where
   pub plan : SavedPlan
   pub head : List ℕ
   pub line : (latest : ℕ) → Event → List ℕ
   pub tail : (latest : ℕ) → Counts → List ℕ
 
--- of events in the order in which they are written: what comes first, and the line of each, at the latest moment up to then
+-- the head and the line of each event, in the order in which they are written; each line has the
+-- latest timestamp up to its event
 abbrev pub lines_in : StreamForm → (written : List Event) → List ℕ
 lines_in form written =
     form.head ++ flat_map (λ p. form.line (latest_of written (p.0 + 1)) p.1) (enumerate_from 0 written)
 
--- of events in the order in which they were taken: the lines of them as they are written, and what comes last, at the
--- latest moment
+-- the whole stream of events, given in the order in which they were accepted: the lines in the
+-- order of writing, then the tail with the latest timestamp
 abbrev pub stream_in : StreamForm → (taken : List Event) → List ℕ
 stream_in form taken =
     lines_in form (as_written taken)

@@ -1,58 +1,58 @@
--- What was written to a sink, up to where the writing stopped.
+-- What was written to a sink, until the writing stopped.
 use Rattle.std.specs.Prelude.{◌≡◌, ℕ, ◌+◌, List, ◌++◌, length, Option}
 use Rattle.std.specs.Io.KnownBytes.{Appends}
 use mathlib.Core.List.{IsPrefix}
 use Rattle.apply_writer.specs.declared.stream.output.Output.{Output}
-use Rattle.apply_writer.specs.declared.stream.output.Stop.{Stop}
-use Rattle.apply_writer.specs.declared.stream.output.Stop.TheVariants.{Going, Failed, NoMemory}
+use Rattle.apply_writer.specs.declared.stream.output.WriteState.{WriteState}
+use Rattle.apply_writer.specs.declared.stream.output.WriteState.TheVariants.{Open, Failed, OutOfMemory}
 
--- an output: why nothing more is written, what its sink has and how many writes to it have failed, and how many bytes
--- were written
+-- an output: whether it is still written to, the bytes of its sink, the failed writes, and the
+-- number of bytes written
 pub record Outlet : Type 0 where
-  pub stop : Stop
+  pub state : WriteState
   pub bytes : Option (List ℕ)
   pub failures : ℕ
   pub written : ℕ
 
--- an output, by what its sink tells
+-- an output, from what its sink reveals
 abbrev pub outlet_of : {S : Type 0} → (bytes : S → Option (List ℕ)) → (failed : S → ℕ) → Output S → Outlet
 outlet_of bytes failed output = record {
-  stop = output.stop;
+  state = output.state;
   bytes = bytes output.sink;
   failures = failed output.sink;
   written = output.written;
 }
 
--- how many writes failed
-abbrev pub failed_writes : Stop → ℕ
-failed_writes Going = 0
+-- how many writes failed before the writing reached this state
+abbrev pub failed_writes : WriteState → ℕ
+failed_writes Open = 0
 failed_writes Failed = 1
-failed_writes NoMemory = 0
+failed_writes OutOfMemory = 0
 
--- where memory was refused for what comes next
-abbrev pub stop_for_memory : Stop → Stop
-stop_for_memory Going = NoMemory
+-- the state after memory was refused for the next line
+abbrev pub stop_for_memory : WriteState → WriteState
+stop_for_memory Open = OutOfMemory
 stop_for_memory Failed = Failed
-stop_for_memory NoMemory = NoMemory
+stop_for_memory OutOfMemory = OutOfMemory
 
--- since the sink had these bytes and so many failures, all of the bytes were written, or a prefix of them where the
--- writing stopped
+-- since the sink had these bytes and so many failures, all of the bytes were written, or a prefix
+-- of them if the writing stopped
 pub record HasWritten (before : Option (List ℕ)) (failures : ℕ) (all : List ℕ) (outlet : Outlet) : Type 0 where
   pub part : List ℕ
   pub is_prefix : IsPrefix part all
-  pub whole : outlet.stop ≡ Going → part ≡ all
+  pub whole : outlet.state ≡ Open → part ≡ all
   pub appended : Appends before outlet.bytes part
   pub counted : outlet.written ≡ length part
-  pub failed : outlet.failures ≡ failures + failed_writes outlet.stop
+  pub failed : outlet.failures ≡ failures + failed_writes outlet.state
 
--- whatever was written before, these bytes were written behind it
+-- these bytes were written after all that was written before
 abbrev pub Writes : (old new : Outlet) → (bytes : List ℕ) → Type 0
 Writes old new bytes = (before : Option (List ℕ)) (failures : ℕ) (all : List ℕ)
     → HasWritten before failures all old → HasWritten before failures (all ++ bytes) new
 
 -- no write has failed, and nothing was written since
 pub record IsRefused (old new : Outlet) : Type 0 where
-  pub none_failed : failed_writes old.stop ≡ 0
+  pub none_failed : failed_writes old.state ≡ 0
   pub bytes : new.bytes ≡ old.bytes
   pub failures : new.failures ≡ old.failures
   pub written : new.written ≡ old.written

@@ -1,59 +1,62 @@
-//! The lines of a stream in some form, built one at a time.
+//! The trait of a form: it builds the lines of a stream, one at a time.
 
 ghost use Rattle.std.specs.Prelude.{◌≡◌, ◌<◌, ◌≤◌, ◌^◌, [], length, slice_index_or, OnOk};
 ghost use Rattle.std.specs.List.{concat};
-ghost use Rattle.apply_events.specs.Fits.{IsOfPlan, last_moment};
-ghost use Rattle.apply_writer.specs.Stream.Counting.{max_pieces};
+ghost use Rattle.apply_events.specs.Fits.{IsOfPlan, latest_second};
+ghost use Rattle.apply_writer.specs.Stream.Counting.{max_head_chunks};
 
 use apply_events::{Counts, Event};
 use apply_model::Plan;
 use std::alloc::AllocError;
 
-/// Builds the lines of a stream in some form, each in the place of the one before. Contracts see what is told of the plan in
-/// this form, the pieces of what comes first, and what was built last.
+/// Builds the lines of a stream in one form. Each line takes the place of the one before. Contracts
+/// see the form, the chunks of the head, and the line that was built last.
+///
+/// Every `Err` means that memory was refused.
 pub trait FormLines: Drop {
     ghost use Rattle.std.specs.Prelude.{ℕ, List};
     ghost use Rattle.apply_writer.specs.Stream.Form.{StreamForm};
 
-    /// What is told of the plan.
+    /// The plan, and the bytes of each part of its stream.
     ghost form: { Self → StreamForm };
-    /// What comes first, in the pieces in which it is built.
-    ghost pieces: { Self → List (List ℕ) };
-    /// What was built last.
+    /// The head, in the chunks in which it is built.
+    ghost head_chunks: { Self → List (List ℕ) };
+    /// The line or chunk that was built last.
     ghost built: { Self → List ℕ };
 
-    /// The plan whose events are told.
+    /// The plan whose events the stream reports.
     fn plan(&self) -> &Plan
         ensures { result.now ≡ (form self.now).plan };
 
-    /// In how many pieces what comes first is built.
-    fn pieces_of_head(&self) -> u32
-        ensures count { result ≡ length (pieces self.now) }
-        ensures few { result ≤ max_pieces }
-        ensures whole { concat (pieces self.now) ≡ (form self.now).head };
+    /// The number of chunks of the head.
+    fn head_chunk_count(&self) -> u32
+        ensures count { result ≡ length (head_chunks self.now) }
+        ensures few { result ≤ max_head_chunks }
+        ensures whole { concat (head_chunks self.now) ≡ (form self.now).head };
 
-    /// Builds a piece of what comes first, counted from 0. `Err` where memory is refused.
-    fn build_head(&mut self, place: u32) -> Result<(), AllocError>
-        requires { place < length (pieces self.old) }
-        ensures ok { OnOk result (built self.new ≡ slice_index_or (pieces self.old) place []) }
+    /// Builds a chunk of the head; `place` counts from 0.
+    fn build_head_chunk(&mut self, place: u32) -> Result<(), AllocError>
+        requires { place < length (head_chunks self.old) }
+        ensures ok { OnOk result (built self.new ≡ slice_index_or (head_chunks self.old) place []) }
         ensures form { form self.new ≡ form self.old }
-        ensures pieces { pieces self.new ≡ pieces self.old };
+        ensures head_chunks { head_chunks self.new ≡ head_chunks self.old };
 
-    /// Builds the line of an event of the plan, `latest` seconds after the start, or nothing where it has none. `Err` where
-    /// memory is refused.
+    /// Builds the line of an event of the plan, with the timestamp `latest` seconds after the
+    /// start. The line is empty if the form has none for this event.
     fn build_line(&mut self, latest: u64, event: &Event) -> Result<(), AllocError>
         requires event { IsOfPlan (form self.old).plan event.now }
-        requires in_time { latest ≤ last_moment }
+        requires in_time { latest ≤ latest_second }
         ensures ok { OnOk result (built self.new ≡ (form self.old).line latest event.now) }
         ensures form { form self.new ≡ form self.old };
 
-    /// Builds what comes last, `latest` seconds after the start, of what the events add up to. `Err` where memory is refused.
+    /// Builds the tail from the totals of the events, with the timestamp `latest` seconds after the
+    /// start.
     fn build_tail(&mut self, latest: u64, counts: &Counts) -> Result<(), AllocError>
-        requires { latest ≤ last_moment }
+        requires { latest ≤ latest_second }
         ensures ok { OnOk result (built self.new ≡ (form self.old).tail latest counts.now) }
         ensures form { form self.new ≡ form self.old };
 
-    /// What was built last.
+    /// The line or chunk that was built last.
     fn as_bytes(&self) -> &[u8]
         ensures { result.now ≡ built self.now };
 }

@@ -2,7 +2,7 @@
 
 ghost use Rattle.std.specs.Prelude.{◌≡◌, ◌<◌, ◌≤◌, [], length, slice_index_or, IfOk, OnOk};
 ghost use Rattle.std.specs.List.{concat};
-ghost use Rattle.apply_events.specs.Fits.{IsOfPlan, last_moment};
+ghost use Rattle.apply_events.specs.Fits.{IsOfPlan, latest_second};
 ghost use Rattle.apply_writer.specs.Stream.Form.{plain_form};
 
 use crate::forms::form_lines::FormLines;
@@ -11,23 +11,23 @@ use apply_model::{Plan, Script};
 use apply_text::{LineBuffer, Operation, Start};
 use std::alloc::{AllocError, Global};
 
-/// The lines of a stream in the default form.
+/// Builds the lines of a stream in the default form.
 #[derive(Drop)]
 pub struct PlainLines<'a> {
-    /// The plan whose events are told.
+    /// The plan whose events the stream reports.
     pub plan: &'a Plan,
-    /// What is said of its steps.
+    /// What the script states about the plan's steps.
     pub script: &'a Script,
-    /// When the first steps begin.
+    /// When the first steps start.
     pub start: Start,
-    /// What the apply is for, as the summary names it.
+    /// What the apply is for: the summary names it.
     pub operation: Operation,
-    /// Room for one line, which is kept from line to line.
+    /// Room for one line, reused from line to line.
     buffer: LineBuffer,
 }
 
 impl<'a> PlainLines<'a> {
-    /// Of a plan, with what the script says of its steps, from the start on. `Err` where memory is refused.
+    /// Makes the lines of a plan and its script. `Err` if memory is refused.
     pub fn new(
         alloc: Global,
         plan: &'a Plan,
@@ -55,7 +55,7 @@ impl FormLines for PlainLines<'_> {
 
     ghost form = { λ lines. plain_form lines.plan.now lines.script.now lines.start lines.operation };
 
-    ghost pieces = { λ lines. version_text lines.plan.now lines.start ∷ [] };
+    ghost head_chunks = { λ lines. version_text lines.plan.now lines.start ∷ [] };
 
     ghost built = { λ lines. lines.buffer };
 
@@ -63,11 +63,11 @@ impl FormLines for PlainLines<'_> {
         self.plan
     }
 
-    fn pieces_of_head(&self) -> u32 {
+    fn head_chunk_count(&self) -> u32 {
         1
     }
 
-    fn build_head(&mut self, _place: u32) -> Result<(), AllocError> {
+    fn build_head_chunk(&mut self, _place: u32) -> Result<(), AllocError> {
         self.buffer.clear();
         self.buffer.push_version(self.plan, self.start)
     }

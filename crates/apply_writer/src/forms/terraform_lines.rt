@@ -1,73 +1,74 @@
 //! The lines of a stream in Terraform's own form.
+//!
+//! Every `Err` means that memory was refused.
 
 ghost use Rattle.std.specs.Prelude.{◌≡◌, ◌<◌, ◌≤◌, ◌+◌, ◌++◌, [], flat_map, length, slice_get, slice_index_or, OnOk, IfOk, option_and_then};
 ghost use Rattle.std.specs.List.{concat};
 ghost use Rattle.std.specs.Option.{option_copied, option_map_or};
-ghost use Rattle.apply_events.specs.Fits.{IsOfPlan, last_moment};
+ghost use Rattle.apply_events.specs.Fits.{IsOfPlan, latest_second};
 ghost use Rattle.apply_text_terraform.specs.Lines.{note_text, summary_text};
 ghost use Rattle.apply_writer.specs.Stream.Terraform.{imported_in, outputs_of_apply, planned_at};
 ghost use Rattle.apply_writer.specs.Forms.{IsSame};
 
 use crate::forms::form_lines::FormLines;
-use crate::forms::told_besides::ToldBesides;
+use crate::forms::terraform_extras::TerraformExtras;
 use apply_events::{Counts, Event};
 use apply_model::{Note, Plan, Script};
 use apply_text::{Operation, Start};
-use apply_text_terraform::FormBuffer;
+use apply_text_terraform::TerraformBuffer;
 use std::alloc::{AllocError, Global};
 
-/// The lines of a stream in Terraform's own form.
+/// Builds the lines of a stream in Terraform's own form.
 #[derive(Drop)]
 pub struct TerraformLines<'a> {
-    /// The plan whose events are told.
+    /// The plan whose events the stream reports.
     pub plan: &'a Plan,
-    /// What is said of its steps.
+    /// What the script states about the plan's steps.
     pub script: &'a Script,
-    /// What both say besides.
-    pub besides: ToldBesides<'a>,
-    /// When the first steps begin.
+    /// What plan and script state beyond the steps.
+    pub extras: TerraformExtras<'a>,
+    /// When the first steps start.
     pub start: Start,
-    /// What the apply is for, as the summary names it.
+    /// What the apply is for: the summary names it.
     pub operation: Operation,
-    /// Room for one line, which is kept from line to line.
-    buffer: FormBuffer,
+    /// Room for one line, reused from line to line.
+    buffer: TerraformBuffer,
 }
 
 impl<'a> TerraformLines<'a> {
-    /// Of a plan, with what the script says of its steps, and what both say besides, from the start on. `Err` where memory is
-    /// refused.
+    /// Makes the lines of a plan, its script and the extras of both.
     pub fn new(
         alloc: Global,
         plan: &'a Plan,
         script: &'a Script,
-        besides: ToldBesides<'a>,
+        extras: TerraformExtras<'a>,
         start: Start,
         operation: Operation,
     ) -> Result<TerraformLines<'a>, AllocError>
         ensures { IfOk result (λ lines. (lines.plan.now ≡ plan.now) × (lines.script.now ≡ script.now)
-            × (lines.besides.details.now ≡ besides.entry.details.now) × (lines.besides.notes.now ≡ besides.entry.notes.now)
-            × (lines.besides.outputs.now ≡ besides.entry.outputs.now)
+            × (lines.extras.details.now ≡ extras.entry.details.now) × (lines.extras.notes.now ≡ extras.entry.notes.now)
+            × (lines.extras.outputs.now ≡ extras.entry.outputs.now)
             × (lines.start ≡ start) × (lines.operation ≡ operation)) }
     {
         Ok(TerraformLines {
             plan,
             script,
-            besides,
+            extras,
             start,
             operation,
-            buffer: FormBuffer::with_room(alloc)?,
+            buffer: TerraformBuffer::with_room(alloc)?,
         })
     }
 
-    /// Appends the line of the planned change of that number, where something is planned. `Err` where memory is refused.
+    /// Appends the line of the planned change with that number, if something is planned for it.
     fn push_planned(&mut self, number: u32) -> Result<(), AllocError>
         requires { number < length self.old.plan.now.changes }
         ensures ok { OnOk result (self.new.buffer ≡ self.old.buffer ++ option_map_or
-            (λ change. planned_at self.old.start self.old.besides.details.now (number, change))
+            (λ change. planned_at self.old.start self.old.extras.details.now (number, change))
             (slice_get self.old.plan.now.changes number) []) }
         ensures same { IsSame self.old self.new }
     {
-        match self.besides.details.get(number as usize) {
+        match self.extras.details.get(number as usize) {
             Some(details) => {
                 self.buffer
                     .push_planned(self.start, self.plan.change(number), details)
@@ -76,45 +77,45 @@ impl<'a> TerraformLines<'a> {
         }
     }
 
-    /// Appends the diagnostics of no step. `Err` where memory is refused.
+    /// Appends the diagnostics that belong to no step.
     fn push_notes(&mut self, latest: u64) -> Result<(), AllocError>
-        requires { latest ≤ last_moment }
+        requires { latest ≤ latest_second }
         ensures ok { OnOk result (self.new.buffer
-            ≡ self.old.buffer ++ flat_map (note_text self.old.start latest) self.old.besides.notes.now) }
+            ≡ self.old.buffer ++ flat_map (note_text self.old.start latest) self.old.extras.notes.now) }
         ensures same { IsSame self.old self.new }
     {
-        push_each(&mut self.buffer, self.start, latest, self.besides.notes)
+        push_all_notes(&mut self.buffer, self.start, latest, self.extras.notes)
     }
 
-    /// Appends the summary, and the outputs of an apply. `Err` where memory is refused.
-    fn push_sums(&mut self, latest: u64, counts: &Counts) -> Result<(), AllocError>
-        requires { latest ≤ last_moment }
+    /// Appends the summary, and after an apply the outputs.
+    fn push_totals(&mut self, latest: u64, counts: &Counts) -> Result<(), AllocError>
+        requires { latest ≤ latest_second }
         ensures ok { OnOk result (self.new.buffer ≡ self.old.buffer
-            ++ (summary_text self.old.start latest self.old.operation counts.now (imported_in self.old.besides.details.now)
-            ++ outputs_of_apply self.old.operation self.old.start latest self.old.besides.outputs.now)) }
+            ++ (summary_text self.old.start latest self.old.operation counts.now (imported_in self.old.extras.details.now)
+            ++ outputs_of_apply self.old.operation self.old.start latest self.old.extras.outputs.now)) }
         ensures same { IsSame self.old self.new }
     {
-        let imported = self.besides.imported();
+        let imported = self.extras.imported();
         self.buffer
             .push_summary(self.start, latest, self.operation, counts, imported)?;
         match self.operation {
             Operation::Apply => {
                 self.buffer
-                    .push_outputs(self.start, latest, self.besides.outputs)
+                    .push_outputs(self.start, latest, self.extras.outputs)
             }
             Operation::Destroy => Ok(()),
         }
     }
 }
 
-/// Appends diagnostics of no step. `Err` where memory is refused.
-fn push_each(
-    buffer: &mut FormBuffer,
+/// Appends each of the diagnostics.
+fn push_all_notes(
+    buffer: &mut TerraformBuffer,
     start: Start,
     latest: u64,
     notes: &[Note],
 ) -> Result<(), AllocError>
-    requires { latest ≤ last_moment }
+    requires { latest ≤ latest_second }
     ensures { OnOk result (buffer.new ≡ buffer.old ++ flat_map (note_text start latest) notes.now) }
 {
     for note in notes {
@@ -124,13 +125,13 @@ fn push_each(
 }
 
 impl FormLines for TerraformLines<'_> {
-    ghost use Rattle.apply_writer.specs.Stream.Terraform.{head_pieces, terraform_form};
+    ghost use Rattle.apply_writer.specs.Stream.Terraform.{terraform_head_chunks, terraform_form};
 
     ghost form = { λ lines. terraform_form lines.plan.now lines.script.now
-        (record { details = lines.besides.details.now; notes = lines.besides.notes.now; outputs = lines.besides.outputs.now })
+        (record { details = lines.extras.details.now; notes = lines.extras.notes.now; outputs = lines.extras.outputs.now })
         lines.start lines.operation };
 
-    ghost pieces = { λ lines. head_pieces lines.plan.now lines.besides.details.now lines.start };
+    ghost head_chunks = { λ lines. terraform_head_chunks lines.plan.now lines.extras.details.now lines.start };
 
     ghost built = { λ lines. lines.buffer };
 
@@ -138,11 +139,11 @@ impl FormLines for TerraformLines<'_> {
         self.plan
     }
 
-    fn pieces_of_head(&self) -> u32 {
+    fn head_chunk_count(&self) -> u32 {
         self.plan.len() + 1
     }
 
-    fn build_head(&mut self, place: u32) -> Result<(), AllocError> {
+    fn build_head_chunk(&mut self, place: u32) -> Result<(), AllocError> {
         self.buffer.clear();
         if place == 0 {
             self.buffer.push_version(self.plan, self.start)
@@ -153,7 +154,7 @@ impl FormLines for TerraformLines<'_> {
 
     fn build_line(&mut self, latest: u64, event: &Event) -> Result<(), AllocError> {
         self.buffer.clear();
-        let planned = self.besides.planned_id(event.change);
+        let planned = self.extras.planned_id(event.change);
         self.buffer
             .push_event(self.plan, self.script, self.start, latest, planned, event)
     }
@@ -161,10 +162,10 @@ impl FormLines for TerraformLines<'_> {
     fn build_tail(&mut self, latest: u64, counts: &Counts) -> Result<(), AllocError> {
         self.buffer.clear();
         self.push_notes(latest)?;
-        if self.besides.tells_error(counts) {
+        if self.extras.contains_error(counts) {
             Ok(())
         } else {
-            self.push_sums(latest, counts)
+            self.push_totals(latest, counts)
         }
     }
 

@@ -1,16 +1,17 @@
-//! A sink in memory.
+//! A sink in memory, for tests.
 
 ghost use Rattle.std.specs.Prelude.{◌≡◌, ◌<◌, ◌≤◌, ◌+◌, ◌-◌, ◌^◌, ◌++◌, ◌⊎◌, [], Some, IfOk, OnErr, length, take};
-ghost use Rattle.apply_writer.specs.Sinks.{most_taken};
+ghost use Rattle.apply_writer.specs.Sinks.{max_accepted};
 
 use crate::sinks::sink::{Sink, SinkFault};
 use std::alloc::Global;
 use std::marker::Model;
 
-/// A sink that keeps its bytes in memory, so that a test can compare them and let writes be short or fail.
+/// A sink that stores its bytes in memory. A test can compare them, and can make writes short or
+/// let them fail.
 ///
-/// Contracts see the bytes that it took, for how many it has room without growing, its limits, and how many writes have
-/// failed.
+/// Contracts see the bytes, the room left before the sink has to grow, its two limits, and the
+/// number of failed writes.
 #[derive(Drop)]
 pub struct MemorySink {
     taken: Vec<u8>,
@@ -38,7 +39,8 @@ impl Model for MemorySink {
 }
 
 impl MemorySink {
-    /// An empty sink that takes at most `per_write` bytes with each write, and `fail_after` in all, or any number.
+    /// Makes an empty sink. Each write accepts at most `per_write` bytes. `fail_after` limits the
+    /// bytes in all; `None` sets no limit.
     pub fn new(alloc: Global, per_write: usize, fail_after: Option<usize>) -> MemorySink
         requires { 1 ≤ per_write }
         ensures { result
@@ -52,16 +54,16 @@ impl MemorySink {
         }
     }
 
-    /// All bytes that it took.
+    /// Returns all bytes that were written to the sink.
     pub fn bytes(&self) -> &[u8]
         ensures { result.now ≡ self.now.taken }
     {
         self.taken.as_slice()
     }
 
-    /// How many bytes it takes of a slice of that length, where memory is not refused.
-    fn most_taken(&self, len: usize) -> usize
-        ensures { result ≡ most_taken self.now.per_write self.now.fail_after (length self.now.taken) len }
+    /// How many bytes of a slice of that length the sink accepts, if memory is not refused.
+    fn max_accepted(&self, len: usize) -> usize
+        ensures { result ≡ max_accepted self.now.per_write self.now.fail_after (length self.now.taken) len }
     {
         let most = self.per_write.min(len);
         match self.fail_after {
@@ -78,27 +80,27 @@ impl Sink for MemorySink {
 
     ghost failed = { λ sink. sink.failures };
 
-    /// Takes as many of the first bytes as `per_write` and what is left of `fail_after` allow.
+    /// Accepts as many of the first bytes as `per_write` and the rest of `fail_after` allow.
     ///
-    /// `Err` of bytes where nothing is left of `fail_after`, and where memory is refused: then it has the bytes that it had,
-    /// and one write more has failed.
+    /// `Err` for a slice with bytes if nothing is left of `fail_after`, or if memory is refused.
+    /// Then the sink has the same bytes as before, and counts one more failed write.
     fn write(&mut self, slice: &[u8]) -> Result<usize, SinkFault>
         requires { self.old.failures < 2 ^ 64 - 1 }
         ensures ok { IfOk result (λ taken.
-            (taken ≡ most_taken self.old.per_write self.old.fail_after (length self.old.taken) (length slice.now))
+            (taken ≡ max_accepted self.old.per_write self.old.fail_after (length self.old.taken) (length slice.now))
             × (0 < length slice.now → 0 < taken)
             × (self.new.taken ≡ self.old.taken ++ take taken slice.now)
             × (self.new.failures ≡ self.old.failures)) }
         ensures err { OnErr result ((0 < length slice.now) × (self.new.taken ≡ self.old.taken)
             × (self.new.failures ≡ self.old.failures + 1)) }
 
-        // It is full, or would have to grow.
-        ensures full { let most = most_taken self.old.per_write self.old.fail_after (length self.old.taken) (length slice.now) in
+        // An error means that the sink is full, or would have to grow.
+        ensures full { let most = max_accepted self.old.per_write self.old.fail_after (length self.old.taken) (length slice.now) in
             OnErr result ((most ≡ 0) ⊎ (self.old.room < length self.old.taken + most)) }
 
         ensures limits { (self.new.per_write ≡ self.old.per_write) × (self.new.fail_after ≡ self.old.fail_after) }
     {
-        let count = self.most_taken(slice.len());
+        let count = self.max_accepted(slice.len());
         if count == 0 && !slice.is_empty()
             || self.taken.extend_from_slice(&slice[..count]).is_err()
         {

@@ -1,4 +1,4 @@
-//! Where lines go.
+//! The trait of sinks, which receive the bytes of a stream.
 
 ghost use Rattle.std.specs.Prelude.{◌≡◌, ◌<◌, ◌≤◌, ◌+◌, ◌-◌, ◌^◌, ℕ, List, Option, IfOk, OnErr, length, take, nat_lt, if◌then◌else◌};
 ghost use Rattle.std.specs.Io.KnownBytes.{Appends, Keeps};
@@ -10,17 +10,18 @@ use thiserror::Error;
 #[error("the sink failed")]
 pub struct SinkFault;
 
-/// What takes the bytes of lines. Contracts see the bytes that it has, where it tells them, and how many of its writes
-/// have failed.
+/// Receives the bytes of a stream. Contracts see the bytes, if the sink reveals them, and the
+/// number of failed writes.
 pub trait Sink {
-    /// The bytes that it has, where it tells them.
+    /// The bytes of the sink, if it reveals them.
     ghost bytes: { Self → Option (List ℕ) };
-    /// How many writes have failed.
+    /// The number of failed writes.
     ghost failed: { Self → ℕ };
 
-    /// Takes the first bytes of the slice, at least one where there is one, and says how many.
+    /// Writes the first bytes of the slice, at least one unless it is empty, and returns how many.
     ///
-    /// `Err` where it takes none: then it has the bytes that it had, and one write more has failed.
+    /// `Err` if none was written. Then the sink has the same bytes as before, and one more write
+    /// has failed.
     fn write(&mut self, slice: &[u8]) -> Result<usize, SinkFault>
         requires { failed self.old < 2 ^ 64 - 1 }
         ensures ok { IfOk result (λ taken. (taken ≤ length slice.now) × (0 < length slice.now → 0 < taken)
@@ -29,12 +30,13 @@ pub trait Sink {
         ensures err { OnErr result (Keeps (bytes self.old) (bytes self.new)
             × (failed self.new ≡ failed self.old + 1)) };
 
-    /// How many writes have failed.
+    /// The number of failed writes.
     fn failures(&self) -> u64
         ensures { result ≡ failed self.now };
 }
 
-/// Writes all of the bytes, by as many writes as it takes, and says how many were taken: fewer where a write failed.
+/// Writes all of the bytes, in as many writes as needed, and returns how many were written. The
+/// number is smaller only after a failed write.
 pub fn write_all<S: Sink>(sink: &mut S, bytes: &[u8]) -> usize
     requires { S.failed sink.old < 2 ^ 64 - 1 }
     ensures few { result ≤ length bytes.now }

@@ -1,4 +1,4 @@
-//! A sink over a writer.
+//! A sink over any writer of the standard library.
 
 ghost use Rattle.std.specs.Prelude.{◌≡◌, ◌<◌, ◌≤◌, ◌+◌, ◌-◌, ◌^◌, ◌||◌, IfOk, OnErr, OnOk, false, length, take, true};
 ghost use Rattle.std.specs.Io.KnownBytes.{Appends, Keeps};
@@ -7,9 +7,11 @@ use crate::sinks::sink::{Sink, SinkFault};
 use std::io::{ErrorKind, Write};
 use std::marker::Model;
 
-/// A sink over any writer. It tells the bytes that the writer tells. A write that takes nothing counts as one that failed.
+/// A sink over any writer. Its bytes are known where the writer's bytes are. A write that accepts
+/// nothing counts as failed.
 ///
-/// Contracts see the writer, how many writes and flushes have failed, and whether one has since the reader of a pipe is gone.
+/// Contracts see the writer, the number of failed writes and flushes, and whether one of them
+/// failed because the reader of a pipe is gone.
 #[derive(Drop)]
 pub struct StdSink<W: Drop> {
     writer: W,
@@ -30,7 +32,7 @@ impl<W: Drop> Model for StdSink<W> {
 }
 
 impl<W: Write + Drop> StdSink<W> {
-    /// A sink over the writer. Nothing has failed yet.
+    /// Wraps the writer. No write has failed yet.
     pub fn new(writer: W) -> StdSink<W>
         ensures { result ≡ record { writer = writer; failures = 0; is_reader_gone = false } }
     {
@@ -41,7 +43,8 @@ impl<W: Write + Drop> StdSink<W> {
         }
     }
 
-    /// Whether a write or a flush has failed since the reader of a pipe is gone, as the writer's error says.
+    /// Whether a write or a flush failed because the reader of the pipe is gone
+    /// (`ErrorKind::BrokenPipe`).
     pub fn is_reader_gone(&self) -> bool
         ensures { result ≡ self.now.is_reader_gone }
     {
@@ -50,8 +53,8 @@ impl<W: Write + Drop> StdSink<W> {
 
     /// Flushes the writer.
     ///
-    /// `Err` where the writer says that it failed, which counts as a write that failed; the writer then has the bytes that
-    /// it had.
+    /// `Err` if the flush failed. It counts as a failed write, and the writer has the same bytes as
+    /// before.
     pub fn flush(&mut self) -> Result<(), SinkFault>
         requires { self.old.failures < 2 ^ 64 - 1 }
         ensures bytes { Keeps (W.contents self.old.writer) (W.contents self.new.writer) }
@@ -66,7 +69,7 @@ impl<W: Write + Drop> StdSink<W> {
         }
     }
 
-    /// Counts a write or a flush that failed, and keeps whether one has since the reader is gone.
+    /// Counts a failed write or flush, and records whether the reader of the pipe is gone.
     fn fail(&mut self, is_reader_gone: bool) -> SinkFault
         requires { self.old.failures < 2 ^ 64 - 1 }
         ensures { self.new ≡ record {
@@ -80,7 +83,7 @@ impl<W: Write + Drop> StdSink<W> {
         SinkFault
     }
 
-    /// The writer.
+    /// Returns the writer.
     pub fn into_inner(self) -> W
         ensures { result ≡ self.writer }
     {
@@ -93,10 +96,10 @@ impl<W: Write + Drop> Sink for StdSink<W> {
 
     ghost failed = { λ sink. sink.failures };
 
-    /// Takes what the writer takes, and nothing of an empty slice.
+    /// Writes what the writer accepts; an empty slice never reaches the writer.
     ///
-    /// `Err` of bytes where the writer says that it failed, or takes none of them: then it has the bytes that it had, and
-    /// one write more has failed.
+    /// `Err` for a slice with bytes if the writer fails or accepts none of them. Then the writer
+    /// has the same bytes as before, and one more write has failed.
     fn write(&mut self, slice: &[u8]) -> Result<usize, SinkFault>
         requires { self.old.failures < 2 ^ 64 - 1 }
         ensures ok { IfOk result (λ taken. (taken ≤ length slice.now) × (0 < length slice.now → 0 < taken)

@@ -1,10 +1,12 @@
-//! From bytes to what is found in what a script says for Terraform's form alone.
+//! Checks `outputs` and `diagnostics` at the top of a script, from its bytes.
+//!
+//! Every `Err` means that memory was refused.
 
 ghost use Rattle.std.specs.Prelude.{◌≡◌, IfOk, option_map};
 ghost use Rattle.std.specs.Option.{option_copied};
-ghost use Rattle.apply_plan_terraform.specs.Outputs.{seen_outputs};
+ghost use Rattle.apply_plan_terraform.specs.Outputs.{outputs_view};
 ghost use Rattle.input_validate.specs.Extras.{extras_findings, outputs_unless};
-ghost use Rattle.input_validate.specs.Findings.{told};
+ghost use Rattle.input_validate.specs.Findings.{reported};
 ghost use Rattle.input_validate.specs.InForm.{extras_for};
 
 use crate::extras::top_level::walk_extras;
@@ -16,8 +18,9 @@ use apply_plan::MAX_BYTES;
 use apply_plan_terraform::{PlanOutputs, read_details};
 use std::alloc::{AllocError, Global};
 
-/// What is found in the bytes of a script that only a run in that form reads, beside the bytes of a plan, which may be refused.
-/// `Err` where memory is refused.
+/// Lists the errors in the members that only a run in Terraform's form reads. For the other form,
+/// and without a script, there are none. `is_refused` says that a run refuses the plan: then
+/// outputs are not compared with the plan's.
 pub fn extras_for(
     alloc: Global,
     form: Form,
@@ -25,7 +28,7 @@ pub fn extras_for(
     plan: &[u8],
     script: Option<&[u8]>,
 ) -> Result<Findings, AllocError>
-    ensures { IfOk result (λ f. f ≡ told (extras_for form is_refused plan.now (option_copied script.entry))) }
+    ensures { IfOk result (λ f. f ≡ reported (extras_for form is_refused plan.now (option_copied script.entry))) }
 {
     match (form, script) {
         (Form::Terraform, Some(bytes)) => {
@@ -36,13 +39,14 @@ pub fn extras_for(
     }
 }
 
-/// What the bytes of a plan say of outputs, unless a run refuses it. It was read before, so that only memory can be missing.
+/// Reads the outputs of a plan that a run accepts. The plan was read before, so the only possible
+/// error is a lack of memory.
 fn outputs_unless(
     alloc: Global,
     is_refused: bool,
     plan: &[u8],
 ) -> Result<Option<PlanOutputs>, AllocError>
-    ensures { IfOk result (λ outputs. option_map seen_outputs outputs ≡ outputs_unless is_refused plan.now) }
+    ensures { IfOk result (λ outputs. option_map outputs_view outputs ≡ outputs_unless is_refused plan.now) }
 {
     if is_refused {
         return Ok(None);
@@ -53,13 +57,13 @@ fn outputs_unless(
     }
 }
 
-/// What is found in the bytes of a script, beside what a plan says of outputs where there is one.
+/// Checks the bytes of a script. Bytes that are too many or not JSON are reported elsewhere.
 fn walk_bytes(
     alloc: Global,
     outputs: &Option<PlanOutputs>,
     bytes: &[u8],
 ) -> Result<Findings, AllocError>
-    ensures { IfOk result (λ f. f ≡ told (extras_findings (option_map seen_outputs outputs.now) bytes.now)) }
+    ensures { IfOk result (λ f. f ≡ reported (extras_findings (option_map outputs_view outputs.now) bytes.now)) }
 {
     match parse(alloc, bytes, MAX_BYTES) {
         Ok(script) => walk_extras(alloc, outputs.as_ref(), &script),

@@ -1,40 +1,40 @@
-//! What is found in a diagnostic of no step.
+//! Checks a diagnostic that belongs to no step.
 
 ghost use Rattle.input_validate.specs.Extras.{in_note};
 
+use crate::findings::expected::Expected;
 use crate::findings::list::Findings;
 use crate::findings::name::Name;
-use crate::findings::want::Want;
-use crate::walks::known::Known;
-use crate::walks::object::walk_object;
-use crate::walks::walk::Walk;
+use crate::rules::object::walk_object;
+use crate::rules::rule::MemberRule;
+use crate::rules::walk::Walk;
 use serde_json::Value;
 use std::alloc::{AllocError, Global};
 
-const TABLE: [Known; 6] = [
-    Known {
+const TABLE: [MemberRule; 6] = [
+    MemberRule {
         name: Name::Severity,
-        want: Want::NoteSeverity,
+        expected: Expected::NoteSeverity,
     },
-    Known {
+    MemberRule {
         name: Name::Summary,
-        want: Want::Text,
+        expected: Expected::Text,
     },
-    Known {
+    MemberRule {
         name: Name::Detail,
-        want: Want::TextOrAbsent,
+        expected: Expected::TextOrAbsent,
     },
-    Known {
+    MemberRule {
         name: Name::Address,
-        want: Want::TextOrAbsent,
+        expected: Expected::TextOrAbsent,
     },
-    Known {
+    MemberRule {
         name: Name::Range,
-        want: Want::ObjectOrAbsent,
+        expected: Expected::ObjectOrAbsent,
     },
-    Known {
+    MemberRule {
         name: Name::Snippet,
-        want: Want::ObjectOrAbsent,
+        expected: Expected::ObjectOrAbsent,
     },
 ];
 
@@ -47,12 +47,12 @@ pub(crate) const NAMES: [Name; 6] = [
     Name::Snippet,
 ];
 
-/// A diagnostic of no step.
+/// An item of `diagnostics` at the top of a script.
 #[derive(Clone, Copy)]
 pub struct Note;
 
 impl<'a> Walk<'a> for Note {
-    ghost found = { λ _ _ d. in_note d };
+    ghost findings = { λ _ _ d. in_note d };
 
     #[tactic(auto, unfolding(crate::specs::Extras::in_note))]
     fn walk(
@@ -61,6 +61,6 @@ impl<'a> Walk<'a> for Note {
         _number: usize,
         value: &'a Value,
     ) -> Result<Findings, AllocError> {
-        walk_object(alloc, value, Want::Note, &TABLE, &NAMES)
+        walk_object(alloc, value, Expected::Note, &TABLE, &NAMES)
     }
 }

@@ -1,13 +1,13 @@
 //! One finding.
 
 use crate::findings::path::Path;
-use crate::findings::what::What;
+use crate::findings::problem::Problem;
 
-/// What is wrong at one place.
+/// One error or warning, with its place.
 #[derive(Debug, Drop)]
 pub struct Finding {
-    /// Where it is, from the top level of the plan or of the script.
+    /// The path from the top level of the plan or of the script.
     pub path: Path,
-    /// What is wrong there.
-    pub what: What,
+    /// What is wrong at that place.
+    pub problem: Problem,
 }

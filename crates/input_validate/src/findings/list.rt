@@ -1,114 +1,118 @@
-//! The findings of a value.
+//! A list of findings that stores the first 1,000 of them.
+//!
+//! Every `Err` means that memory was refused.
 
 ghost use Rattle.std.specs.Prelude.{◌≡◌, [], ◌∷◌, ◌++◌, ◌||◌, List, IfOk, OnOk, map};
-ghost use Rattle.input_validate.specs.Findings.{finding_at, finding_here, told, under};
-ghost use Rattle.input_validate.specs.declared.findings.finding.Finding.{Finding as found};
+ghost use Rattle.input_validate.specs.Findings.{finding_at, finding_here, reported, under};
+ghost use Rattle.input_validate.specs.declared.findings.finding.Finding.{Finding as finding_type};
 
 use crate::findings::finding::Finding;
-use crate::findings::part::Part;
-use crate::findings::path::Path;
-use crate::findings::what::What;
+use crate::findings::path::{Path, Segment};
+use crate::findings::problem::Problem;
 use std::alloc::{AllocError, Global};
 use std::marker::Model;
 
-/// How many findings are kept.
-pub const MOST_KEPT: usize = 1000;
+/// How many findings a list stores. Further findings are only counted.
+pub const MAX_STORED: usize = 1000;
 
-/// The findings of a value: the first 1,000 in their order, how many there are, and whether a run refuses for one of them.
+/// The findings of a value: the first 1,000 in their order, and the number of all of them.
+/// `refuses` tells whether a run refuses for one of them.
 #[derive(Debug, Drop)]
 pub struct Findings {
-    kept: Vec<Finding>,
+    stored: Vec<Finding>,
     count: usize,
     refuses: bool,
 }
 
 impl Model for Findings {
     ghost use Rattle.std.specs.Prelude.{◌≤◌, vec_len};
-    ghost use Rattle.input_validate.specs.Findings.{Told, most_kept};
+    ghost use Rattle.input_validate.specs.Findings.{Reported, max_stored};
 
-    ghost Value = { Told };
+    ghost Value = { Reported };
 
-    ghost view = { λ f. record { kept = f.kept.items; count = f.count; refuses = f.refuses } };
+    ghost view = { λ f. record { stored = f.stored.items; count = f.count; refuses = f.refuses } };
 
-    ghost invariant = { λ f. vec_len f.kept ≤ most_kept };
+    ghost invariant = { λ f. vec_len f.stored ≤ max_stored };
 }
 
 impl Findings {
-    /// No finding.
-    #[tactic(auto, unfolding(crate::specs::Findings::told))]
+    /// Makes a list without findings.
+    #[tactic(auto, unfolding(crate::specs::Findings::reported))]
     pub fn none(alloc: Global) -> Findings
-        ensures { result ≡ told [] }
+        ensures { result ≡ reported [] }
     {
         Findings {
-            kept: Vec::new(alloc),
+            stored: Vec::new(alloc),
             count: 0,
             refuses: false,
         }
     }
 
-    /// One, at the value itself. `Err` where memory is refused.
-    pub fn here(alloc: Global, what: What) -> Result<Findings, AllocError>
-        ensures { IfOk result (λ f. f ≡ told (finding_here what ∷ [])) }
+    /// Makes one finding at the value itself.
+    pub fn here(alloc: Global, problem: Problem) -> Result<Findings, AllocError>
+        ensures { IfOk result (λ f. f ≡ reported (finding_here problem ∷ [])) }
     {
-        Findings::one(alloc, Path::here(alloc), what)
+        Findings::one(alloc, Path::here(alloc), problem)
     }
 
-    /// One, at what that step leads to. `Err` where memory is refused.
-    pub fn at(alloc: Global, part: Part, what: What) -> Result<Findings, AllocError>
-        ensures { IfOk result (λ f. f ≡ told (finding_at part what ∷ [])) }
+    /// Makes one finding at a member or an item of the value.
+    pub fn at(alloc: Global, segment: Segment, problem: Problem) -> Result<Findings, AllocError>
+        ensures { IfOk result (λ f. f ≡ reported (finding_at segment problem ∷ [])) }
     {
         let mut path = Path::here(alloc);
-        path.begin_with(part)?;
-        Findings::one(alloc, path, what)
+        path.begin_with(segment)?;
+        Findings::one(alloc, path, problem)
     }
 
-    /// One, where the path leads. `Err` where memory is refused.
-    pub fn one(alloc: Global, path: Path, what: What) -> Result<Findings, AllocError>
-        ensures { IfOk result (λ f. f ≡ told (record { path = path; what = what } ∷ [])) }
+    /// Makes one finding at this path.
+    pub fn one(alloc: Global, path: Path, problem: Problem) -> Result<Findings, AllocError>
+        ensures { IfOk result (λ f. f ≡ reported (record { path = path; problem = problem } ∷ [])) }
     {
-        let mut kept = Vec::new(alloc);
-        kept.push(Finding { path, what })?;
+        let mut stored = Vec::new(alloc);
+        stored.push(Finding { path, problem })?;
         Ok(Findings {
-            kept,
+            stored,
             count: 1,
-            refuses: what.is_refusal(),
+            refuses: problem.is_refusal(),
         })
     }
 
-    /// The same, of the value in which that step leads to theirs. `Err` where memory is refused.
-    pub fn under(mut self, part: Part) -> Result<Findings, AllocError>
-        ensures { IfOk result (λ f. (all : List found) → self ≡ told all → f ≡ told (map (under part) all)) }
+    /// Moves the findings of a member or an item to the value that holds it: each path gets
+    /// `segment` in front.
+    pub fn under(mut self, segment: Segment) -> Result<Findings, AllocError>
+        ensures { IfOk result (λ f. (all : List finding_type) → self ≡ reported all → f ≡ reported (map (under segment) all)) }
     {
-        begin_with(&mut self.kept, part)?;
+        begin_with(&mut self.stored, segment)?;
         Ok(self)
     }
 
-    /// These, and the others behind them. `Err` where memory is refused.
+    /// Appends other findings. No more than 1,000 of both stay stored, in order.
     pub fn then(mut self, mut others: Findings) -> Result<Findings, AllocError>
-        ensures { IfOk result (λ f. (all more : List found) → self ≡ told all → others ≡ told more → f ≡ told (all ++ more)) }
+        ensures { IfOk result (λ f. (all more : List finding_type) → self ≡ reported all → others ≡ reported more → f ≡ reported (all ++ more)) }
     {
-        others.kept.truncate(MOST_KEPT - self.kept.len());
-        self.kept.append(&mut others.kept)?;
+        others.stored.truncate(MAX_STORED - self.stored.len());
+        self.stored.append(&mut others.stored)?;
         self.count = self.count.saturating_add(others.count);
         self.refuses = is_either(self.refuses, others.refuses);
         Ok(self)
     }
 
-    /// Whether a run refuses for one of them.
+    /// Returns whether a run refuses for one of the findings. If not, all of them are warnings.
     pub fn refuses(&self) -> bool
         ensures { result ≡ self.now.refuses }
     {
         self.refuses
     }
 
-    /// The first of them.
-    pub fn kept(&self) -> &[Finding]
-        ensures { result.now ≡ self.now.kept }
+    /// Returns the stored findings: the first 1,000.
+    pub fn stored(&self) -> &[Finding]
+        ensures { result.now ≡ self.now.stored }
     {
-        &self.kept
+        &self.stored
     }
 
-    /// How many there are; no more than 18,446,744,073,709,551,615 are counted.
+    /// Returns the number of all findings, stored or not. Counting stops at
+    /// 18,446,744,073,709,551,615.
     pub fn count(&self) -> usize
         ensures { result ≡ self.now.count }
     {
@@ -116,30 +120,30 @@ impl Findings {
     }
 }
 
-/// Whether one of the two holds.
 fn is_either(one: bool, other: bool) -> bool
     ensures { result ≡ (one || other) }
 {
     one || other
 }
 
-/// Makes all paths begin with that step.
-fn begin_with(kept: &mut [Finding], part: Part) -> Result<(), AllocError>
-    ensures { OnOk result (kept.new ≡ map (under part) kept.old) }
+/// Puts a segment in front of each path.
+fn begin_with(stored: &mut [Finding], segment: Segment) -> Result<(), AllocError>
+    ensures { OnOk result (stored.new ≡ map (under segment) stored.old) }
 {
-    for finding in kept.iter_mut() {
-        finding.path.begin_with(part)?;
+    for finding in stored.iter_mut() {
+        finding.path.begin_with(segment)?;
     }
     Ok(())
 }
 
-/// What is found in one place, and behind it what is found in another. `Err` where memory was refused for either, or is for both.
+/// Appends the findings of a second place to those of a first one. `Err` if either has `Err`, or if
+/// memory is refused here.
 pub fn joined(
     these: Result<Findings, AllocError>,
     others: Result<Findings, AllocError>,
 ) -> Result<Findings, AllocError>
-    ensures { (all more : List found) → IfOk these (λ f. f ≡ told all) → IfOk others (λ f. f ≡ told more)
-        → IfOk result (λ f. f ≡ told (all ++ more)) }
+    ensures { (all more : List finding_type) → IfOk these (λ f. f ≡ reported all) → IfOk others (λ f. f ≡ reported more)
+        → IfOk result (λ f. f ≡ reported (all ++ more)) }
 {
     these?.then(others?)
 }

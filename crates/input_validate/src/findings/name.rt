@@ -1,9 +1,10 @@
-//! Members that a run looks at.
+//! The names of the members that `validate` knows.
 
 ghost use Rattle.std.specs.Prelude.{◌≡◌};
 ghost use Rattle.input_validate.specs.Names.{name_text};
 
-/// A member of a plan or of a script that a run looks at, or that `validate` knows.
+/// A member of a plan or of a script that a run reads, or that `validate` accepts without reading
+/// it.
 #[derive(Clone, Copy, Debug)]
 pub enum Name {
     Actions,
@@ -45,7 +46,7 @@ pub enum Name {
 }
 
 impl Name {
-    /// The name as JSON has it.
+    /// Returns the name as it stands in JSON.
     pub fn text(self) -> &'static str
         ensures { result.now ≡ name_text self }
     {

@@ -1,28 +1,40 @@
-//! Where something was found.
+//! The place of a finding.
 
 ghost use Rattle.std.specs.Prelude.{◌≡◌, ◌<◌, [], ◌∷◌, length, IfOk, OnOk, Some, slice_get};
 
-use crate::findings::part::Part;
+use crate::findings::name::Name;
 use std::alloc::{AllocError, Global};
 use std::marker::Model;
 
-/// A path into a value, which contracts see as the list of its steps, the outermost first.
+/// One step of a path, from a value to a member or an item of it.
+#[derive(Clone, Copy, Debug)]
+pub enum Segment {
+    /// The member of that name.
+    Member(Name),
+    /// A member with any other name, by its number in its object. Members are in the order of their
+    /// names' bytes.
+    Other(usize),
+    /// The item of that number, counted from 0.
+    Item(usize),
+}
+
+/// A path into a value. Contracts see the list of its segments, the outermost first.
 #[derive(Debug, Drop)]
 pub struct Path {
-    innermost_first: Vec<Part>,
+    innermost_first: Vec<Segment>,
 }
 
 impl Model for Path {
     ghost use Rattle.std.specs.Prelude.{List, reverse};
-    ghost use Rattle.input_validate.specs.declared.findings.part.Part.{Part};
+    ghost use Rattle.input_validate.specs.declared.findings.path.Segment.{Segment};
 
-    ghost Value = { List Part };
+    ghost Value = { List Segment };
 
     ghost view = { λ path. reverse path.innermost_first.items };
 }
 
 impl Path {
-    /// To the value itself.
+    /// Makes the path to the value itself.
     pub fn here(alloc: Global) -> Path
         ensures { result ≡ [] }
     {
@@ -31,23 +43,23 @@ impl Path {
         }
     }
 
-    /// Makes it a path from the value in which that step leads to where it began. `Err` where memory is refused.
-    pub fn begin_with(&mut self, part: Part) -> Result<(), AllocError>
-        ensures { OnOk result (self.new ≡ part ∷ self.old) }
+    /// Puts a segment in front of the path. `Err` means that memory was refused.
+    pub fn begin_with(&mut self, segment: Segment) -> Result<(), AllocError>
+        ensures { OnOk result (self.new ≡ segment ∷ self.old) }
     {
-        self.innermost_first.push(part)?;
+        self.innermost_first.push(segment)?;
         Ok(())
     }
 
-    /// How many steps it has.
+    /// Returns the number of segments.
     pub fn len(&self) -> usize
         ensures { result ≡ length self.now }
     {
         self.innermost_first.len()
     }
 
-    /// The step of that number, counted from 0 at the outermost.
-    pub fn get(&self, number: usize) -> Part
+    /// Returns the segment with this number. The outermost has the number 0.
+    pub fn get(&self, number: usize) -> Segment
         requires { number < length self.now }
         ensures { Some result ≡ slice_get self.now number }
     {

@@ -1,65 +1,65 @@
-//! What is found in an element of `resource_changes`.
+//! Checks an element of `resource_changes` by itself.
 
 ghost use Rattle.std.specs.Prelude.{◌≡◌, IfOk, is_some};
 ghost use Rattle.serde_json.specs.View.{items_view, view};
 ghost use Rattle.apply_plan.specs.Plan.Steps.{steps_alone, steps_together};
-ghost use Rattle.input_validate.specs.Findings.{told};
-ghost use Rattle.input_validate.specs.PlanFindings.{actions_mark, address_marks, by_itself, has_empty_address, in_change, is_one_of_eight, misplaces};
+ghost use Rattle.input_validate.specs.Findings.{reported};
+ghost use Rattle.input_validate.specs.PlanFindings.{actions_violation, address_violations, by_itself, has_empty_address, in_change, is_one_of_eight, misplaces};
 
+use crate::findings::expected::Expected;
 use crate::findings::list::{Findings, joined};
 use crate::findings::name::Name;
-use crate::findings::want::Want;
-use crate::findings::what::What;
-use crate::walks::known::Known;
-use crate::walks::mark::Mark;
-use crate::walks::members::{faults, walk_inside, walk_marks};
-use crate::walks::walk::Walk;
+use crate::findings::problem::Problem;
+use crate::rules::members::{faults, walk_inside, walk_violations};
+use crate::rules::rule::MemberRule;
+use crate::rules::violation::Violation;
+use crate::rules::walk::Walk;
 use apply_json_tree::members::{is_text, member, text_member, text_member_or};
 use apply_model::relative_address;
 use serde_json::Value;
 use std::alloc::{AllocError, Global};
 
-const TABLE: [Known; 8] = [
-    Known {
+const TABLE: [MemberRule; 8] = [
+    MemberRule {
         name: Name::Address,
-        want: Want::Text,
+        expected: Expected::Text,
     },
-    Known {
+    MemberRule {
         name: Name::ModuleAddress,
-        want: Want::TextOrAbsent,
+        expected: Expected::TextOrAbsent,
     },
-    Known {
+    MemberRule {
         name: Name::Mode,
-        want: Want::Mode,
+        expected: Expected::Mode,
     },
-    Known {
+    MemberRule {
         name: Name::Kind,
-        want: Want::NonEmptyText,
+        expected: Expected::NonEmptyText,
     },
-    Known {
+    MemberRule {
         name: Name::Name,
-        want: Want::NonEmptyText,
+        expected: Expected::NonEmptyText,
     },
-    Known {
+    MemberRule {
         name: Name::Index,
-        want: Want::Key,
+        expected: Expected::Key,
     },
-    Known {
+    MemberRule {
         name: Name::Deposed,
-        want: Want::TextOrAbsent,
+        expected: Expected::TextOrAbsent,
     },
-    Known {
+    MemberRule {
         name: Name::Change,
-        want: Want::Object,
+        expected: Expected::Object,
     },
 ];
 
-const ACTIONS: [Known; 1] = [Known {
+const ACTIONS: [MemberRule; 1] = [MemberRule {
     name: Name::Actions,
-    want: Want::Array,
+    expected: Expected::Array,
 }];
 
-/// Whether a list of actions is one of the eight.
+/// Returns whether a list of actions is one of the eight that a plan may have.
 fn is_one_of_eight(actions: &[Value]) -> bool
     ensures { result ≡ is_one_of_eight (items_view actions.now) }
 {
@@ -70,7 +70,7 @@ fn is_one_of_eight(actions: &[Value]) -> bool
     }
 }
 
-/// Whether an action may stand alone.
+/// Returns whether an action may stand alone.
 fn is_single(action: &Value) -> bool
     ensures { result ≡ is_some (steps_alone (view action.now)) }
 {
@@ -82,7 +82,7 @@ fn is_single(action: &Value) -> bool
         || is_text(action, "forget")
 }
 
-/// Whether two actions replace an object.
+/// Returns whether two actions replace an object.
 fn is_replacement(first: &Value, second: &Value) -> bool
     ensures { result ≡ is_some (steps_together (view first.now) (view second.now)) }
 {
@@ -90,30 +90,30 @@ fn is_replacement(first: &Value, second: &Value) -> bool
         || (is_text(first, "create") && is_text(second, "delete"))
 }
 
-/// Whether a list of actions stands there, and is none of the eight.
-fn actions_mark(change: &Value) -> Mark
-    ensures { result ≡ actions_mark (view change.now) }
+/// Tests whether `actions` is an array, but none of the eight lists.
+fn actions_violation(change: &Value) -> Violation
+    ensures { result ≡ actions_violation (view change.now) }
 {
     let holds = match member(change, Name::Actions.text()) {
-        Some(found) => match found.as_array() {
+        Some(list) => match list.as_array() {
             Some(actions) => !is_one_of_eight(actions),
             None => false,
         },
         None => false,
     };
-    Mark {
+    Violation {
         holds,
         at: Some(Name::Actions),
-        what: What::BadActions,
+        problem: Problem::BadActions,
     }
 }
 
-/// What an element changes.
+/// The member `change` of an element.
 #[derive(Clone, Copy)]
 struct Change;
 
 impl<'a> Walk<'a> for Change {
-    ghost found = { λ _ _ d. in_change d };
+    ghost findings = { λ _ _ d. in_change d };
 
     #[tactic(auto, unfolding(crate::specs::PlanFindings::in_change))]
     fn walk(
@@ -126,11 +126,11 @@ impl<'a> Walk<'a> for Change {
             return Ok(Findings::none(alloc));
         }
         let all = faults(alloc, value, &ACTIONS);
-        joined(all, walk_marks(alloc, &[actions_mark(value)]))
+        joined(all, walk_violations(alloc, &[actions_violation(value)]))
     }
 }
 
-/// Whether the address is not one in the module that the element names.
+/// Returns whether the address is outside the module that the element names.
 fn misplaces(element: &Value) -> bool
     ensures { result ≡ misplaces (view element.now) }
 {
@@ -152,31 +152,32 @@ fn has_empty_address(element: &Value) -> bool
     }
 }
 
-/// What is wrong with the address.
-fn address_marks(element: &Value) -> [Mark; 2]
-    ensures { result ≡ address_marks (view element.now) }
+/// Tests whether the address is empty, or outside its module.
+fn address_violations(element: &Value) -> [Violation; 2]
+    ensures { result ≡ address_violations (view element.now) }
 {
     let misplaced = misplaces(element);
     let empty = has_empty_address(element);
     [
-        Mark {
+        Violation {
             holds: misplaced && empty,
             at: Some(Name::Address),
-            what: What::EmptyAddress,
+            problem: Problem::EmptyAddress,
         },
-        Mark {
+        Violation {
             holds: misplaced && !empty,
             at: Some(Name::Address),
-            what: What::OutsideModule,
+            problem: Problem::OutsideModule,
         },
     ]
 }
 
-/// What is found in an element by itself, which is an object.
+/// Checks an element that is an object, without a look at other elements. `Err` means that memory
+/// was refused.
 pub fn walk_by_itself(alloc: Global, element: &Value) -> Result<Findings, AllocError>
-    ensures { IfOk result (λ f. f ≡ told (by_itself (view element.now))) }
+    ensures { IfOk result (λ f. f ≡ reported (by_itself (view element.now))) }
 {
     let all = faults(alloc, element, &TABLE);
     let all = joined(all, walk_inside(alloc, &Change, element, Name::Change));
-    joined(all, walk_marks(alloc, &address_marks(element)))
+    joined(all, walk_violations(alloc, &address_violations(element)))
 }

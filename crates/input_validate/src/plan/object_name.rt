@@ -1,4 +1,4 @@
-//! Which object an element names.
+//! The name of an object: its address and its deposed key.
 
 ghost use Rattle.std.specs.Prelude.{◌≡◌, option_map};
 ghost use Rattle.serde_json.specs.View.{view};
@@ -10,7 +10,7 @@ use apply_json::non_empty;
 use apply_json_tree::members::{text_member, text_member_or};
 use serde_json::Value;
 
-/// An address, and the key of a deposed object or none.
+/// An address, and the key of a deposed object. `None` is the object that is not deposed.
 #[derive(Clone, Copy, PartialEq, Eq, PartialOrd, Ord)]
 pub struct ObjectName<'a> {
     pub address: &'a str,
@@ -18,7 +18,8 @@ pub struct ObjectName<'a> {
 }
 
 impl<'a> ObjectName<'a> {
-    /// What a value names by its `address` and its `deposed`. `None` where one of them is something else.
+    /// Reads the name from the members `address` and `deposed`. `None` if one of them has a wrong
+    /// kind.
     pub fn of(value: &'a Value) -> Option<ObjectName<'a>>
         ensures { option_map name_view result ≡ name_read (view value.now) }
     {

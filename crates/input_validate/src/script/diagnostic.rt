@@ -1,46 +1,46 @@
-//! What is found in a diagnostic.
+//! Checks a diagnostic.
 
 ghost use Rattle.std.specs.Prelude.{◌≡◌, IfOk};
 ghost use Rattle.serde_json.specs.View.{view};
-ghost use Rattle.input_validate.specs.Findings.{told};
+ghost use Rattle.input_validate.specs.Findings.{reported};
 ghost use Rattle.input_validate.specs.ScriptFindings.{in_diagnostic};
 
+use crate::findings::expected::Expected;
 use crate::findings::list::Findings;
 use crate::findings::name::Name;
-use crate::findings::want::Want;
-use crate::walks::known::Known;
-use crate::walks::object::walk_object;
-use crate::walks::walk::Walk;
+use crate::rules::object::walk_object;
+use crate::rules::rule::MemberRule;
+use crate::rules::walk::Walk;
 use serde_json::Value;
 use std::alloc::{AllocError, Global};
 
-const TABLE: [Known; 4] = [
-    Known {
+const TABLE: [MemberRule; 4] = [
+    MemberRule {
         name: Name::Summary,
-        want: Want::Text,
+        expected: Expected::Text,
     },
-    Known {
+    MemberRule {
         name: Name::Detail,
-        want: Want::TextOrAbsent,
+        expected: Expected::TextOrAbsent,
     },
-    Known {
+    MemberRule {
         name: Name::Range,
-        want: Want::ObjectOrAbsent,
+        expected: Expected::ObjectOrAbsent,
     },
-    Known {
+    MemberRule {
         name: Name::Snippet,
-        want: Want::ObjectOrAbsent,
+        expected: Expected::ObjectOrAbsent,
     },
 ];
 
 pub(crate) const NAMES: [Name; 4] = [Name::Summary, Name::Detail, Name::Range, Name::Snippet];
 
-/// A diagnostic: a step's warning, or why a provisioner fails.
+/// A diagnostic: the warning of a step, or why a provisioner failed.
 #[derive(Clone, Copy)]
 pub struct Diagnostic;
 
 impl<'a> Walk<'a> for Diagnostic {
-    ghost found = { λ _ _ d. in_diagnostic d };
+    ghost findings = { λ _ _ d. in_diagnostic d };
 
     #[tactic(auto, unfolding(crate::specs::ScriptFindings::in_diagnostic))]
     fn walk(
@@ -49,6 +49,6 @@ impl<'a> Walk<'a> for Diagnostic {
         _number: usize,
         value: &'a Value,
     ) -> Result<Findings, AllocError> {
-        walk_object(alloc, value, Want::Diagnostic, &TABLE, &NAMES)
+        walk_object(alloc, value, Expected::Diagnostic, &TABLE, &NAMES)
     }
 }

@@ -1,36 +1,36 @@
-//! What is found in why a step fails.
+//! Checks the `failed` of a step.
 
 ghost use Rattle.input_validate.specs.ScriptFindings.{in_failure};
 
+use crate::findings::expected::Expected;
 use crate::findings::list::Findings;
 use crate::findings::name::Name;
-use crate::findings::want::Want;
-use crate::walks::known::Known;
-use crate::walks::object::walk_object;
-use crate::walks::walk::Walk;
+use crate::rules::object::walk_object;
+use crate::rules::rule::MemberRule;
+use crate::rules::walk::Walk;
 use serde_json::Value;
 use std::alloc::{AllocError, Global};
 
-const TABLE: [Known; 5] = [
-    Known {
+const TABLE: [MemberRule; 5] = [
+    MemberRule {
         name: Name::Summary,
-        want: Want::Text,
+        expected: Expected::Text,
     },
-    Known {
+    MemberRule {
         name: Name::Detail,
-        want: Want::TextOrAbsent,
+        expected: Expected::TextOrAbsent,
     },
-    Known {
+    MemberRule {
         name: Name::Severity,
-        want: Want::Severity,
+        expected: Expected::Severity,
     },
-    Known {
+    MemberRule {
         name: Name::Range,
-        want: Want::ObjectOrAbsent,
+        expected: Expected::ObjectOrAbsent,
     },
-    Known {
+    MemberRule {
         name: Name::Snippet,
-        want: Want::ObjectOrAbsent,
+        expected: Expected::ObjectOrAbsent,
     },
 ];
 
@@ -42,12 +42,12 @@ pub(crate) const NAMES: [Name; 5] = [
     Name::Snippet,
 ];
 
-/// Why a step fails: a diagnostic that also tells how severe it is.
+/// Why a step failed: a diagnostic with a severity.
 #[derive(Clone, Copy)]
 pub struct Failure;
 
 impl<'a> Walk<'a> for Failure {
-    ghost found = { λ _ _ d. in_failure d };
+    ghost findings = { λ _ _ d. in_failure d };
 
     #[tactic(auto, unfolding(crate::specs::ScriptFindings::in_failure))]
     fn walk(
@@ -56,6 +56,6 @@ impl<'a> Walk<'a> for Failure {
         _number: usize,
         value: &'a Value,
     ) -> Result<Findings, AllocError> {
-        walk_object(alloc, value, Want::Diagnostic, &TABLE, &NAMES)
+        walk_object(alloc, value, Expected::Diagnostic, &TABLE, &NAMES)
     }
 }

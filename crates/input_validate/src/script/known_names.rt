@@ -1,11 +1,12 @@
-//! The members that a run reads.
+//! The names that the objects of a script may have.
 
 use crate::extras::{note, outputs};
 use crate::findings::name::Name;
 use crate::script::{diagnostic, entry, failure, output, provisioner, step, top_level, wait};
 
-/// The names of the members that a run reads of an object of a script: of the top level, or of one that stands in the member of
-/// the name `within`, or in its items. `around` is the member in which, or in whose items, that member stands.
+/// Returns the names of the members that a run reads of an object of a script. The object stands in
+/// the member `within`, or in an item of it; without `within` it is the top level. `around` is the
+/// member that holds `within`.
 pub fn known_names(around: Option<Name>, within: Option<Name>) -> &'static [Name] {
     match (around, within) {
         (_, None) => &top_level::NAMES,

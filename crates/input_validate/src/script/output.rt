@@ -1,75 +1,78 @@
-//! What is found in what a provisioner puts out.
+//! Checks the `output` of a provisioner.
+//!
+//! Every `Err` means that memory was refused.
 
 ghost use Rattle.std.specs.Prelude.{◌≡◌, IfOk, None};
 ghost use Rattle.std.specs.Option.{option_copied};
 ghost use Rattle.serde_json.specs.View.{items_view, view};
 ghost use Rattle.apply_json.specs.Tree.{list_of};
-ghost use Rattle.input_validate.specs.Findings.{told};
-ghost use Rattle.input_validate.specs.ScriptFindings.{comes_after, in_output, in_outputs, is_over, output_marks, outputs_behind, whole_at};
+ghost use Rattle.input_validate.specs.Findings.{reported};
+ghost use Rattle.input_validate.specs.ScriptFindings.{comes_after, in_output, in_outputs, is_over, output_violations, outputs_after, whole_at};
 
+use crate::findings::expected::Expected;
 use crate::findings::list::{Findings, joined};
 use crate::findings::name::Name;
-use crate::findings::part::Part;
-use crate::findings::want::Want;
-use crate::findings::what::What;
-use crate::walks::known::Known;
-use crate::walks::mark::Mark;
-use crate::walks::members::{faults, items_at, walk_marks};
-use crate::walks::unread::walk_unread;
+use crate::findings::path::Segment;
+use crate::findings::problem::Problem;
+use crate::rules::ignored_members::walk_ignored;
+use crate::rules::members::{faults, items_at, walk_violations};
+use crate::rules::rule::MemberRule;
+use crate::rules::violation::Violation;
 use apply_json_tree::members::member;
 use serde_json::Value;
 use std::alloc::{AllocError, Global};
 
-const TABLE: [Known; 2] = [
-    Known {
+const TABLE: [MemberRule; 2] = [
+    MemberRule {
         name: Name::After,
-        want: Want::WholeOrAbsent,
+        expected: Expected::WholeOrAbsent,
     },
-    Known {
+    MemberRule {
         name: Name::Text,
-        want: Want::Text,
+        expected: Expected::Text,
     },
 ];
 
 pub(crate) const NAMES: [Name; 2] = [Name::After, Name::Text];
 
-/// A member, where it is a whole number.
+/// Reads a member that is a whole number.
 pub(crate) fn whole_at(value: &Value, name: Name) -> Option<u64>
     ensures { result ≡ whole_at name (view value.now) }
 {
     member(value, name.text())?.as_u64()
 }
 
-/// Whether one number is over another, where both are told.
-fn is_over(most: Option<u64>, found: Option<u64>) -> bool
-    ensures { result ≡ is_over most found }
+/// Returns whether a number is over a limit. It is not if one of them is missing.
+fn is_over(most: Option<u64>, number: Option<u64>) -> bool
+    ensures { result ≡ is_over most number }
 {
-    match (most, found) {
-        (Some(most), Some(found)) => found > most,
+    match (most, number) {
+        (Some(most), Some(number)) => number > most,
         _ => false,
     }
 }
 
-/// Whether an item comes behind the end of its provisioner, or before the item in front of it.
-fn marks(seconds: Option<u64>, before: Option<u64>, item: &Value) -> [Mark; 2]
-    ensures { result ≡ output_marks seconds before (view item.now) }
+/// Tests whether an item comes after the end of its provisioner, or before the item in front of it.
+fn violations(seconds: Option<u64>, before: Option<u64>, item: &Value) -> [Violation; 2]
+    ensures { result ≡ output_violations seconds before (view item.now) }
 {
     let after = whole_at(item, Name::After);
     [
-        Mark {
+        Violation {
             holds: is_over(seconds, after),
             at: Some(Name::After),
-            what: What::BehindTheEnd(seconds.unwrap_or(0)),
+            problem: Problem::AfterTheEnd(seconds.unwrap_or(0)),
         },
-        Mark {
+        Violation {
             holds: is_over(after, before),
             at: Some(Name::After),
-            what: What::OutOfOrder(before.unwrap_or(0)),
+            problem: Problem::OutOfOrder(before.unwrap_or(0)),
         },
     ]
 }
 
-/// When an item comes, where its provisioner takes so many seconds.
+/// Returns the second at which an item comes. An item without `after` comes at the end of its
+/// provisioner.
 fn comes_after(seconds: Option<u64>, item: &Value) -> Option<u64>
     ensures { result ≡ comes_after seconds (view item.now) }
 {
@@ -79,7 +82,8 @@ fn comes_after(seconds: Option<u64>, item: &Value) -> Option<u64>
     }
 }
 
-/// What is found in an item of a provisioner of so many seconds, behind one that comes after so many.
+/// Checks an item. `seconds` is how long its provisioner takes, and `before` is when the previous
+/// item comes.
 #[tactic(auto, unfolding(crate::specs::ScriptFindings::in_output))]
 fn walk_output(
     alloc: Global,
@@ -87,35 +91,38 @@ fn walk_output(
     before: Option<u64>,
     item: &Value,
 ) -> Result<Findings, AllocError>
-    ensures { IfOk result (λ f. f ≡ told (in_output seconds before (view item.now))) }
+    ensures { IfOk result (λ f. f ≡ reported (in_output seconds before (view item.now))) }
 {
     if !item.is_object() {
         return Ok(Findings::none(alloc));
     }
     let all = faults(alloc, item, &TABLE);
-    let all = joined(all, walk_marks(alloc, &marks(seconds, before, item)));
-    joined(all, walk_unread(alloc, item, &NAMES))
+    let all = joined(
+        all,
+        walk_violations(alloc, &violations(seconds, before, item)),
+    );
+    joined(all, walk_ignored(alloc, item, &NAMES))
 }
 
-/// What is found in the items of a provisioner of so many seconds.
+/// Checks the items of a provisioner that takes `seconds`.
 fn walk_items(alloc: Global, seconds: Option<u64>, items: &[Value]) -> Result<Findings, AllocError>
-    ensures { IfOk result (λ f. f ≡ told (outputs_behind seconds None 0 (list_of (items_view items.now)))) }
+    ensures { IfOk result (λ f. f ≡ reported (outputs_after seconds None 0 (list_of (items_view items.now)))) }
 {
     let mut all = Findings::none(alloc);
     let mut before = None;
     for (number, item) in items.iter().enumerate() {
-        let found = walk_output(alloc, seconds, before, item)?.under(Part::Item(number))?;
-        all = all.then(found)?;
+        let findings = walk_output(alloc, seconds, before, item)?.under(Segment::Item(number))?;
+        all = all.then(findings)?;
         before = comes_after(seconds, item);
     }
     Ok(all)
 }
 
-/// What is found in the items of a provisioner.
+/// Checks when the items of a provisioner come, and their members.
 pub fn walk_outputs(alloc: Global, provisioner: &Value) -> Result<Findings, AllocError>
-    ensures { IfOk result (λ f. f ≡ told (in_outputs (view provisioner.now))) }
+    ensures { IfOk result (λ f. f ≡ reported (in_outputs (view provisioner.now))) }
 {
     let seconds = whole_at(provisioner, Name::Seconds);
-    let found = walk_items(alloc, seconds, items_at(provisioner, Name::Output))?;
-    found.under(Part::Member(Name::Output))
+    let findings = walk_items(alloc, seconds, items_at(provisioner, Name::Output))?;
+    findings.under(Segment::Member(Name::Output))
 }

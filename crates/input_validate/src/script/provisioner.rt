@@ -1,32 +1,32 @@
-//! What is found in a provisioner.
+//! Checks a provisioner.
 
 ghost use Rattle.std.specs.Prelude.{◌≡◌};
 ghost use Rattle.serde_json.specs.View.{view};
-ghost use Rattle.input_validate.specs.ScriptFindings.{growth_of_provisioner, in_provisioner, provisioner_mark};
+ghost use Rattle.input_validate.specs.ScriptFindings.{growth_of_provisioner, in_provisioner, provisioner_violation};
 
+use crate::findings::expected::Expected;
 use crate::findings::list::{Findings, joined};
 use crate::findings::name::Name;
-use crate::findings::want::Want;
-use crate::findings::what::What;
+use crate::findings::problem::Problem;
+use crate::rules::ignored_members::walk_ignored;
+use crate::rules::members::{count_at, faults, walk_inside, walk_list, walk_violations};
+use crate::rules::rule::MemberRule;
+use crate::rules::violation::Violation;
+use crate::rules::walk::{Leaf, Walk};
 use crate::script::diagnostic::Diagnostic;
 use crate::script::output::walk_outputs;
-use crate::walks::known::Known;
-use crate::walks::mark::Mark;
-use crate::walks::members::{count_at, faults, walk_inside, walk_list, walk_marks};
-use crate::walks::unread::walk_unread;
-use crate::walks::walk::{Leaf, Walk};
 use apply_plan::MAX_OUTPUTS;
 use serde_json::Value;
 use std::alloc::{AllocError, Global};
 
-const TABLE: [Known; 2] = [
-    Known {
+const TABLE: [MemberRule; 2] = [
+    MemberRule {
         name: Name::Provisioner,
-        want: Want::NonEmptyText,
+        expected: Expected::NonEmptyText,
     },
-    Known {
+    MemberRule {
         name: Name::Seconds,
-        want: Want::Seconds,
+        expected: Expected::Seconds,
     },
 ];
 
@@ -38,33 +38,33 @@ pub(crate) const NAMES: [Name; 5] = [
     Name::OnFailure,
 ];
 
-const OUTPUT: Known = Known {
+const OUTPUT: MemberRule = MemberRule {
     name: Name::Output,
-    want: Want::ArrayOrAbsent,
+    expected: Expected::ArrayOrAbsent,
 };
 
-const GROWTH: [Known; 1] = [Known {
+const GROWTH: [MemberRule; 1] = [MemberRule {
     name: Name::OnFailure,
-    want: Want::OnFailure,
+    expected: Expected::OnFailure,
 }];
 
-/// A provisioner of a step.
+/// A provisioner of a step, without `on_failure` and without the members of its output items.
 #[derive(Clone, Copy)]
 pub struct Provisioner;
 
-/// Whether it puts out too much.
-fn mark(value: &Value) -> Mark
-    ensures { result ≡ provisioner_mark (view value.now) }
+/// Tests whether a provisioner has more than 100 output items.
+fn violation(value: &Value) -> Violation
+    ensures { result ≡ provisioner_violation (view value.now) }
 {
-    Mark {
+    Violation {
         holds: count_at(value, Name::Output) > MAX_OUTPUTS,
         at: Some(Name::Output),
-        what: What::TooManyTexts,
+        problem: Problem::TooManyTexts,
     }
 }
 
 impl<'a> Walk<'a> for Provisioner {
-    ghost found = { λ _ _ d. in_provisioner d };
+    ghost findings = { λ _ _ d. in_provisioner d };
 
     #[tactic(auto, unfolding(crate::specs::ScriptFindings::in_provisioner))]
     fn walk(
@@ -73,24 +73,27 @@ impl<'a> Walk<'a> for Provisioner {
         _number: usize,
         value: &'a Value,
     ) -> Result<Findings, AllocError> {
-        if !Want::Provisioner.suits(value) {
-            return Findings::here(alloc, What::IsNot(Want::Provisioner));
+        if !Expected::Provisioner.suits(value) {
+            return Findings::here(alloc, Problem::IsNot(Expected::Provisioner));
         }
         let all = faults(alloc, value, &TABLE);
-        let all = joined(all, walk_list(alloc, &Leaf(Want::Output), value, OUTPUT));
-        let all = joined(all, walk_marks(alloc, &[mark(value)]));
+        let all = joined(
+            all,
+            walk_list(alloc, &Leaf(Expected::Output), value, OUTPUT),
+        );
+        let all = joined(all, walk_violations(alloc, &[violation(value)]));
         let all = joined(all, walk_inside(alloc, &Diagnostic, value, Name::Failed));
-        joined(all, walk_unread(alloc, value, &NAMES))
+        joined(all, walk_ignored(alloc, value, &NAMES))
     }
 }
 
-/// What comes of the failure of a provisioner, and when its outputs come, which is looked at behind the members that it has had
-/// before.
+/// The `on_failure` of a provisioner, and the members of its output items. They are checked apart,
+/// because their findings come after those of the other members of the step.
 #[derive(Clone, Copy)]
 pub struct ProvisionerGrowth;
 
 impl<'a> Walk<'a> for ProvisionerGrowth {
-    ghost found = { λ _ _ d. growth_of_provisioner d };
+    ghost findings = { λ _ _ d. growth_of_provisioner d };
 
     #[tactic(auto, unfolding(crate::specs::ScriptFindings::growth_of_provisioner))]
     fn walk(

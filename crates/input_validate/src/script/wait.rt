@@ -1,37 +1,38 @@
-//! What is found in an item of `after`.
+//! Checks an item of `after`.
 
-use crate::beside::marks::{change_at, step_mark, walk_unknown};
-use crate::beside::planned::Planned;
+use crate::against_plan::planned::Planned;
+use crate::against_plan::violations::{change_at, missing_step_violation, walk_unknown};
+use crate::findings::expected::Expected;
 use crate::findings::list::{Findings, joined};
 use crate::findings::name::Name;
-use crate::findings::want::Want;
-use crate::findings::what::What;
+use crate::findings::problem::Problem;
+use crate::rules::ignored_members::walk_ignored;
+use crate::rules::members::{faults, walk_violations};
+use crate::rules::rule::MemberRule;
+use crate::rules::walk::Walk;
 use crate::script::output::whole_at;
-use crate::walks::known::Known;
-use crate::walks::members::{faults, walk_marks};
-use crate::walks::unread::walk_unread;
-use crate::walks::walk::Walk;
 use serde_json::Value;
 use std::alloc::{AllocError, Global};
 
-const TABLE: [Known; 3] = [
-    Known {
+const TABLE: [MemberRule; 3] = [
+    MemberRule {
         name: Name::Address,
-        want: Want::Text,
+        expected: Expected::Text,
     },
-    Known {
+    MemberRule {
         name: Name::Deposed,
-        want: Want::TextOrAbsent,
+        expected: Expected::TextOrAbsent,
     },
-    Known {
+    MemberRule {
         name: Name::Step,
-        want: Want::WholeOrAbsent,
+        expected: Expected::WholeOrAbsent,
     },
 ];
 
 pub(crate) const NAMES: [Name; 3] = [Name::Address, Name::Deposed, Name::Step];
 
-/// An item of `after`: an address, or an object that names a step; beside the changes of a plan where there are some.
+/// An item of `after`: an address, or an object that names a step. `planned` holds the changes of
+/// the plan.
 #[derive(Drop)]
 pub struct Wait<'p, 'a> {
     pub planned: Option<&'p Planned<'a>>,
@@ -41,7 +42,7 @@ impl<'a> Walk<'a> for Wait<'_, 'a> {
     ghost use Rattle.std.specs.Option.{option_copied};
     ghost use Rattle.input_validate.specs.ScriptFindings.{in_wait};
 
-    ghost found = { λ wait _ d. in_wait (option_copied wait.planned) d };
+    ghost findings = { λ wait _ d. in_wait (option_copied wait.planned) d };
 
     #[tactic(auto, unfolding(crate::specs::ScriptFindings::in_wait))]
     fn walk(
@@ -53,16 +54,19 @@ impl<'a> Walk<'a> for Wait<'_, 'a> {
         if value.as_str().is_some() {
             return walk_unknown(alloc, self.planned, value);
         }
-        if !Want::Wait.suits(value) {
-            return Findings::here(alloc, What::IsNot(Want::Wait));
+        if !Expected::Wait.suits(value) {
+            return Findings::here(alloc, Problem::IsNot(Expected::Wait));
         }
         let change = change_at(self.planned, value);
         let all = faults(alloc, value, &TABLE);
         let all = joined(all, walk_unknown(alloc, self.planned, value));
         let all = joined(
             all,
-            walk_marks(alloc, &[step_mark(change, whole_at(value, Name::Step))]),
+            walk_violations(
+                alloc,
+                &[missing_step_violation(change, whole_at(value, Name::Step))],
+            ),
         );
-        joined(all, walk_unread(alloc, value, &NAMES))
+        joined(all, walk_ignored(alloc, value, &NAMES))
     }
 }

@@ -4,15 +4,14 @@ ghost use Rattle.std.specs.Prelude.{◌≡◌, IfOk, IfErr, false, codes, is_som
 ghost use Rattle.clap.specs.Matches.{found_of};
 ghost use Rattle.clap.specs.Simple.{app_of};
 ghost use Rattle.clap.specs.Walk.{first_of, rows_of, rule_of};
-ghost use Rattle.input_validate_cli.specs.CommandLine.{AreSaid, HaveSaid, SayNoSettings, TakesForms, command_line, form_of_word, form_rule, form_said, parallelism_rule, script_rule};
+ghost use Rattle.input_validate_cli.specs.CommandLine.{AreStated, HaveStated, StateNoSettings, TakesForms, command_line, form_of_word, form_rule, form_stated, parallelism_rule, script_rule};
 
-use crate::command::settings::Settings;
 use clap::{Arg, ArgMatches, Command, value_parser};
 use input_validate::Form;
 use std::alloc::{AllocError, Global};
 use stream_tool::{Usage, matches_of, with_option};
 
-/// The forms of a stream, as words.
+/// The values of `--form`.
 static FORMS: [&str; 2] = ["applystream", "terraform"];
 
 const ABOUT: &str =
@@ -31,11 +30,24 @@ Exit status:
   2  a run with these options refuses the plan or the script; or wrong options, or a file or a plan that can't be read
   3  out of memory, or the output could not be written"#;
 
-/// The settings that the words behind `validate` say. `Err` with `Usage::Help` where they ask for help, with `Usage::Words`
-/// where they are none of this command, and with `Usage::Memory` where memory is refused.
+/// What the words after `validate` state.
+#[derive(Debug, Drop)]
+pub struct Settings {
+    /// The name of the script's file, if one is given.
+    pub script: Option<String>,
+    /// Whether `--parallelism` is given.
+    pub lanes: bool,
+    /// The form of the run's stream. Without `--form` it is this program's own.
+    pub form: Form,
+}
+
+/// Reads the settings from the words after `validate`.
+///
+/// `Err` is `Usage::Help` if they ask for help, `Usage::Words` if they are not words of this
+/// command, and `Usage::Memory` if memory was refused.
 pub fn read_words(alloc: Global, words: &[String]) -> Result<Settings, Usage>
-    ensures said { IfOk result (HaveSaid (map string_bytes words.now)) }
-    ensures refused { IfErr result (SayNoSettings (map string_bytes words.now)) }
+    ensures stated { IfOk result (HaveStated (map string_bytes words.now)) }
+    ensures refused { IfErr result (StateNoSettings (map string_bytes words.now)) }
 {
     let command = command(alloc)?;
     match matches_of(alloc, command, words) {
@@ -44,7 +56,7 @@ pub fn read_words(alloc: Global, words: &[String]) -> Result<Settings, Usage>
     }
 }
 
-/// The options, and their help.
+/// Makes the options and their help. `Err` means that memory was refused.
 fn command<'a>(alloc: Global) -> Result<Command<'a>, AllocError>
     ensures { IfOk result (λ command. (forms : _) × TakesForms forms × (app_of command ≡ command_line forms)) }
 {
@@ -93,9 +105,9 @@ fn form<'a>(alloc: Global) -> Arg<'a>
         )
 }
 
-/// What the matches say.
+/// Reads the settings from parsed words. `Err` means that memory was refused.
 fn settings_of(alloc: Global, matches: &ArgMatches<'_>) -> Result<Settings, AllocError>
-    ensures { IfOk result (AreSaid (rows_of (found_of matches.now))) }
+    ensures { IfOk result (AreStated (rows_of (found_of matches.now))) }
 {
     let script = script_of(alloc, matches)?;
     Ok(Settings {
@@ -105,7 +117,7 @@ fn settings_of(alloc: Global, matches: &ArgMatches<'_>) -> Result<Settings, Allo
     })
 }
 
-/// The file of the script, where one is named.
+/// Reads the name of the script's file. `Err` means that memory was refused.
 fn script_of(alloc: Global, matches: &ArgMatches<'_>) -> Result<Option<String>, AllocError>
     ensures { IfOk result (λ script. option_map string_bytes script ≡ first_of (codes "script") (rows_of (found_of matches.now))) }
 {
@@ -115,7 +127,7 @@ fn script_of(alloc: Global, matches: &ArgMatches<'_>) -> Result<Option<String>, 
     }
 }
 
-/// Whether a parallelism is given.
+/// Returns whether `--parallelism` is given.
 fn has_parallelism(matches: &ArgMatches<'_>) -> bool
     ensures { result ≡ is_some (first_of (codes "parallelism") (rows_of (found_of matches.now))) }
 {
@@ -125,9 +137,9 @@ fn has_parallelism(matches: &ArgMatches<'_>) -> bool
     }
 }
 
-/// The form that is said, and else the program's own.
+/// Reads the form. Without `--form` it is this program's own.
 fn form_of(matches: &ArgMatches<'_>) -> Form
-    ensures { result ≡ form_said (rows_of (found_of matches.now)) }
+    ensures { result ≡ form_stated (rows_of (found_of matches.now)) }
 {
     match matches.get_str("form") {
         Some(word) => form_named(word),
@@ -135,7 +147,7 @@ fn form_of(matches: &ArgMatches<'_>) -> Form
     }
 }
 
-/// The form that a word says. The parser takes two words.
+/// Returns the form with this name. The parser accepts only the two names.
 fn form_named(word: &str) -> Form
     ensures { result ≡ form_of_word word.now }
 {

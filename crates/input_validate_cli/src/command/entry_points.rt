@@ -1,4 +1,4 @@
-//! The command `validate`, from its arguments to its exit status, over any files and streams.
+//! Runs the command `validate` over any files and streams.
 
 ghost use Rattle.std.specs.Prelude.{◌≡◌, ◌≤◌, ◌⊎◌, ◌∷◌, [], Err, IfOk, IfSome, IsSome, None, Ok, OnErr, Some, map, option_map, string_bytes};
 ghost use Rattle.std.specs.Io.KnownBytes.{Keeps};
@@ -7,34 +7,38 @@ ghost use Rattle.clap.specs.Faults.{fault_of};
 ghost use Rattle.clap.specs.declared.error.kind.ErrorKind.TheVariants.{DisplayHelp};
 ghost use Rattle.input_validate_cli.specs.CommandLine.{ByEachCommand};
 ghost use Rattle.input_validate_cli.specs.Statuses.{status_by};
-ghost use Rattle.input_validate_cli.specs.Validated.{HasCome, HasOutcome, IsScriptOf, IsScriptRefused, WasNotValidated, WasTold, WasValidated};
+ghost use Rattle.input_validate_cli.specs.Validated.{HasCome, HasOutcome, IsScriptOf, IsScriptRefused, WasNotValidated, WasReported, WasValidated};
 ghost use Rattle.input_validate_cli.specs.declared.command.validate_fault.ValidateFault.TheVariants.{Gone};
 
-use crate::command::arguments::read_words;
-use crate::command::followed::Followed;
-use crate::command::inputs::{ScriptFault, read_all};
-use crate::command::outcome::Outcome;
-use crate::command::read_input::ReadInput;
+use crate::command::arguments::{Settings, read_words};
+use crate::command::followed::{Followed, Outcome};
+use crate::command::inputs::{ReadInput, ScriptFault, read_all};
 use crate::command::refusals::refuse;
-use crate::command::settings::Settings;
-use crate::command::telling::found_text;
+use crate::command::report_text::report_text;
 use crate::command::validate_fault::ValidateFault;
 use crate::command::writing::write_whole;
-use crate::lens::Lens;
-use input_validate::{Form, Found, findings_of};
+use crate::input_sizes::InputSizes;
+use input_validate::{Form, InputFindings, findings_of};
 use std::alloc::Global;
 use std::fs;
 use std::io::{Read, Write};
 use std::rt::Files;
 use stream_tool::{REFUSED, answer_usage, report};
 
-/// The exit status where something is found, but nothing for which a run refuses.
+/// The exit status if there are only warnings.
 const WARNED: u8 = 1;
 
-/// Does what the words behind `validate` say, and answers the exit status: 0 where nothing was found, or help was asked for, 1
-/// where no run reads some member of the script and that is all, 2 where a run with these options refuses the plan or the
-/// script, and where the words are none of the command or an input could not be read, and 3 where memory was refused or `out`
-/// could not be written, which is said unless its reader is gone. A text for `faults` that cannot be written is dropped.
+/// Runs `validate` with these words, and returns the exit status and the outcome.
+///
+/// The exit status is:
+/// - 0 without findings, or for help.
+/// - 1 if there are only warnings.
+/// - 2 if a run with these options refuses the plan or the script. Wrong words and an input that
+/// could not be read give 2 too.
+/// - 3 if memory was refused, or if `out` could not be written.
+///
+/// An error is printed to `faults`, unless the reader of `out` is gone. A text that cannot be
+/// written to `faults` is dropped.
 pub fn follow<F: Files, R: Read, W: Write, E: Write>(
     files: &F,
     alloc: Global,
@@ -50,7 +54,7 @@ pub fn follow<F: Files, R: Read, W: Write, E: Write>(
     ensures help { ByEachCommand (λ app. fault_of app (map string_bytes words.now) ≡ DisplayHelp ∷ [])
         → (result.status ≡ 0) ⊎ (result.status ≡ 3) }
     ensures quiet { result.status ≤ 1 → Keeps (E.contents faults.old) (E.contents faults.new) }
-    ensures found { result.answer ≡ Some (Ok tt) → Keeps (E.contents faults.old) (E.contents faults.new) }
+    ensures success { result.answer ≡ Some (Ok tt) → Keeps (E.contents faults.old) (E.contents faults.new) }
     ensures gone { result.answer ≡ Some (Err Gone) → Keeps (E.contents faults.old) (E.contents faults.new) }
     ensures statuses { result.status ≤ 3 }
 {
@@ -60,7 +64,7 @@ pub fn follow<F: Files, R: Read, W: Write, E: Write>(
     }
 }
 
-/// The same where the words say these settings.
+/// Runs `validate` with these settings.
 fn follow_settings<F: Files, R: Read, W: Write, E: Write>(
     files: &F,
     alloc: Global,
@@ -74,7 +78,7 @@ fn follow_settings<F: Files, R: Read, W: Write, E: Write>(
     ensures unopened { result.answer ≡ None → IsSome settings.now.script × (result.status ≡ 2)
         × Keeps (W.contents out.old) (W.contents out.new) }
     ensures quiet { result.status ≤ 1 → Keeps (E.contents faults.old) (E.contents faults.new) }
-    ensures found { result.answer ≡ Some (Ok tt) → Keeps (E.contents faults.old) (E.contents faults.new) }
+    ensures success { result.answer ≡ Some (Ok tt) → Keeps (E.contents faults.old) (E.contents faults.new) }
     ensures gone { result.answer ≡ Some (Err Gone) → Keeps (E.contents faults.old) (E.contents faults.new) }
     ensures statuses { result.status ≤ 3 }
 {
@@ -84,7 +88,7 @@ fn follow_settings<F: Files, R: Read, W: Write, E: Write>(
     };
     match read_all(alloc, input) {
         Ok(plan) => {
-            let lens = lens_of(&plan, &script);
+            let sizes = sizes_of(&plan, &script);
             let script = bytes_of(&script);
             let outcome = validate(
                 alloc,
@@ -92,7 +96,7 @@ fn follow_settings<F: Files, R: Read, W: Write, E: Write>(
                 settings.lanes,
                 &plan.bytes,
                 script,
-                lens,
+                sizes,
                 out,
                 faults,
             );
@@ -108,7 +112,10 @@ fn follow_settings<F: Files, R: Read, W: Write, E: Write>(
     }
 }
 
-/// What is read of the script, where one is named.
+/// Reads the script, if a file is named.
+///
+/// `Err` is `ScriptFault::Unopened` if the file could not be opened, and `ScriptFault::Unread`
+/// if a read failed or memory was refused.
 fn read_script<F: Files>(
     files: &F,
     alloc: Global,
@@ -129,7 +136,7 @@ fn read_script<F: Files>(
     }
 }
 
-/// Says why the script was not read, and answers so.
+/// Prints why the script was not read.
 fn refuse_script<E: Write>(faults: &mut E, fault: ScriptFault) -> Followed
     ensures { IsScriptRefused fault result }
 {
@@ -148,7 +155,7 @@ fn refuse_script<E: Write>(faults: &mut E, fault: ScriptFault) -> Followed
     }
 }
 
-/// The bytes, where there are some.
+/// Returns the bytes of the script, if there is one.
 fn bytes_of(script: &Option<ReadInput>) -> Option<&[u8]>
     ensures { option_copied result ≡ option_map (λ read. read.bytes.items) script.now }
 {
@@ -158,39 +165,48 @@ fn bytes_of(script: &Option<ReadInput>) -> Option<&[u8]>
     }
 }
 
-/// How large the inputs are.
-fn lens_of(plan: &ReadInput, script: &Option<ReadInput>) -> Lens {
+/// Returns the sizes of the inputs.
+fn sizes_of(plan: &ReadInput, script: &Option<ReadInput>) -> InputSizes {
     let script = match script {
         Some(read) => read.len,
         None => 0,
     };
-    Lens {
+    InputSizes {
         plan: plan.len,
         script,
     }
 }
 
-/// Says what is found in the bytes of a plan, and in those of a script for it, where one is given, and answers the exit status: 2
-/// where something is found for which a run refuses, 1 where only warnings are, 0 where nothing is; but 3 where memory was refused
-/// or `out` could not be written, which is said unless its reader is gone. The run writes its stream in that form; `lanes` says that
-/// it has `--parallelism`. The inputs have `lens` bytes, of which what is given is all, or more than they may have.
+/// Prints the findings of a plan, and of a script for it.
+///
+/// The run has this form; `lanes` tells whether it has `--parallelism`. `plan` and `script` hold
+/// whole inputs, or as many bytes as show that an input is too large. `sizes` are the sizes of the
+/// inputs.
+///
+/// The exit status is:
+/// - 0 without findings.
+/// - 1 if there are only warnings.
+/// - 2 if a run refuses for one of the findings.
+/// - 3 if memory was refused, or if `out` could not be written.
+///
+/// An error is printed to `faults`, unless the reader of `out` is gone.
 pub fn validate<W: Write, E: Write>(
     alloc: Global,
     form: Form,
     lanes: bool,
     plan: &[u8],
     script: Option<&[u8]>,
-    lens: Lens,
+    sizes: InputSizes,
     out: &mut W,
     faults: &mut E,
 ) -> Outcome
     ensures came { HasOutcome form lanes plan.now (option_copied script.entry) (W.contents out.old) (W.contents out.new) result.status result.answer }
     ensures quiet { result.status ≤ 1 → Keeps (E.contents faults.old) (E.contents faults.new) }
-    ensures found { result.answer ≡ Ok tt → Keeps (E.contents faults.old) (E.contents faults.new) }
+    ensures success { result.answer ≡ Ok tt → Keeps (E.contents faults.old) (E.contents faults.new) }
     ensures gone { result.answer ≡ Err Gone → Keeps (E.contents faults.old) (E.contents faults.new) }
     ensures statuses { result.status ≤ 3 }
 {
-    match tell(alloc, form, lanes, plan, script, lens, out) {
+    match write_report(alloc, form, lanes, plan, script, sizes, out) {
         Ok(status) => Outcome {
             status,
             answer: Ok(()),
@@ -202,35 +218,38 @@ pub fn validate<W: Write, E: Write>(
     }
 }
 
-/// Writes what is found, and answers the exit status for it.
-fn tell<W: Write>(
+/// Writes the findings, and returns the exit status for them.
+///
+/// `Err` is `ValidateFault::Memory` if memory was refused, and then nothing was written. It is
+/// `Gone` or `Unwritten` as in `write_whole`.
+fn write_report<W: Write>(
     alloc: Global,
     form: Form,
     lanes: bool,
     plan: &[u8],
     script: Option<&[u8]>,
-    lens: Lens,
+    sizes: InputSizes,
     out: &mut W,
 ) -> Result<u8, ValidateFault>
-    ensures told { WasTold form lanes plan.now (option_copied script.entry) (W.contents out.old) (W.contents out.new) result }
+    ensures reported { WasReported form lanes plan.now (option_copied script.entry) (W.contents out.old) (W.contents out.new) result }
     ensures statuses { IfOk result (λ status. status ≤ 2) }
 {
-    let found = findings_of(alloc, plan, script, lanes, form)?;
-    let text = found_text(alloc, &found, plan, script, lens)?;
+    let findings = findings_of(alloc, plan, script, lanes, form)?;
+    let text = report_text(alloc, &findings, plan, script, sizes)?;
     match write_whole(out, text.as_str().as_bytes()) {
-        Ok(()) => Ok(status_of(&found)),
+        Ok(()) => Ok(status_of(&findings)),
         Err(fault) => Err(fault),
     }
 }
 
-/// The exit status for what is found.
-fn status_of(found: &Found) -> u8
-    ensures by_findings { result ≡ status_by found.now.plan found.now.script }
+/// Returns the exit status for these findings.
+fn status_of(findings: &InputFindings) -> u8
+    ensures by_findings { result ≡ status_by findings.now.plan findings.now.script }
     ensures statuses { result ≤ 2 }
 {
-    if found.plan.refuses() || found.script.refuses() {
+    if findings.plan.refuses() || findings.script.refuses() {
         REFUSED
-    } else if found.plan.count() > 0 || found.script.count() > 0 {
+    } else if findings.plan.count() > 0 || findings.script.count() > 0 {
         WARNED
     } else {
         0

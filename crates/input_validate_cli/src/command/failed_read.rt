@@ -1,25 +1,26 @@
-//! Reads that failed.
+//! Failed reads.
 
 ghost use Rattle.std.specs.Prelude.{◌≡◌, ◌<◌, ◌≤◌, IfOk, length, take};
 ghost use Rattle.std.specs.Io.KnownBytes.{Consumes, IsAtEnd};
 
 use std::io::Read;
 
-/// That some reader's read failed. Only `read_once` makes one, from the error of a read, so that nobody says so without a read
-/// that failed; of which reader that was, it says nothing.
+/// The proof that a read failed. Only `read_once` makes one, from the error of a read. It does not
+/// tell which reader failed.
 #[derive(Clone, Copy, Debug)]
 pub struct FailedRead {
     number: Option<i32>,
 }
 
 impl FailedRead {
-    /// The system's number of the error, where it has one.
+    /// Returns the system's error number, if there is one.
     pub fn number(self) -> Option<i32> {
         self.number
     }
 }
 
-/// Reads into the buffer, and says how many bytes that were: none at the end.
+/// Reads into the buffer, and returns the number of bytes: 0 at the end of the input. `Err` means
+/// that the read failed.
 pub(crate) fn read_once<R: Read>(input: &mut R, buffer: &mut [u8]) -> Result<usize, FailedRead>
     ensures { IfOk result (λ count. (count ≤ length buffer.new)
         × Consumes (R.remaining input.old) (R.remaining input.new) (take count buffer.new)

@@ -1,20 +1,28 @@
-//! The bytes of a plan and of a script.
+//! Reads the plan and the script.
 
 ghost use Rattle.std.specs.Prelude.{◌≡◌, ◌<◌, ◌≤◌, ◌+◌, ◌++◌, ℕ, List, IfOk, IfSome, length, take};
 ghost use Rattle.std.specs.Io.KnownBytes.{Consumes, IsAtEnd};
 ghost use Rattle.input_validate_cli.specs.Validated.{IsReadOf};
 
 use crate::command::failed_read::{FailedRead, read_once};
-use crate::command::read_input::ReadInput;
 use apply_plan::MAX_BYTES;
 use std::alloc::{AllocError, AllocFailed, Global};
 use std::io::Read;
 
-/// One byte more than an input may have, so that a longer one is seen to be too long.
+/// One byte more than an input may have, so that an input that is too large can be told.
 const MAX_READ: usize = MAX_BYTES + 1;
 
-/// How many bytes are asked for at once.
+/// How many bytes one read asks for.
 const BUFFER_LEN: usize = 65_536;
+
+/// An input that was read to its end.
+#[derive(Drop)]
+pub struct ReadInput {
+    /// The first bytes of the input: all of them, or one more than it may have.
+    pub bytes: Vec<u8>,
+    /// How many bytes the whole input has.
+    pub len: u64,
+}
 
 /// Why an input was not read.
 #[derive(Clone, Copy)]
@@ -46,14 +54,16 @@ impl<T: Drop> From<AllocFailed<T>> for ReadFault {
 /// Why the script was not read.
 #[derive(Clone, Copy)]
 pub enum ScriptFault {
-    /// Its file could not be opened.
+    /// The file could not be opened.
     Unopened,
-    /// It could not be read.
+    /// The file could not be read.
     Unread(ReadFault),
 }
 
-/// The bytes of an input up to its end, and no more than one more than it may have. `Err` with `ReadFault::Unread` where a read
-/// fails, and with `ReadFault::Memory` where memory is refused.
+/// Reads an input to its end. No more than 67,108,865 bytes are stored; the others are only
+/// counted.
+///
+/// `Err` is `ReadFault::Unread` if a read failed, and `ReadFault::Memory` if memory was refused.
 pub fn read_all<R: Read>(alloc: Global, input: &mut R) -> Result<ReadInput, ReadFault>
     ensures { IfOk result (λ read. IsReadOf (R.remaining input.old) read.bytes.items) }
 {
@@ -66,7 +76,7 @@ pub fn read_all<R: Read>(alloc: Global, input: &mut R) -> Result<ReadInput, Read
     Ok(ReadInput { bytes, len })
 }
 
-/// How many bytes an input has left, which are read through the buffer.
+/// Counts the bytes that an input has left. `Err` means that a read failed.
 fn count_rest<R: Read>(input: &mut R, buffer: &mut [u8]) -> Result<u64, FailedRead> {
     let mut len = 0u64;
     for _ in 0..u64::MAX {
@@ -78,14 +88,14 @@ fn count_rest<R: Read>(input: &mut R, buffer: &mut [u8]) -> Result<u64, FailedRe
     Ok(len)
 }
 
-/// So many zeros.
+/// Makes a vector of zeros. `Err` means that memory was refused.
 fn zeros(alloc: Global, count: usize) -> Result<Vec<u8>, AllocError>
     ensures { IfOk result (λ zeros. length zeros.items ≡ count) }
 {
     vec![in alloc; 0u8; count]
 }
 
-/// The first bytes of the input, up to the limit, read through the buffer.
+/// Reads the first bytes of an input, up to `limit`. `Err` is as in `read_all`.
 fn read_front<R: Read>(
     alloc: Global,
     input: &mut R,
@@ -105,7 +115,8 @@ fn read_front<R: Read>(
     Ok(bytes)
 }
 
-/// Appends what one read gives, and says how many bytes that were: none at the end.
+/// Appends the bytes of one read, and returns their number: 0 at the end of the input. `Err` is as
+/// in `read_all`.
 fn read_some<R: Read>(
     input: &mut R,
     buffer: &mut [u8],

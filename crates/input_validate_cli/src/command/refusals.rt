@@ -1,4 +1,4 @@
-//! Why what is found was not told.
+//! Prints why a validation failed.
 
 ghost use Rattle.std.specs.Prelude.{◌≡◌};
 ghost use Rattle.std.specs.Io.KnownBytes.{Keeps};
@@ -9,8 +9,10 @@ use crate::command::validate_fault::ValidateFault;
 use std::io::Write;
 use stream_tool::{FAILED, REFUSED, report};
 
-/// Says why what is found was not told, and answers the exit status. Nothing is said where the reader of the output is gone:
-/// whoever ended it, as `head` ends, knows that.
+/// Prints why the findings were not written, and returns the exit status.
+///
+/// Nothing is printed if the reader of the output is gone: whoever ended that reader, as `head`
+/// ends, knows.
 pub fn refuse<E: Write>(faults: &mut E, fault: ValidateFault) -> u8
     ensures status { result ≡ fault_status_of fault }
     ensures gone { fault ≡ Gone → Keeps (E.contents faults.old) (E.contents faults.new) }

@@ -1,4 +1,4 @@
-//! Why what is found was not told.
+//! Why the findings were not written.
 
 ghost use Rattle.std.specs.Prelude.{◌≡◌};
 ghost use Rattle.input_validate_cli.specs.Causes.{plan_fault, script_fault};
@@ -9,19 +9,19 @@ use crate::command::inputs::ReadFault;
 use std::alloc::AllocError;
 use thiserror::Error;
 
-/// Why what is found in a plan and in a script was not told.
+/// Why the findings of a plan and a script were not written.
 #[derive(Clone, Copy, Debug, Drop, Error)]
 pub enum ValidateFault {
-    /// A read of the plan failed: nothing was written.
+    /// A read of the plan failed. Nothing was written.
     #[error("the plan could not be read")]
     Plan(FailedRead),
-    /// A read of the script's file failed: nothing was written.
+    /// A read of the script's file failed. Nothing was written.
     #[error("the script file could not be read")]
     Script(FailedRead),
     /// Memory was refused: nothing was written.
     #[error("out of memory")]
     Memory,
-    /// A write or a flush failed since the reader of the output is gone, as the writer's error says.
+    /// A write or a flush failed, because the reader of the output is gone.
     #[error("the output could not be written")]
     Gone,
     /// A write or a flush failed for another reason.
@@ -30,7 +30,7 @@ pub enum ValidateFault {
 }
 
 impl ValidateFault {
-    /// Why the plan was not read.
+    /// Makes the error for a plan that was not read.
     pub(crate) fn of_plan(fault: ReadFault) -> ValidateFault
         ensures { result ≡ plan_fault fault }
     {
@@ -40,7 +40,7 @@ impl ValidateFault {
         }
     }
 
-    /// Why the script was not read.
+    /// Makes the error for a script that was not read.
     pub(crate) fn of_script(fault: ReadFault) -> ValidateFault
         ensures { result ≡ script_fault fault }
     {

@@ -1,4 +1,4 @@
-//! A text that goes out.
+//! Writes a text to its end.
 
 ghost use Rattle.std.specs.Prelude.{ℕ, IfErr, OnErr, OnOk, take};
 ghost use Rattle.std.specs.Io.KnownBytes.{Appends, Keeps};
@@ -7,10 +7,12 @@ ghost use Rattle.input_validate_cli.specs.Causes.{IsWriteFault};
 use crate::command::validate_fault::ValidateFault;
 use std::io::{self, ErrorKind, Write};
 
-/// Writes all of the bytes, by as many writes as it takes, and flushes; a write that a signal interrupts is tried again.
+/// Writes all bytes, with as many writes as needed, and flushes. A write that a signal interrupts
+/// is tried again.
 ///
-/// `Err` with `ValidateFault::Gone` where a write or the flush fails since the reader of the output is gone, and with
-/// `ValidateFault::Unwritten` where it fails otherwise or takes nothing: then some of the first bytes were written.
+/// `Err` is `ValidateFault::Gone` if a write or the flush failed because the reader of the
+/// output is gone. It is `ValidateFault::Unwritten` if it failed otherwise, or if a write accepted
+/// no byte. Some of the first bytes may be written then.
 pub fn write_whole<W: Write>(out: &mut W, bytes: &[u8]) -> Result<(), ValidateFault>
     ensures ok { OnOk result (Appends (W.contents out.old) (W.contents out.new) bytes.now) }
     ensures part { OnErr result ((n : ℕ) × Appends (W.contents out.old) (W.contents out.new) (take n bytes.now)) }
@@ -32,7 +34,7 @@ pub fn write_whole<W: Write>(out: &mut W, bytes: &[u8]) -> Result<(), ValidateFa
     Err(ValidateFault::Unwritten)
 }
 
-/// Sends on what was written. `Err` as `write_whole` has.
+/// Flushes the output. `Err` is as in `write_whole`.
 fn flush<W: Write>(out: &mut W) -> Result<(), ValidateFault>
     ensures bytes { Keeps (W.contents out.old) (W.contents out.new) }
     ensures err { IfErr result IsWriteFault }
@@ -43,7 +45,7 @@ fn flush<W: Write>(out: &mut W) -> Result<(), ValidateFault>
     }
 }
 
-/// What a failed write or flush is.
+/// Tells whether the reader of the output is gone.
 fn write_fault(error: &io::Error) -> ValidateFault
     ensures { IsWriteFault result }
 {

@@ -1,8 +1,8 @@
-//! Numbers.
+//! Numbers for people.
 
 use std::fmt;
 
-/// Groups of three digits, the greatest first.
+/// The powers of 1,000, the greatest first.
 const UNITS: [u64; 7] = [
     1_000_000_000_000_000_000,
     1_000_000_000_000_000,
@@ -13,7 +13,7 @@ const UNITS: [u64; 7] = [
     1,
 ];
 
-/// A number, with a comma at each thousand.
+/// A number that is printed with a comma at each thousand.
 #[derive(Clone, Copy)]
 pub struct Count(pub u64);
 

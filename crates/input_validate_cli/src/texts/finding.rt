@@ -1,24 +1,26 @@
-//! One finding.
+//! The text of one finding.
+//!
+//! Every `Err` means that memory was refused.
 
-use crate::texts::beside::{
+use crate::texts::against_plan::{
     no_such_step_text, only_warns_text, takes_none_text, too_many_steps_text, unknown_address_text,
     unknown_object_text,
 };
 use crate::texts::count::Count;
-use crate::texts::found::{found_text, shortened_json};
-use crate::texts::near::not_read_text;
-use crate::texts::place::{path_text, value_at};
+use crate::texts::expected::expected_text;
+use crate::texts::jq_path::{path_text, value_at};
+use crate::texts::nearest_names::not_read_text;
 use crate::texts::plan_names::{PlanNames, text_at};
 use crate::texts::plan_outputs::unknown_output_text;
-use crate::texts::wants::want_text;
+use crate::texts::value::{shortened_json, value_text};
 use apply_plan::{
     MAX_BYTES, MAX_CHANGES, MAX_OUTPUTS, MAX_PROVISIONERS, MAX_SECONDS, MAX_WAITS, ScriptError,
 };
-use input_validate::{Finding, Name, What};
+use input_validate::{Finding, Name, Problem};
 use serde_json::Value;
 use std::alloc::{AllocError, Global};
 
-/// Which of the two inputs it is about, and how many bytes that has.
+/// The input that a finding is about, with its size in bytes.
 #[derive(Clone, Copy)]
 pub enum Input {
     Plan(u64),
@@ -44,11 +46,11 @@ impl Input {
 const ACTIONS: &str =
     r#"["no-op"], ["create"], ["read"], ["update"], ["delete"], ["forget"], ["delete","create"] or ["create","delete"]"#;
 
-/// What is found in bytes that are no tree. `Err` where memory is refused.
-pub fn bytes_text(alloc: Global, input: Input, what: What) -> Result<String, AllocError> {
+/// Makes the line for an input that is too large or not JSON.
+pub fn bytes_text(alloc: Global, input: Input, problem: Problem) -> Result<String, AllocError> {
     let word = input.word();
-    match what {
-        What::TooManyBytes => {
+    match problem {
+        Problem::TooManyBytes => {
             let (len, most) = (input.len(), Count(MAX_BYTES as u64));
             format!(in alloc; "{word} .: has {len} bytes, {most} at most")
         }
@@ -56,8 +58,8 @@ pub fn bytes_text(alloc: Global, input: Input, what: What) -> Result<String, All
     }
 }
 
-/// What is found in a tree, beside the names of a plan; `has_near` says that names near to an unknown address are told. `Err` where
-/// memory is refused.
+/// Makes the line for a finding. `has_near` tells whether near names are added for an unknown
+/// address or output.
 pub fn finding_text(
     alloc: Global,
     input: Input,
@@ -69,14 +71,14 @@ pub fn finding_text(
     let path = path_text(alloc, tree, &finding.path)?;
     let word = input.word();
     let text = what_text(alloc, tree, finding, names, has_near)?;
-    if finding.what.is_refusal() {
+    if finding.problem.is_refusal() {
         format!(in alloc; "{word} {path}: {text}")
     } else {
         format!(in alloc; "warning: {word} {path}: {text}")
     }
 }
 
-/// What is wrong there.
+/// Makes the text behind the path: what is wrong with the value.
 fn what_text(
     alloc: Global,
     tree: &Value,
@@ -84,101 +86,101 @@ fn what_text(
     names: &PlanNames<'_>,
     has_near: bool,
 ) -> Result<String, AllocError> {
-    let found = value_at(tree, &finding.path, finding.path.len());
-    match finding.what {
-        What::IsNot(want) => {
-            let shown = shown_there(alloc, found)?;
-            let want = want_text(want);
-            format!(in alloc; "is {shown}, and has to be {want}")
+    let stated = value_at(tree, &finding.path, finding.path.len());
+    match finding.problem {
+        Problem::IsNot(expected) => {
+            let shown = shown_or_empty(alloc, stated)?;
+            let expected = expected_text(expected);
+            format!(in alloc; "is {shown}, and has to be {expected}")
         }
-        What::IsMissing(want) => {
-            let want = want_text(want);
-            format!(in alloc; "is missing, and has to be {want}")
+        Problem::IsMissing(expected) => {
+            let expected = expected_text(expected);
+            format!(in alloc; "is missing, and has to be {expected}")
         }
-        What::TooManyBytes => String::from_str(alloc, "is too large"),
-        What::NotJson => String::from_str(alloc, "is not JSON, or nested more than 127 deep"),
-        What::TooManyChanges => {
-            let (count, most) = (Count(count_of(found)), Count(MAX_CHANGES as u64));
+        Problem::TooManyBytes => String::from_str(alloc, "is too large"),
+        Problem::NotJson => String::from_str(alloc, "is not JSON, or nested more than 127 deep"),
+        Problem::TooManyChanges => {
+            let (count, most) = (Count(count_of(stated)), Count(MAX_CHANGES as u64));
             format!(in alloc; "has {count} changes, {most} at most")
         }
-        What::BadActions => {
-            let shown = json_there(alloc, found)?;
+        Problem::BadActions => {
+            let shown = json_or_empty(alloc, stated)?;
             format!(in alloc; "is {shown}, and has to be {ACTIONS}")
         }
-        What::EmptyAddress => String::from_str(alloc, "is empty"),
-        What::OutsideModule => {
-            let shown = json_there(alloc, found)?;
+        Problem::EmptyAddress => String::from_str(alloc, "is empty"),
+        Problem::OutsideModule => {
+            let shown = json_or_empty(alloc, stated)?;
             let front = module_front(alloc, tree, finding)?;
             format!(in alloc; "is {shown}, and has to begin with its module, {front}")
         }
-        What::NamedBefore(number) => {
-            let address = address_text(alloc, found)?;
+        Problem::NamedBefore(number) => {
+            let address = address_text(alloc, stated)?;
             format!(in alloc; "is of the object of .resource_changes[{number}] again: {address}")
         }
-        What::UnknownAddress => {
+        Problem::UnknownAddress => {
             let near = if has_near { Some(names) } else { None };
             unknown_address_text(alloc, tree, finding, near)
         }
-        What::UnknownObject => unknown_object_text(alloc, tree, finding, names),
-        What::UnknownOutput => {
+        Problem::UnknownObject => unknown_object_text(alloc, tree, finding, names),
+        Problem::UnknownOutput => {
             let near = if has_near { Some(names) } else { None };
             unknown_output_text(alloc, tree, finding, near)
         }
-        What::AboutAgain(number) => {
-            let address = address_text(alloc, found)?;
+        Problem::AboutAgain(number) => {
+            let address = address_text(alloc, stated)?;
             format!(in alloc; "is about the change of .changes[{number}] again: {address}")
         }
-        What::TooManySteps(first, second) => {
-            too_many_steps_text(alloc, count_of(found), first, second)
+        Problem::TooManySteps(first, second) => {
+            too_many_steps_text(alloc, count_of(stated), first, second)
         }
-        What::TakesNone(kind) => takes_none_text(alloc, kind),
-        What::OnlyWarns(kind) => only_warns_text(alloc, kind),
-        What::NoSuchStep(first, second) => {
-            let shown = shown_there(alloc, found)?;
+        Problem::TakesNone(kind) => takes_none_text(alloc, kind),
+        Problem::OnlyWarns(kind) => only_warns_text(alloc, kind),
+        Problem::NoSuchStep(first, second) => {
+            let shown = shown_or_empty(alloc, stated)?;
             no_such_step_text(alloc, shown.as_str(), first, second)
         }
-        What::TooManyWaits => {
+        Problem::TooManyWaits => {
             let most = Count(MAX_WAITS as u64);
             format!(in alloc; "goes beyond {most} waits")
         }
-        What::BesideFailed => {
+        Problem::WithFailed => {
             String::from_str(
                 alloc,
                 "stands beside `failed`, and a step that failed has none",
             )
         }
-        What::BesideSkipped => {
+        Problem::WithSkipped => {
             String::from_str(
                 alloc,
                 "stands beside `skipped`, and a step that is skipped has none",
             )
         }
-        What::TooLong => too_long_text(alloc, found),
-        What::TooManyProvisioners => {
-            let (count, most) = (Count(count_of(found)), Count(MAX_PROVISIONERS as u64));
+        Problem::TooLong => too_long_text(alloc, stated),
+        Problem::TooManyProvisioners => {
+            let (count, most) = (Count(count_of(stated)), Count(MAX_PROVISIONERS as u64));
             format!(in alloc; "has {count} provisioners, {most} at most")
         }
-        What::TooManyTexts => {
-            let (count, most) = (Count(count_of(found)), Count(MAX_OUTPUTS as u64));
+        Problem::TooManyTexts => {
+            let (count, most) = (Count(count_of(stated)), Count(MAX_OUTPUTS as u64));
             format!(in alloc; "has {count} texts, {most} at most")
         }
-        What::BehindTheEnd(seconds) => {
-            let shown = shown_there(alloc, found)?;
+        Problem::AfterTheEnd(seconds) => {
+            let shown = shown_or_empty(alloc, stated)?;
             format!(in alloc;
                 "is {shown}, and has to be {seconds} at most, the seconds of its provisioner"
             )
         }
-        What::OutOfOrder(before) => {
-            let shown = shown_there(alloc, found)?;
+        Problem::OutOfOrder(before) => {
+            let shown = shown_or_empty(alloc, stated)?;
             format!(in alloc; "is {shown}, and has to be {before} at least, as the item before it")
         }
-        What::NotRead => not_read_text(alloc, tree, finding),
-        What::ForPlan(refusal) => String::from_str(alloc, for_plan_text(refusal)),
-        What::Waits => String::from_str(alloc, "waits, which takes --parallelism"),
+        Problem::NotRead => not_read_text(alloc, tree, finding),
+        Problem::ForPlan(refusal) => String::from_str(alloc, for_plan_text(refusal)),
+        Problem::Waits => String::from_str(alloc, "waits, which takes --parallelism"),
     }
 }
 
-/// What a run refuses an entry for, where nothing else is found.
+/// Returns the text for a refusal that no other finding explains.
 fn for_plan_text(refusal: ScriptError) -> &'static str {
     match refusal {
         ScriptError::NeverBegins(_) => "has a step that could never begin",
@@ -186,36 +188,38 @@ fn for_plan_text(refusal: ScriptError) -> &'static str {
     }
 }
 
-fn shown_there(alloc: Global, found: Option<&Value>) -> Result<String, AllocError> {
-    match found {
-        Some(value) => found_text(alloc, value),
+fn shown_or_empty(alloc: Global, stated: Option<&Value>) -> Result<String, AllocError> {
+    match stated {
+        Some(value) => value_text(alloc, value),
         None => Ok(String::new(alloc)),
     }
 }
 
-fn json_there(alloc: Global, found: Option<&Value>) -> Result<String, AllocError> {
-    match found {
+fn json_or_empty(alloc: Global, stated: Option<&Value>) -> Result<String, AllocError> {
+    match stated {
         Some(value) => shortened_json(alloc, value),
         None => Ok(String::new(alloc)),
     }
 }
 
-fn count_of(found: Option<&Value>) -> u64 {
-    match found {
+/// Counts the items of an array. Any other value counts as empty.
+fn count_of(stated: Option<&Value>) -> u64 {
+    match stated {
         Some(Value::Array(items)) => items.len() as u64,
         _ => 0,
     }
 }
 
-/// The address of an element.
-fn address_text(alloc: Global, found: Option<&Value>) -> Result<String, AllocError> {
-    let Some(value) = found else {
+/// Returns the address of an element or of an entry, as JSON.
+fn address_text(alloc: Global, stated: Option<&Value>) -> Result<String, AllocError> {
+    let Some(value) = stated else {
         return Ok(String::new(alloc));
     };
-    json_there(alloc, value.get(Name::Address.text()))
+    json_or_empty(alloc, value.get(Name::Address.text()))
 }
 
-/// How the address of an element in a module begins: with the module's, and a dot.
+/// Returns how an address in the module of an element has to start: with the module's address and a
+/// dot.
 fn module_front(alloc: Global, tree: &Value, finding: &Finding) -> Result<String, AllocError> {
     let element = value_at(tree, &finding.path, finding.path.len().saturating_sub(1));
     let module = match element {
@@ -226,22 +230,22 @@ fn module_front(alloc: Global, tree: &Value, finding: &Finding) -> Result<String
     shortened_json(alloc, &front)
 }
 
-/// How long a step takes.
-fn too_long_text(alloc: Global, found: Option<&Value>) -> Result<String, AllocError> {
+/// Makes the text for a step that takes longer than a day.
+fn too_long_text(alloc: Global, stated: Option<&Value>) -> Result<String, AllocError> {
     let most = Count(u64::from(MAX_SECONDS));
-    let Some(step) = found else {
+    let Some(step) = stated else {
         return Ok(String::new(alloc));
     };
-    let mut taken = seconds_of(step);
+    let mut total = seconds_of(step);
     let mut words = "";
     if let Some(Value::Array(provisioners)) = step.get(Name::Provisioners.text()) {
         for provisioner in provisioners {
-            taken = taken.saturating_add(seconds_of(provisioner));
+            total = total.saturating_add(seconds_of(provisioner));
             words = ", its provisioners included";
         }
     }
-    let taken = Count(taken);
-    format!(in alloc; "takes {taken} seconds{words}, {most} at most")
+    let total = Count(total);
+    format!(in alloc; "takes {total} seconds{words}, {most} at most")
 }
 
 fn seconds_of(value: &Value) -> u64 {

@@ -1,29 +1,31 @@
-//! The objects that a plan changes, as people are told of them.
+//! Names of a plan's objects, for suggestions.
+//!
+//! Every `Err` means that memory was refused.
 
-use crate::texts::found::json_text;
-use crate::texts::near::{first_near, push_near};
+use crate::texts::nearest_names::{first_near, push_near};
 use crate::texts::plan_outputs::output_names;
+use crate::texts::value::json_text;
 use input_validate::{Name, nearest};
 use serde_json::Value;
 use std::alloc::{AllocError, Global};
 use std::collections::BTreeSet;
 
-/// How many deposed keys are told.
+/// How many deposed keys are printed.
 const MOST_KEYS: usize = 3;
 
-/// The addresses of a plan's changes, in its order, and the deposed keys at them.
+/// The addresses that a plan changes, in its order, the deposed keys at them, and the outputs.
 #[derive(Drop)]
 pub struct PlanNames<'a> {
     /// Each address once.
     addresses: Vec<&'a str>,
-    /// The outputs that it has behind the apply, each once.
+    /// The outputs that the plan has after the apply, each once.
     outputs: Vec<&'a str>,
-    /// What each change names.
+    /// The address and the deposed key of each change.
     changes: Vec<(&'a str, Option<&'a str>)>,
 }
 
 impl<'a> PlanNames<'a> {
-    /// Those of the tree of a plan, where there is one. `Err` where memory is refused.
+    /// Collects the names from the tree of a plan. Without a tree there are none.
     pub fn of(alloc: Global, plan: Option<&'a Value>) -> Result<PlanNames<'a>, AllocError> {
         let mut names = PlanNames {
             addresses: Vec::new(alloc),
@@ -42,27 +44,28 @@ impl<'a> PlanNames<'a> {
         Ok(names)
     }
 
-    /// Adds which addresses are near to one that the plan does not have.
+    /// Adds the addresses that are near to an unknown one.
     pub fn push_near_addresses(
         &self,
         alloc: Global,
         text: &mut String,
-        found: &str,
+        stated: &str,
     ) -> Result<(), AllocError> {
-        push_near_among(alloc, text, found, &self.addresses)
+        push_near_among(alloc, text, stated, &self.addresses)
     }
 
-    /// Adds which outputs are near to one that the plan does not have.
+    /// Adds the outputs that are near to an unknown one.
     pub fn push_near_outputs(
         &self,
         alloc: Global,
         text: &mut String,
-        found: &str,
+        stated: &str,
     ) -> Result<(), AllocError> {
-        push_near_among(alloc, text, found, &self.outputs)
+        push_near_among(alloc, text, stated, &self.outputs)
     }
 
-    /// Which objects the plan has at an address: none for the one that is not deposed, or the key of one that is.
+    /// Lists the deposed keys that the plan has at an address. The object that is not deposed
+    /// counts as `none`.
     pub fn keys_text(&self, alloc: Global, address: &str) -> Result<String, AllocError> {
         let mut text = String::new(alloc);
         let mut count = 0usize;
@@ -79,20 +82,20 @@ impl<'a> PlanNames<'a> {
     }
 }
 
-/// Adds which of the names are near to one that is none of them.
+/// Adds the names that are near to an unknown one.
 fn push_near_among(
     alloc: Global,
     text: &mut String,
-    found: &str,
+    stated: &str,
     all: &[&str],
 ) -> Result<(), AllocError> {
-    let reach = (found.chars().count() / 3).max(1);
-    let near = nearest(alloc, found, all, reach)?;
+    let reach = (stated.chars().count() / 3).max(1);
+    let near = nearest(alloc, stated, all, reach)?;
     let shown = first_near(alloc, all, &near)?;
     push_near(text, &shown)
 }
 
-/// Adds the key of a deposed object, or that there is none.
+/// Adds a deposed key, or `none`.
 fn push_key(alloc: Global, text: &mut String, key: Option<&str>) -> Result<(), AllocError> {
     match key {
         Some(key) => {
@@ -103,7 +106,7 @@ fn push_key(alloc: Global, text: &mut String, key: Option<&str>) -> Result<(), A
     }
 }
 
-/// The elements of a plan's tree.
+/// Returns the elements of `resource_changes`.
 fn elements_of(plan: Option<&Value>) -> &[Value] {
     let Some(plan) = plan else {
         return &[];
@@ -114,15 +117,15 @@ fn elements_of(plan: Option<&Value>) -> &[Value] {
     }
 }
 
-/// A member that is a text.
+/// Returns a member that is a text.
 pub fn text_at(value: &Value, name: Name) -> Option<&str> {
     value.get(name.text())?.as_str()
 }
 
-/// The key of a deposed object, where an element has one.
+/// Returns the deposed key of an element. An empty key counts as absent.
 fn key_at(element: &Value) -> Option<&str> {
     match text_at(element, Name::Deposed) {
         Some("") => None,
-        found => found,
+        stated => stated,
     }
 }

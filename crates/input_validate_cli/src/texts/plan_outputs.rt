@@ -1,12 +1,15 @@
-//! The outputs of a plan, as people are told of them.
+//! Outputs of a plan, for suggestions.
+//!
+//! Every `Err` means that memory was refused.
 
-use crate::texts::place::{other_name, value_at};
+use crate::texts::jq_path::{other_name, value_at};
 use crate::texts::plan_names::PlanNames;
-use input_validate::{Finding, Part};
+use input_validate::{Finding, Segment};
 use serde_json::{Map, Value};
 use std::alloc::{AllocError, Global};
 
-/// The names of the outputs that a plan has behind the apply, each once: those that it changes, and others that it knows.
+/// Collects the outputs that a plan has after the apply, each once: those that it changes, and
+/// those of its prior state.
 pub fn output_names(alloc: Global, plan: Option<&Value>) -> Result<Vec<&str>, AllocError> {
     let mut names = Vec::new(alloc);
     let Some(plan) = plan else {
@@ -21,8 +24,8 @@ pub fn output_names(alloc: Global, plan: Option<&Value>) -> Result<Vec<&str>, Al
         }
     }
     let values = value_in(value_in(Some(plan), "prior_state"), "values");
-    if let Some(known) = object_at(values, "outputs") {
-        for (name, _) in known {
+    if let Some(rule) = object_at(values, "outputs") {
+        for (name, _) in rule {
             if !is_changed(changes, name.as_str()) {
                 names.push(name.as_str())?;
             }
@@ -31,7 +34,7 @@ pub fn output_names(alloc: Global, plan: Option<&Value>) -> Result<Vec<&str>, Al
     Ok(names)
 }
 
-/// Whether something is planned of the output of that name.
+/// Returns whether the plan states a change for an output.
 fn is_changed(changes: Option<&Map<String, Value>>, name: &str) -> bool {
     let Some(changes) = changes else {
         return false;
@@ -42,7 +45,7 @@ fn is_changed(changes: Option<&Map<String, Value>>, name: &str) -> bool {
     }
 }
 
-/// Whether the output is deleted.
+/// Returns whether a change deletes the output.
 fn is_gone(change: &Value) -> bool {
     match value_in(Some(change), "actions") {
         Some(Value::Array(actions)) => match actions.as_slice() {
@@ -53,17 +56,17 @@ fn is_gone(change: &Value) -> bool {
     }
 }
 
-/// The member of that name.
 fn value_in<'a>(object: Option<&'a Value>, name: &str) -> Option<&'a Value> {
     object?.get(name)
 }
 
-/// The member of that name, where it is an object.
+/// Returns a member that is an object.
 fn object_at<'a>(object: Option<&'a Value>, name: &str) -> Option<&'a Map<String, Value>> {
     value_in(object, name)?.as_object()
 }
 
-/// That a plan has no output of the name that a path leads to, and which ones are near where these are wanted.
+/// Makes the text for an output that the plan does not have. Near names are added if `names` is
+/// given.
 pub fn unknown_output_text(
     alloc: Global,
     tree: &Value,
@@ -72,19 +75,23 @@ pub fn unknown_output_text(
 ) -> Result<String, AllocError> {
     let mut text = String::from_str(alloc, "is no output of the plan")?;
     if let Some(names) = names {
-        names.push_near_outputs(alloc, &mut text, output_found(tree, finding).unwrap_or(""))?;
+        names.push_near_outputs(
+            alloc,
+            &mut text,
+            unknown_output(tree, finding).unwrap_or(""),
+        )?;
     }
     Ok(text)
 }
 
-/// The name of the output that a path leads to.
-fn output_found<'a>(tree: &'a Value, finding: &Finding) -> Option<&'a str> {
+/// Returns the name of the output that the path leads to.
+fn unknown_output<'a>(tree: &'a Value, finding: &Finding) -> Option<&'a str> {
     let path = &finding.path;
     if path.len() == 0 {
         return None;
     }
     match path.get(path.len() - 1) {
-        Part::Other(number) => other_name(value_at(tree, path, path.len() - 1), number),
+        Segment::Other(number) => other_name(value_at(tree, path, path.len() - 1), number),
         _ => None,
     }
 }

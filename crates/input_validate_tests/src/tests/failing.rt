@@ -1,53 +1,61 @@
-//! Words that are not followed, and inputs and outputs that fail.
+//! Tests of wrong words, and of inputs and outputs that fail.
 
 use crate::tests::PLAN;
-use crate::tests::streams::{Broken, Taken};
+use crate::tests::streams::{Broken, LimitedWriter};
 use input_validate::Form;
-use input_validate_cli::{Followed, Lens, ValidateFault, follow, validate};
+use input_validate_cli::{Followed, InputSizes, ValidateFault, follow, validate};
 use std::alloc::Global;
 use std::io::ErrorKind;
 use std::process::Abort;
 use std::rt::Files;
 
-/// What is written of the plan.
+/// The output for the plan.
 const ACCEPTED: &str = "the plan is accepted\n";
 
-/// At each byte of the text, and behind the last one, where what was written can't be sent on. Nothing is said where the reader of
-/// the output is gone.
+/// The writer fails after each number of bytes, the last one included. Nothing is printed if the
+/// reader of the output is gone.
 #[test]
 fn writer_that_fails(rt: HostRuntime) {
-    let said = "applystream: the output could not be written\n";
+    let stated = "applystream: the output could not be written\n";
     for room in 0..=ACCEPTED.len() {
-        fails(&rt, rt.alloc(), room, ErrorKind::StorageFull, false, said);
+        fails(&rt, rt.alloc(), room, ErrorKind::StorageFull, false, stated);
         fails(&rt, rt.alloc(), room, ErrorKind::BrokenPipe, true, "");
     }
 }
 
-/// Fails where validating the plan does not end so in a writer that fails so behind so many bytes.
-fn fails(rt: &impl Abort, alloc: Global, room: usize, kind: ErrorKind, is_gone: bool, said: &str) {
-    let mut out = Taken::new(alloc, room, kind);
+/// Fails if validating into a writer with this room ends in another way.
+fn fails(
+    rt: &impl Abort,
+    alloc: Global,
+    room: usize,
+    kind: ErrorKind,
+    is_gone: bool,
+    stated: &str,
+) {
+    let mut out = LimitedWriter::new(alloc, room, kind);
     let mut faults = Vec::new(alloc);
     let (form, plan) = (Form::Applystream, PLAN.as_bytes());
-    let lens = Lens::of(plan, None);
-    let outcome = validate(alloc, form, false, plan, None, lens, &mut out, &mut faults);
+    let sizes = InputSizes::of(plan, None);
+    let outcome = validate(alloc, form, false, plan, None, sizes, &mut out, &mut faults);
     assert_eq!(rt; outcome.status, 3);
     assert_eq!(rt; matches!(outcome.answer, Err(ValidateFault::Gone)), is_gone);
     assert_eq!(rt;
         matches!(outcome.answer, Err(ValidateFault::Unwritten)),
         !is_gone
     );
-    assert_eq!(rt; faults.as_slice(), said.as_bytes());
+    assert_eq!(rt; faults.as_slice(), stated.as_bytes());
     let front = ACCEPTED.as_bytes().get(..room).unwrap_or(&[]);
     assert_eq!(rt; out.bytes.as_slice(), front);
 }
 
-/// What becomes of these words, with a plan that can't be read to its end: the output stays empty, and that is said.
+/// Runs the words with a plan that cannot be read to its end. The output has to stay empty, and the
+/// error has to be printed.
 fn refused<F: Files>(
     rt: &impl Abort,
     files: &F,
     alloc: Global,
     words: &[&str],
-    said: &str,
+    stated: &str,
 ) -> Followed {
     let mut texts = Vec::new(alloc);
     for word in words {
@@ -66,7 +74,7 @@ fn refused<F: Files>(
     );
     assert_eq!(rt; followed.status, 2);
     assert!(rt; out.is_empty());
-    assert!(rt; faults.as_slice().starts_with(said.as_bytes()));
+    assert!(rt; faults.as_slice().starts_with(stated.as_bytes()));
     followed
 }
 
@@ -81,8 +89,8 @@ fn inputs_that_cannot_be_read(rt: HostRuntime) {
     );
     assert!(rt; matches!(plan.answer, Some(Err(ValidateFault::Plan(_)))));
     let words = ["--script", "no/such/script.json"];
-    let said = "applystream: the script file could not be read\n";
-    let script = refused(&rt, &rt, rt.alloc(), &words, said);
+    let stated = "applystream: the script file could not be read\n";
+    let script = refused(&rt, &rt, rt.alloc(), &words, stated);
     assert!(rt; script.answer.is_none());
     let unknown = refused(&rt, &rt, rt.alloc(), &["--scripts"], "error: ");
     assert!(rt; unknown.answer.is_none());

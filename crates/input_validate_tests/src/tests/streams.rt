@@ -3,7 +3,7 @@
 use std::alloc::Global;
 use std::io::{self, ErrorKind, Read, Write};
 
-/// A reader that gives a front of a plan, and then fails.
+/// A reader that gives the first byte of a plan, and then fails.
 #[derive(Drop)]
 pub(super) struct Broken {
     front: &'static [u8],
@@ -27,18 +27,19 @@ impl Read for Broken {
     }
 }
 
-/// A writer that takes one byte at once, and fails so behind so many, in a write as in a flush.
+/// A writer that takes one byte in each write. After `room` bytes each write and flush fails with
+/// this kind of error.
 #[derive(Drop)]
-pub(super) struct Taken {
+pub(super) struct LimitedWriter {
     pub bytes: Vec<u8>,
     room: usize,
     kind: ErrorKind,
 }
 
-impl Taken {
-    /// One that has taken nothing.
-    pub fn new(alloc: Global, room: usize, kind: ErrorKind) -> Taken {
-        Taken {
+impl LimitedWriter {
+    /// Makes a writer that has received nothing.
+    pub fn new(alloc: Global, room: usize, kind: ErrorKind) -> LimitedWriter {
+        LimitedWriter {
             bytes: Vec::new(alloc),
             room,
             kind,
@@ -46,7 +47,7 @@ impl Taken {
     }
 }
 
-impl Write for Taken {
+impl Write for LimitedWriter {
     fn write(&mut self, buf: &[u8]) -> io::Result<usize> {
         let left = self.room.saturating_sub(self.bytes.len());
         let count = left.min(buf.len()).min(1);

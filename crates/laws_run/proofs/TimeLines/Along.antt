@@ -1,4 +1,4 @@
--- Moments along lists in order.
+-- Times along lists in order.
 use Rattle.std.proofs.Common.{zero, suc, List, [], ◌∷◌, arith}
 use Rattle.std.specs.List.Sorted.{IsNonDecreasingBy}
 use Rattle.apply_events.specs.declared.event.Event.{Event}

@@ -8,7 +8,7 @@ use Rattle.std.specs.List.{list_all, range_with_len}
 use Rattle.apply_events.specs.declared.event.Event.{Event}
 use Rattle.apply_events.specs.ChangeEvents.{change_events, in_turn, span_of}
 use Rattle.apply_events.specs.Step.{Work}
-use Rattle.apply_events.specs.Lanes.Dealing.{before, dealt, first_least, kept, lanes}
+use Rattle.apply_events.specs.Lanes.Dealing.{before, dealt, first_least, occupied, lanes}
 use Rattle.apply_events.specs.Lanes.Runs.{Runs}
 use Rattle.apply_events.specs.Lanes.TimeLine.{IsTimeLine, lane_events}
 use Rattle.apply_events.proofs.TimeLines.Changes.{change_runs, runs_lower}
@@ -47,11 +47,11 @@ pub dealt_sum : (work : Work) (f : ℕ → ℕ) (free : List ℕ) (changes : Lis
 dealt_sum work f free [] some = no_sum f free
 dealt_sum work f free (c ∷ changes) some =
     let lane = first_least free in
-    let later = dealt work (kept work c free) changes in
-    let size : length (kept work c free) ≡ length free = length-set free lane _ in
-    let count : length later ≡ length free = length_dealt work (kept work c free) changes ∙ size in
+    let later = dealt work (occupied work c free) changes in
+    let size : length (occupied work c free) ≡ length free = length-set free lane _ in
+    let count : length later ≡ length free = length_dealt work (occupied work c free) changes ∙ size in
     let inside = first_least_lt free some in
-    let rest = dealt_sum work f (kept work c free) changes (omega arith) in
+    let rest = dealt_sum work f (occupied work c free) changes (omega arith) in
     let now = lane_sum f c lane later (omega arith) in
     let both : sum_by f (c ∷ changes) ≡ f c + sum_by f changes = sum_by-cons f c changes in
     omega arith
@@ -103,8 +103,8 @@ some_less x (y ∷ ys) some = ⊎_elim
     (λ (less : y < x). (0, omega arith, less))
     (λ (le : x ≤ y).
     let rest : list_all (leb x) ys ≡ false = sym (ap (λ b. b && list_all (leb x) ys) (le-leb x y le)) ∙ some in
-    let found = some_less x ys rest in let inside = found.1 in
-    (suc found.0, omega arith, found.2))
+    let located = some_less x ys rest in let inside = located.1 in
+    (suc located.0, omega arith, located.2))
     (cases_lt y x)
 
 abbrev IsLeast : List ℕ → ℕ → Type 0
@@ -116,7 +116,7 @@ least_here x xs all (suc k) lt = (all_at x xs k all (omega arith), λ no. absurd
 
 least_later : (x : ℕ) (xs : List ℕ) → list_all (leb x) xs ≡ false → IsLeast xs (first_least xs) → IsLeast (x ∷ xs) (suc (first_least xs))
 least_later x xs some low zero lt =
-    let found = some_less x xs some in let less = found.2 in let le = (low found.0 found.1).0 in
+    let located = some_less x xs some in let less = located.2 in let le = (low located.0 located.1).0 in
     (omega arith, λ _. omega arith)
 least_later x xs some low (suc k) lt = let rest = low k (omega arith) in (rest.0, λ less. rest.1 (omega arith))
 

@@ -24,7 +24,7 @@ use Rattle.apply_events.specs.Interleaving.{IsInterleaving, lists_of}
 use Rattle.apply_events.specs.OfWorker.{of_worker}
 use Rattle.apply_events.specs.Provisions.{provision_end}
 use Rattle.apply_events.specs.Step.{Step, Work, kinds_applied, step_of, steps_of}
-use Rattle.apply_events.specs.StepEvents.{between, end_of, endings, event, goes_on, halts, notes, phase_after, seconds_of, started, step_events, step_time, tells_end}
+use Rattle.apply_events.specs.StepEvents.{between, end_of, endings, event, goes_on, halts, notes, phase_after, seconds_of, start_events, step_events, step_time, emits_end}
 use Rattle.apply_events.specs.Lanes.Dealing.{lanes}
 use Rattle.laws_run.specs.ChangesUnderWay.{ends_of, is_end, is_open_after, is_over_with, is_start, is_warning, only_warns, open_after, starts_of}
 use Rattle.apply_events.specs.Lanes.TimeLine.{IsTimeLine, lane_events}
@@ -142,9 +142,9 @@ balanced_append work c es fs first second = let a = starts-append c es fs in let
 
 -- ---- within a step
 
-quiet_found : (w at : ℕ) (s : Step) (phase : Phase) (found : Option ℕ) → All Quiet (option_to_list (option_map (λ hook. event w s at (Halted phase hook)) found))
-quiet_found w at s phase None = All-nil Quiet
-quiet_found w at s phase (Some hook) = All-cons Quiet (event w s at (Halted phase hook)) [] (refl, refl, refl) (All-nil Quiet)
+quiet_hook : (w at : ℕ) (s : Step) (phase : Phase) (located : Option ℕ) → All Quiet (option_to_list (option_map (λ hook. event w s at (Halted phase hook)) located))
+quiet_hook w at s phase None = All-nil Quiet
+quiet_hook w at s phase (Some hook) = All-cons Quiet (event w s at (Halted phase hook)) [] (refl, refl, refl) (All-nil Quiet)
 
 quiet_between : (w at : ℕ) (s : Step) → All Quiet (map (λ (p : ℕ × What). event w s (at + p.0) p.1) (between s))
 quiet_between w at s =
@@ -156,65 +156,65 @@ quiet_between w at s =
     quiet_end i p = elim (has_failed p) as (λ b. IsQuiet (cond b (ProvisionErrored i) (ProvisionComplete i))) [ true ↦ (refl, refl, refl) | false ↦ (refl, refl, refl) ]
 
 -- the step only warns exactly where its outcome does
-abbrev IsSaid : Work → Step → Type 0
-IsSaid work s = only_warns (outcome_of work.script s.change s.number) ≡ (s.only_warns && not s.fails)
+abbrev IsConsistent : Work → Step → Type 0
+IsConsistent work s = only_warns (outcome_of work.script s.change s.number) ≡ (s.only_warns && not s.fails)
 
 -- the end alone counts, or the warning of a step that only warns
 endings_balance : (work : Work) (c w at : ℕ) (s : Step) (fails only warns : Bool) → only_warns (outcome_of work.script s.change s.number) ≡ (only && not fails)
-    → starts_of c (event w s 0 Start ∷ []) + starts_of c (map (λ what. event w s at what) (cond (tells_end fails only) (end_of fails (seconds_of s) ∷ notes fails warns) (WarnNote ∷ [])))
-    ≡ ends_of work c (event w s 0 Start ∷ []) + ends_of work c (map (λ what. event w s at what) (cond (tells_end fails only) (end_of fails (seconds_of s) ∷ notes fails warns) (WarnNote ∷ [])))
-endings_balance work c w at s true only warns said = elim (nat_eq s.change c) as (λ b. 0 + bit (b && true) + (0 + bit (b && false) + bit (b && false)) ≡ 0 + bit (b && false) + (0 + bit (b && true) + bit (b && false))) [ true ↦ refl | false ↦ refl ]
-endings_balance work c w at s false false true said =
-    subst (λ x. 0 + bit (nat_eq s.change c && true) + (0 + bit (nat_eq s.change c && false) + bit (nat_eq s.change c && false)) ≡ 0 + bit (nat_eq s.change c && false) + (0 + bit (nat_eq s.change c && true) + bit (nat_eq s.change c && x))) (sym said)
+    → starts_of c (event w s 0 Start ∷ []) + starts_of c (map (λ what. event w s at what) (cond (emits_end fails only) (end_of fails (seconds_of s) ∷ notes fails warns) (WarnNote ∷ [])))
+    ≡ ends_of work c (event w s 0 Start ∷ []) + ends_of work c (map (λ what. event w s at what) (cond (emits_end fails only) (end_of fails (seconds_of s) ∷ notes fails warns) (WarnNote ∷ [])))
+endings_balance work c w at s true only warns stated = elim (nat_eq s.change c) as (λ b. 0 + bit (b && true) + (0 + bit (b && false) + bit (b && false)) ≡ 0 + bit (b && false) + (0 + bit (b && true) + bit (b && false))) [ true ↦ refl | false ↦ refl ]
+endings_balance work c w at s false false true stated =
+    subst (λ x. 0 + bit (nat_eq s.change c && true) + (0 + bit (nat_eq s.change c && false) + bit (nat_eq s.change c && false)) ≡ 0 + bit (nat_eq s.change c && false) + (0 + bit (nat_eq s.change c && true) + bit (nat_eq s.change c && x))) (sym stated)
     (elim (nat_eq s.change c) as (λ b. 0 + bit (b && true) + (0 + bit (b && false) + bit (b && false)) ≡ 0 + bit (b && false) + (0 + bit (b && true) + bit (b && false))) [ true ↦ refl | false ↦ refl ])
-endings_balance work c w at s false false false said = elim (nat_eq s.change c) as (λ b. 0 + bit (b && true) + (0 + bit (b && false)) ≡ 0 + bit (b && false) + (0 + bit (b && true))) [ true ↦ refl | false ↦ refl ]
-endings_balance work c w at s false true warns said =
-    subst (λ x. 0 + bit (nat_eq s.change c && true) + (0 + bit (nat_eq s.change c && false)) ≡ 0 + bit (nat_eq s.change c && false) + (0 + bit (nat_eq s.change c && x))) (sym said)
+endings_balance work c w at s false false false stated = elim (nat_eq s.change c) as (λ b. 0 + bit (b && true) + (0 + bit (b && false)) ≡ 0 + bit (b && false) + (0 + bit (b && true))) [ true ↦ refl | false ↦ refl ]
+endings_balance work c w at s false true warns stated =
+    subst (λ x. 0 + bit (nat_eq s.change c && true) + (0 + bit (nat_eq s.change c && false)) ≡ 0 + bit (nat_eq s.change c && false) + (0 + bit (nat_eq s.change c && x))) (sym stated)
     (elim (nat_eq s.change c) as (λ b. 0 + bit (b && true) + (0 + bit (b && false)) ≡ 0 + bit (b && false) + (0 + bit (b && true))) [ true ↦ refl | false ↦ refl ])
 
-started_balanced : (work : Work) (c w at : ℕ) (s : Step) → IsSaid work s → Balanced work c (started w s at)
-started_balanced work c w at s said =
+started_balanced : (work : Work) (c w at : ℕ) (s : Step) → IsConsistent work s → Balanced work c (start_events w s at)
+started_balanced work c w at s stated =
     let first = event w s at Start in
-    let told = map (λ (p : ℕ × What). event w s (at + p.0) p.1) (between s) in
+    let emitted = map (λ (p : ℕ × What). event w s (at + p.0) p.1) (between s) in
     let ends = map (λ what. event w s (at + seconds_of s) what) (endings s) in
     let halt = halts w s (phase_after s.fails) (at + seconds_of s) in
-    let quiet = quiet_balanced work c told (quiet_between w at s) in
-    let after = quiet_balanced work c halt (quiet_found w (at + seconds_of s) s (phase_after s.fails) (s.halts (phase_after s.fails))) in
-    let whole = endings_balance work c w (at + seconds_of s) s s.fails s.only_warns s.warns said in
-    let a = starts-cons c first (told ++ ends ++ halt) in let b = ends-cons work c first (told ++ ends ++ halt) in
-    let d = starts-append c (told ++ ends) halt in let e = ends-append work c (told ++ ends) halt in
-    let f = starts-append c told ends in let g = ends-append work c told ends in
+    let quiet = quiet_balanced work c emitted (quiet_between w at s) in
+    let after = quiet_balanced work c halt (quiet_hook w (at + seconds_of s) s (phase_after s.fails) (s.halts (phase_after s.fails))) in
+    let whole = endings_balance work c w (at + seconds_of s) s s.fails s.only_warns s.warns stated in
+    let a = starts-cons c first (emitted ++ ends ++ halt) in let b = ends-cons work c first (emitted ++ ends ++ halt) in
+    let d = starts-append c (emitted ++ ends) halt in let e = ends-append work c (emitted ++ ends) halt in
+    let f = starts-append c emitted ends in let g = ends-append work c emitted ends in
     let alone : starts_of c (event w s 0 Start ∷ []) ≡ bit (nat_eq s.change c && true) = starts-cons c (event w s 0 Start) [] ∙ omega arith in
     let nothing : ends_of work c (event w s 0 Start ∷ []) ≡ bit (nat_eq s.change c && false) = ends-cons work c (event w s 0 Start) [] ∙ omega arith in
     omega arith
 
-step_balanced : (work : Work) (c w at : ℕ) (s : Step) → IsSaid work s → Balanced work c (step_events w s at)
-step_balanced work c w at s said = with_halt (s.halts Pre)
+step_balanced : (work : Work) (c w at : ℕ) (s : Step) → IsConsistent work s → Balanced work c (step_events w s at)
+step_balanced work c w at s stated = with_halt (s.halts Pre)
   where
-    with_halt : (found : Option ℕ) → Balanced work c (cond (is_some found) (option_to_list (option_map (λ hook. event w s at (Halted Pre hook)) found)) (started w s at))
-    with_halt None = started_balanced work c w at s said
-    with_halt (Some hook) = quiet_balanced work c (event w s at (Halted Pre hook) ∷ []) (quiet_found w at s Pre (Some hook))
+    with_halt : (located : Option ℕ) → Balanced work c (cond (is_some located) (option_to_list (option_map (λ hook. event w s at (Halted Pre hook)) located)) (start_events w s at))
+    with_halt None = started_balanced work c w at s stated
+    with_halt (Some hook) = quiet_balanced work c (event w s at (Halted Pre hook) ∷ []) (quiet_hook w at s Pre (Some hook))
 
-abbrev AreSaid : Work → List Step → Type 0
-AreSaid work [] = Unit {0}
-AreSaid work (s ∷ steps) = IsSaid work s × AreSaid work steps
+abbrev AreConsistent : Work → List Step → Type 0
+AreConsistent work [] = Unit {0}
+AreConsistent work (s ∷ steps) = IsConsistent work s × AreConsistent work steps
 
-steps_said : (work : Work) (c n : ℕ) (kinds : List StepKind) → AreSaid work (map (λ p. step_of work c p.0 p.1) (enumerate_from n kinds))
-steps_said work c n [] = tt
-steps_said work c n (kind ∷ kinds) = (refl, steps_said work c (n + 1) kinds)
+steps_stated : (work : Work) (c n : ℕ) (kinds : List StepKind) → AreConsistent work (map (λ p. step_of work c p.0 p.1) (enumerate_from n kinds))
+steps_stated work c n [] = tt
+steps_stated work c n (kind ∷ kinds) = (refl, steps_stated work c (n + 1) kinds)
 
-begun_said : (work : Work) (steps : List Step) → AreSaid work steps → AreSaid work (begun steps)
-begun_said work [] said = tt
-begun_said work (s ∷ steps) said = (said.0, elim (goes_on s) as (λ b. AreSaid work (cond b (begun steps) [])) [ true ↦ begun_said work steps said.1 | false ↦ tt ])
+begun_stated : (work : Work) (steps : List Step) → AreConsistent work steps → AreConsistent work (begun steps)
+begun_stated work [] stated = tt
+begun_stated work (s ∷ steps) stated = (stated.0, elim (goes_on s) as (λ b. AreConsistent work (cond b (begun steps) [])) [ true ↦ begun_stated work steps stated.1 | false ↦ tt ])
 
-steps_balanced : (work : Work) (c w at : ℕ) (steps : List Step) → AreSaid work steps → Balanced work c (in_turn (step_events w) step_time steps at)
-steps_balanced work c w at [] said = refl
-steps_balanced work c w at (s ∷ steps) said =
+steps_balanced : (work : Work) (c w at : ℕ) (steps : List Step) → AreConsistent work steps → Balanced work c (in_turn (step_events w) step_time steps at)
+steps_balanced work c w at [] stated = refl
+steps_balanced work c w at (s ∷ steps) stated =
     balanced_append work c (step_events w s at) (in_turn (step_events w) step_time steps (at + step_time s))
-    (step_balanced work c w at s said.0) (steps_balanced work c w (at + step_time s) steps said.1)
+    (step_balanced work c w at s stated.0) (steps_balanced work c w (at + step_time s) steps stated.1)
 
 change_balanced : (work : Work) (d w at c : ℕ) → Balanced work d (change_events work w c at)
-change_balanced work d w at c = steps_balanced work d w at (begun (steps_of work c)) (begun_said work (steps_of work c) (steps_said work c 0 (kinds_applied work.plan work.script c)))
+change_balanced work d w at c = steps_balanced work d w at (begun (steps_of work c)) (begun_stated work (steps_of work c) (steps_stated work c 0 (kinds_applied work.plan work.script c)))
 
 -- ---- within a lane
 
@@ -235,10 +235,10 @@ open_of_one work c m es names =
     one_counts (λ d. bit (is_open_after work es d)) c 0 m (λ d. bit_le (is_open_after work es d))
     (λ d other. let none = others_closed c d es names other in bit_off (ends_of work d es) (starts_of d es) (omega arith))
 
--- what comes behind a change that is over
-open_behind : (work : Work) (m : ℕ) (es fs : List Event) → ((d : ℕ) → Balanced work d es)
+-- after a change that is over
+open_after_it : (work : Work) (m : ℕ) (es fs : List Event) → ((d : ℕ) → Balanced work d es)
     → sum_by (λ d. bit (is_open_after work (es ++ fs) d)) (range_with_len 0 m) ≤ sum_by (λ d. bit (is_open_after work fs d)) (range_with_len 0 m)
-open_behind work m es fs over = sum_by-le-sum_by (λ d. bit (is_open_after work (es ++ fs) d)) (λ d. bit (is_open_after work fs d)) (range_with_len 0 m) (λ d.
+open_after_it work m es fs over = sum_by-le-sum_by (λ d. bit (is_open_after work (es ++ fs) d)) (λ d. bit (is_open_after work fs d)) (range_with_len 0 m) (λ d.
     let same = over d in let starts = starts-append d es fs in let ends = ends-append work d es fs in
     let one = bit_le (is_open_after work (es ++ fs) d) in
     ⊎_elim
@@ -267,7 +267,7 @@ open_in_lane work w m k at (c ∷ changes) =
     let j = k - length first in
     let count : length first + j ≡ k = omega arith in
     let cut : take k (first ++ later) ≡ first ++ take j later = ap (λ n. take n (first ++ later)) (sym count) ∙ take-append-add first later j in
-    let less = open_behind work m first (take j later) (λ d. change_balanced work d w at c) in
+    let less = open_after_it work m first (take j later) (λ d. change_balanced work d w at c) in
     let rest = open_in_lane work w m j (at + span_of work c) changes in
     subst (λ es. sum_by (λ d. bit (is_open_after work es d)) (range_with_len 0 m) ≤ 1) (sym cut) (omega arith))
     (λ (le : k ≤ length first).
@@ -287,9 +287,9 @@ in_some_lane : (work : Work) (n : ℕ) (front : List Event) (cs : List ℕ) → 
 in_some_lane work n front [] named = omega arith
 in_some_lane work n front (c ∷ cs) named =
     let parts : List (List Event) = lists_of n (λ w. of_worker w front) in
-    let told : IsInterleaving n (λ w. of_worker w front) front = record { named = named; parts = λ w lt. refl } in
-    let starts : starts_of c front ≡ sum_by (starts_of c) parts = summed (λ (e : Event). bit (nat_eq e.change c && is_start e.what)) n (λ w. of_worker w front) front told in
-    let ends : ends_of work c front ≡ sum_by (ends_of work c) parts = summed (λ (e : Event). bit (nat_eq e.change c && is_over_with work.script e)) n (λ w. of_worker w front) front told in
+    let emitted : IsInterleaving n (λ w. of_worker w front) front = record { named = named; parts = λ w lt. refl } in
+    let starts : starts_of c front ≡ sum_by (starts_of c) parts = summed (λ (e : Event). bit (nat_eq e.change c && is_start e.what)) n (λ w. of_worker w front) front emitted in
+    let ends : ends_of work c front ≡ sum_by (ends_of work c) parts = summed (λ (e : Event). bit (nat_eq e.change c && is_over_with work.script e)) n (λ w. of_worker w front) front emitted in
     let some : bit (nat_lt (sum_by (ends_of work c) parts) (sum_by (starts_of c) parts)) ≤ sum_by (λ l. bit (is_open_after work l c)) parts = some_less (ends_of work c) (starts_of c) parts in
     let same : bit (is_open_after work front c) ≡ bit (nat_lt (sum_by (ends_of work c) parts) (sum_by (starts_of c) parts)) = ap (λ n. bit (nat_lt n (starts_of c front))) ends ∙ ap (λ n. bit (nat_lt (sum_by (ends_of work c) parts) n)) starts in
     let rest = in_some_lane work n front cs named in

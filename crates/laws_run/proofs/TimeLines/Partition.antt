@@ -11,7 +11,7 @@ use Rattle.apply_events.specs.Partition.{IsPartition, count_of, places}
 use Rattle.apply_events.proofs.Dealing.{count_first, count_later}
 use Rattle.apply_events.proofs.Parts.{one_list}
 use Rattle.apply_events.specs.Step.{Work}
-use Rattle.apply_events.specs.Lanes.Dealing.{before, dealt, first_least, kept, lanes}
+use Rattle.apply_events.specs.Lanes.Dealing.{before, dealt, first_least, occupied, lanes}
 use Rattle.apply_events.proofs.TimeLines.Dealt.{length_dealt}
 
 pub first_least_lt : (xs : List ℕ) → 0 < length xs → first_least xs < length xs
@@ -46,12 +46,12 @@ all_low a (x ∷ free) = All-cons (Low a) [] (map (λ (at : ℕ). []) free) tt (
 pub dealt_low : (work : Work) (free : List ℕ) (a k : ℕ) → 0 < length free → All (Low a) (dealt work free (range_with_len a k))
 dealt_low work free a zero some = all_low a free
 dealt_low work free a (suc k) some =
-    let later = dealt work (kept work a free) (range_with_len (a + 1) k) in
+    let later = dealt work (occupied work a free) (range_with_len (a + 1) k) in
     let lane = first_least free in
-    let size : length (kept work a free) ≡ length free = length-set free lane _ in
-    let count : length later ≡ length free = length_dealt work (kept work a free) (range_with_len (a + 1) k) ∙ size in
+    let size : length (occupied work a free) ≡ length free = length-set free lane _ in
+    let count : length later ≡ length free = length_dealt work (occupied work a free) (range_with_len (a + 1) k) ∙ size in
     let inside = first_least_lt free some in
-    let rest = dealt_low work (kept work a free) (a + 1) k (omega arith) in
+    let rest = dealt_low work (occupied work a free) (a + 1) k (omega arith) in
     All-set (Low a) later lane (a ∷ get_or later lane []) ((let le : a ≤ a = omega arith in le), All-get_or (Low (a + 1)) later lane [] (omega arith) rest)
     (All-weaker (Low (a + 1)) (Low a) (λ xs h. low_less a (a + 1) xs (omega arith) h) later rest)
 
@@ -77,12 +77,12 @@ no_places x (y ∷ free) = let both : places x (map (λ (at : ℕ). []) (y ∷ f
 dealt_once : (work : Work) (free : List ℕ) (a k x : ℕ) → 0 < length free → places x (dealt work free (range_with_len a k)) ≡ once x a k
 dealt_once work free a zero x some = no_places x free
 dealt_once work free a (suc k) x some =
-    let later = dealt work (kept work a free) (range_with_len (a + 1) k) in
+    let later = dealt work (occupied work a free) (range_with_len (a + 1) k) in
     let lane = first_least free in
-    let size : length (kept work a free) ≡ length free = length-set free lane _ in
-    let count : length later ≡ length free = length_dealt work (kept work a free) (range_with_len (a + 1) k) ∙ size in
+    let size : length (occupied work a free) ≡ length free = length-set free lane _ in
+    let count : length later ≡ length free = length_dealt work (occupied work a free) (range_with_len (a + 1) k) ∙ size in
     let inside = first_least_lt free some in
-    let rest = dealt_once work (kept work a free) (a + 1) k x (omega arith) in
+    let rest = dealt_once work (occupied work a free) (a + 1) k x (omega arith) in
     let now = count_before x a lane later (omega arith) in
     let both : once x a (suc k) ≡ count_of x (a ∷ []) + once x (a + 1) k = sum_by-cons (λ other. cond (Rattle.std.proofs.Common.nat_eq other x) 1 0) a (range_with_len (a + 1) k) ∙ omega arith in
     omega arith

@@ -4,7 +4,7 @@ use Rattle.std.proofs.lemmas.Bool.Decides.{eqb_tells}
 use Rattle.std.specs.List.{range_with_len}
 use Rattle.std.proofs.lemmas.List.Elements.{All-from_get_or, All-head, All-tail}
 use Rattle.std.proofs.lemmas.List.Sums.{sum_by-cons}
-use Rattle.apply_model.specs.Script.OutcomeMap.{given_outcome}
+use Rattle.apply_model.specs.Script.OutcomeMap.{stated_outcome}
 use Rattle.apply_events.specs.declared.event.Event.{Event}
 use Rattle.apply_events.specs.ChangeEvents.{change_events, in_turn, span_of}
 use Rattle.apply_events.specs.Interleaving.{IsInterleaving, lists_of}
@@ -87,7 +87,7 @@ as_many workers m lists parts =
 few_in_turn : (work : Work) (worker : ℕ) (changes : List ℕ) (at : ℕ) → IsWithinLimits work → length (in_turn (change_events work worker) (span_of work) changes at) ≤ 18918 * length changes
 few_in_turn work worker [] at limits = omega arith
 few_in_turn work worker (c ∷ changes) at limits =
-    let here = few_events work worker c at (limits.few_steps c) (bounded (given_outcome work.script c 0) (limits.short_steps c 0)) (bounded (given_outcome work.script c 1) (limits.short_steps c 1)) in
+    let here = few_events work worker c at (limits.few_steps c) (bounded (stated_outcome work.script c 0) (limits.short_steps c 0)) (bounded (stated_outcome work.script c 1) (limits.short_steps c 1)) in
     let rest = few_in_turn work worker changes (at + span_of work c) limits in
     let both = length-append (change_events work worker c at) (in_turn (change_events work worker) (span_of work) changes (at + span_of work c)) in
     omega arith
@@ -107,9 +107,9 @@ few_in_lists work mine low (l ∷ lists) limits are =
 
 pub few_of_run : (work : Work) (workers : ℕ) (lists : List (List ℕ)) (events : List Event) → IsWithinLimits work → IsPartition workers (length work.plan.changes) lists
     → IsInterleaving workers (λ worker. worker_events work worker (get_or lists worker [])) events → length events ≤ 189180000
-few_of_run work workers lists events limits parts told =
+few_of_run work workers lists events limits parts interleaved =
     let count : length lists ≡ workers = parts.count in
-    let whole = summed_length workers (λ worker. worker_events work worker (get_or lists worker [])) events told in
+    let whole = summed_length workers (λ worker. worker_events work worker (get_or lists worker [])) events interleaved in
     let few = few_in_lists work (λ worker. get_or lists worker []) 0 lists limits (λ k lt. let is : 0 + k ≡ k = omega arith in ap (λ w. get_or lists w []) is) in
     let same : sum_by length (map (λ w. worker_events work w (get_or lists w [])) (range_with_len 0 (length lists))) ≡ sum_by length (lists_of workers (λ worker. worker_events work worker (get_or lists worker []))) =
     ap (λ n. sum_by length (map (λ w. worker_events work w (get_or lists w [])) (range_with_len 0 n))) count in

@@ -9,7 +9,7 @@ use Rattle.std.proofs.Math.Nat.{suc-mul}
 use Rattle.std.specs.List.{range_with_len}
 use Rattle.apply_events.specs.ChangeEvents.{span_of}
 use Rattle.apply_events.specs.Step.{Work}
-use Rattle.apply_events.specs.Lanes.Dealing.{before, dealt, first_least, kept, lanes}
+use Rattle.apply_events.specs.Lanes.Dealing.{before, dealt, first_least, occupied, lanes}
 use Rattle.laws_run.specs.Sharing.{free_before, under_way, under_way_of}
 use Rattle.apply_events.proofs.TimeLines.Dealt.{length_dealt}
 use Rattle.laws_run.proofs.TimeLines.Ends.{dealt_sum, least_of}
@@ -76,7 +76,7 @@ no_end_before_the_mean work n end some h =
 
 -- ---- never idle
 
--- when a lane is free of its changes before c, if it is free from a moment on
+-- when a lane is free of its changes before c, if it starts at that time
 abbrev free_then : Work → List ℕ → List (List ℕ) → (lane c : ℕ) → ℕ
 free_then work free lists lane c = get_or free lane 0 + free_before work lists lane c
 
@@ -92,9 +92,9 @@ sum_more work a c xs lt =
     let rest = filter (λ x. nat_lt x c) xs in
     ap (λ b. sum_by (span_of work) (cond b (a ∷ rest) rest)) (lt-ltb a c lt) ∙ sum_by-cons (span_of work) a rest
 
--- the lane that takes change a is free later by its span, and then it has the change no more before it
+-- the lane that applies change a is free later by the change's span
 same_then : (work : Work) (free : List ℕ) (lists : List (List ℕ)) (a c lane : ℕ) → a < c → length lists ≡ length free → first_least free < length free
-    → free_then work free (before (first_least free) a lists) lane c ≡ free_then work (kept work a free) lists lane c
+    → free_then work free (before (first_least free) a lists) lane c ≡ free_then work (occupied work a free) lists lane c
 same_then work free lists a c lane lt size inside =
     let w = first_least free in
     let at = get_or free w 0 in
@@ -103,13 +103,13 @@ same_then work free lists a c lane lt size inside =
     let list : get_or (before w a lists) lane [] ≡ a ∷ get_or lists w [] = ap (λ k. get_or (before w a lists) k []) e.1 ∙ get_or-set_same lists w (a ∷ get_or lists w []) [] (omega arith) in
     let mine : get_or lists lane [] ≡ get_or lists w [] = ap (λ k. get_or lists k []) e.1 in
     let old : get_or free lane 0 ≡ at = ap (λ k. get_or free k 0) e.1 in
-    let new : get_or (kept work a free) lane 0 ≡ at + span_of work a = ap (λ k. get_or (kept work a free) k 0) e.1 ∙ get_or-set_same free w (at + span_of work a) 0 inside in
+    let new : get_or (occupied work a free) lane 0 ≡ at + span_of work a = ap (λ k. get_or (occupied work a free) k 0) e.1 ∙ get_or-set_same free w (at + span_of work a) 0 inside in
     let sum : free_before work (before w a lists) lane c ≡ span_of work a + sum_by (span_of work) (filter (λ x. nat_lt x c) (get_or lists w [])) = ap (λ l. sum_by (span_of work) (filter (λ x. nat_lt x c) l)) list ∙ sum_more work a c (get_or lists w []) lt in
     let rest : free_before work lists lane c ≡ sum_by (span_of work) (filter (λ x. nat_lt x c) (get_or lists w [])) = ap (λ l. sum_by (span_of work) (filter (λ x. nat_lt x c) l)) mine in
     omega arith)
     (λ (e : _ × (lane ≢ w)).
     let list = ap (λ l. sum_by (span_of work) (filter (λ x. nat_lt x c) l)) (get_or-set_other lists w lane (a ∷ get_or lists w []) [] e.1) in
-    let new : get_or (kept work a free) lane 0 ≡ get_or free lane 0 = get_or-set_other free w lane (at + span_of work a) 0 e.1 in
+    let new : get_or (occupied work a free) lane 0 ≡ get_or free lane 0 = get_or-set_other free w lane (at + span_of work a) 0 e.1 in
     let sum : free_before work (before w a lists) lane c ≡ free_before work lists lane c = list in
     omega arith)
     (eqb_tells lane w)
@@ -145,18 +145,18 @@ first_free : (work : Work) (free : List ℕ) (a m lane other j : ℕ) → lane <
 first_free work free a zero lane other j lt less place = absurd (none_dealt free lane j place)
 first_free work free a (suc m) lane other j lt less place =
     let w = first_least free in
-    let later = dealt work (kept work a free) (range_with_len (a + 1) m) in
-    let size : length (kept work a free) ≡ length free = length-set free w _ in
-    let count : length later ≡ length free = length_dealt work (kept work a free) (range_with_len (a + 1) m) ∙ size in
+    let later = dealt work (occupied work a free) (range_with_len (a + 1) m) in
+    let size : length (occupied work a free) ≡ length free = length-set free w _ in
+    let count : length later ≡ length free = length_dealt work (occupied work a free) (range_with_len (a + 1) m) ∙ size in
     let inside = first_least_lt free (omega arith) in
-    let low = dealt_low work (kept work a free) (a + 1) m (omega arith) in
+    let low = dealt_low work (occupied work a free) (a + 1) m (omega arith) in
     let go : (i : ℕ) → i < length (get_or later lane []) → IsFirstFree work free (before w a later) lane other (get_or (get_or later lane []) i 0) = (λ i within.
     let c = get_or (get_or later lane []) i 0 in
     let first : a + 1 ≤ c = low_at (a + 1) (get_or later lane []) i (All-get_or (Low (a + 1)) later lane [] (omega arith) low) within in
     let above : a < c = omega arith in
     let here = same_then work free later a c lane above count inside in
     let there = same_then work free later a c other above count inside in
-    let both = first_free work (kept work a free) (a + 1) m lane other i (omega arith) (omega arith) within in
+    let both = first_free work (occupied work a free) (a + 1) m lane other i (omega arith) (omega arith) within in
     let le = both.0 in
     (omega arith, λ lower. let strict = both.1 lower in omega arith)) in
     ⊎_elim
@@ -178,7 +178,7 @@ first_free work free a (suc m) lane other j lt less place =
     lists = dealt work free (range_with_len a (suc m))
 
     later : List (List ℕ)
-    later = dealt work (kept work a free) (range_with_len (a + 1) m)
+    later = dealt work (occupied work a free) (range_with_len (a + 1) m)
 
     head_or_tail : (j : ℕ) → j < length (get_or lists lane []) → lane ≡ first_least free → get_or lists lane [] ≡ a ∷ get_or later (first_least free) [] → get_or later lane [] ≡ get_or later (first_least free) []
         → ((i : ℕ) → i < length (get_or later lane []) → IsFirstFree work free lists lane other (get_or (get_or later lane []) i 0))

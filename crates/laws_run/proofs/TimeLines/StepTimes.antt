@@ -1,4 +1,4 @@
--- Each step begins at one moment, and what happens to it comes as long after that as it says.
+-- Each step starts once, and each of its events comes so many seconds later as the event names.
 use Rattle.std.proofs.Common.{◌≡◌, ◌≢◌, ℕ, zero, suc, ◌+◌, ◌<◌, ◌≤◌, ◌==◌, Bool, true, false, List, [], ◌∷◌, ◌++◌, All, cond, get_or, length, map, sym, refl, ap, ◌∙◌, subst, ⊎_elim, arith, eq-eqb, ne_eqb, lt-ltb, le-ltb, Option, Some, None, if◌then◌else◌}
 use Rattle.std.specs.Prelude.{is_some, option_map, option_to_list}
 use Rattle.std.specs.List.{enumerate_from}
@@ -18,9 +18,9 @@ use Rattle.apply_events.specs.Interleaving.{IsInterleaving}
 use Rattle.apply_events.specs.Partition.{IsPartition, count_of, places}
 use Rattle.apply_events.specs.Provisions.{provision_end}
 use Rattle.apply_events.specs.Step.{Step, Work, kinds_applied, step_of, steps_of}
-use Rattle.apply_events.specs.StepEvents.{between, end_of, endings, event, goes_on, halts, notes, phase_after, seconds_of, started, step_events, step_time, tells_end}
+use Rattle.apply_events.specs.StepEvents.{between, end_of, endings, event, goes_on, halts, notes, phase_after, seconds_of, start_events, step_events, step_time, emits_end}
 use Rattle.apply_events.specs.WorkerEvents.{worker_events}
-use Rattle.laws_run.specs.StepTimes.{ComesAsTold, HasOneBegin}
+use Rattle.laws_run.specs.StepTimes.{ComesAfterItsSeconds, HasOneBegin}
 use Rattle.apply_events.proofs.Dealing.{count_first, count_later}
 use Rattle.apply_events.proofs.Provisions.{all_along}
 use Rattle.apply_events.proofs.Parts.{RisesFrom, none_below, rises_from_zero}
@@ -29,11 +29,11 @@ use Rattle.apply_events.proofs.TimeLines.Order.{nobody_else}
 
 -- ---- within a step
 
--- an event of the step, which begins at a moment
+-- an event of a step that starts at that time
 abbrev pub IsOnTime : (begin : ℕ) → Step → Event → Type 0
-IsOnTime begin s e = (e.change ≡ s.change) × (e.step ≡ s.number) × ComesAsTold begin e
+IsOnTime begin s e = (e.change ≡ s.change) × (e.step ≡ s.number) × ComesAfterItsSeconds begin e
 
-halt_on_time : (w begin at : ℕ) (s : Step) (phase : Phase) (found : Option ℕ) → All (IsOnTime begin s) (option_to_list (option_map (λ hook. event w s at (Halted phase hook)) found))
+halt_on_time : (w begin at : ℕ) (s : Step) (phase : Phase) (located : Option ℕ) → All (IsOnTime begin s) (option_to_list (option_map (λ hook. event w s at (Halted phase hook)) located))
 halt_on_time w begin at s phase None = All-nil (IsOnTime begin s)
 halt_on_time w begin at s phase (Some hook) = All-cons (IsOnTime begin s) (event w s at (Halted phase hook)) [] (refl, refl, tt) (All-nil (IsOnTime begin s))
 
@@ -49,7 +49,7 @@ end_on_time w at s false warns =
     All-cons (IsOnTime at s) (event w s (at + seconds_of s) (Complete (seconds_of s))) (map (λ what. event w s (at + seconds_of s) what) (notes false warns)) (refl, refl, refl)
     (note_on_time w at s warns)
 
-endings_on_time : (w at : ℕ) (s : Step) (told : Bool) → All (IsOnTime at s) (map (λ what. event w s (at + seconds_of s) what) (cond told (end_of s.fails (seconds_of s) ∷ notes s.fails s.warns) (WarnNote ∷ [])))
+endings_on_time : (w at : ℕ) (s : Step) (emitted : Bool) → All (IsOnTime at s) (map (λ what. event w s (at + seconds_of s) what) (cond emitted (end_of s.fails (seconds_of s) ∷ notes s.fails s.warns) (WarnNote ∷ [])))
 endings_on_time w at s true = end_on_time w at s s.fails s.warns
 endings_on_time w at s false = note_on_time w at s true
 
@@ -64,21 +64,21 @@ between_on_time w at s =
     end_says_no_time i p since =
         elim (has_failed p) as (λ b. IsOnTime at s (event w s (at + since) (cond b (ProvisionErrored i) (ProvisionComplete i)))) [ true ↦ (refl, refl, tt) | false ↦ (refl, refl, tt) ]
 
-started_on_time : (w at : ℕ) (s : Step) → All (IsOnTime at s) (started w s at)
+started_on_time : (w at : ℕ) (s : Step) → All (IsOnTime at s) (start_events w s at)
 started_on_time w at s =
-    let told = map (λ (p : ℕ × What). event w s (at + p.0) p.1) (between s) in
+    let emitted = map (λ (p : ℕ × What). event w s (at + p.0) p.1) (between s) in
     let ends = map (λ what. event w s (at + seconds_of s) what) (endings s) in
     let halt = halts w s (phase_after s.fails) (at + seconds_of s) in
     let here : at ≡ at + 0 = omega arith in
-    All-cons (IsOnTime at s) (event w s at Start) (told ++ ends ++ halt) (refl, refl, here)
-    (All-append (IsOnTime at s) (told ++ ends) halt
-    (All-append (IsOnTime at s) told ends (between_on_time w at s) (endings_on_time w at s (tells_end s.fails s.only_warns)))
+    All-cons (IsOnTime at s) (event w s at Start) (emitted ++ ends ++ halt) (refl, refl, here)
+    (All-append (IsOnTime at s) (emitted ++ ends) halt
+    (All-append (IsOnTime at s) emitted ends (between_on_time w at s) (endings_on_time w at s (emits_end s.fails s.only_warns)))
     (halt_on_time w at (at + seconds_of s) s (phase_after s.fails) (s.halts (phase_after s.fails))))
 
 pub step_on_time : (w at : ℕ) (s : Step) → All (IsOnTime at s) (step_events w s at)
 step_on_time w at s = with_halt w at s (s.halts Pre)
   where
-    with_halt : (w at : ℕ) (s : Step) (found : Option ℕ) → All (IsOnTime at s) (cond (is_some found) (option_to_list (option_map (λ hook. event w s at (Halted Pre hook)) found)) (started w s at))
+    with_halt : (w at : ℕ) (s : Step) (located : Option ℕ) → All (IsOnTime at s) (cond (is_some located) (option_to_list (option_map (λ hook. event w s at (Halted Pre hook)) located)) (start_events w s at))
     with_halt w at s None = started_on_time w at s
     with_halt w at s (Some hook) = halt_on_time w at at s Pre (Some hook)
 
@@ -98,26 +98,26 @@ begun_of c n [] h = tt
 begun_of c n (s ∷ steps) h =
     (h.0, h.1, elim (goes_on s) as (λ b. AreOf c (n + 1) (cond b (begun steps) [])) [ true ↦ begun_of c (n + 1) steps h.2 | false ↦ tt ])
 
--- when step k of some begins, the first at a moment
+-- when step k starts, if the first step starts at that time
 abbrev step_begin : (k at : ℕ) → List Step → ℕ
 step_begin k at [] = at
 step_begin k at (s ∷ steps) = if s.number == k then at else step_begin k (at + step_time s) steps
 
 -- an event of change c and of one of these steps, numbered from n on
 abbrev IsInTurn : (c n at : ℕ) → List Step → Event → Type 0
-IsInTurn c n at steps e = (e.change ≡ c) × (n ≤ e.step) × ComesAsTold (step_begin e.step at steps) e
+IsInTurn c n at steps e = (e.change ≡ c) × (n ≤ e.step) × ComesAfterItsSeconds (step_begin e.step at steps) e
 
 in_first : (c n at : ℕ) (s : Step) (steps : List Step) (e : Event) → AreOf c n (s ∷ steps) → IsOnTime at s e → IsInTurn c n at (s ∷ steps) e
 in_first c n at s steps e are h =
     let number : s.number ≡ n = are.1 in let step : e.step ≡ s.number = h.1 in
     let here : step_begin e.step at (s ∷ steps) ≡ at = ap (λ b. cond b at (step_begin e.step (at + step_time s) steps)) (eq-eqb s.number e.step (sym step)) in
-    (h.0 ∙ are.0, omega arith, subst (λ b. ComesAsTold b e) (sym here) h.2)
+    (h.0 ∙ are.0, omega arith, subst (λ b. ComesAfterItsSeconds b e) (sym here) h.2)
 
 in_later : (c n at : ℕ) (s : Step) (steps : List Step) (e : Event) → AreOf c n (s ∷ steps) → IsInTurn c (n + 1) (at + step_time s) steps e → IsInTurn c n at (s ∷ steps) e
 in_later c n at s steps e are h =
     let number : s.number ≡ n = are.1 in let above : n + 1 ≤ e.step = h.1 in
     let later : step_begin e.step at (s ∷ steps) ≡ step_begin e.step (at + step_time s) steps = ap (λ b. cond b at (step_begin e.step (at + step_time s) steps)) (ne_eqb s.number e.step (λ is. omega arith)) in
-    (h.0, omega arith, subst (λ b. ComesAsTold b e) (sym later) h.2)
+    (h.0, omega arith, subst (λ b. ComesAfterItsSeconds b e) (sym later) h.2)
 
 steps_in_turn : (w c n at : ℕ) (steps : List Step) → AreOf c n steps → All (IsInTurn c n at steps) (in_turn (step_events w) step_time steps at)
 steps_in_turn w c n at [] are = All-nil (IsInTurn c n at [])
@@ -127,13 +127,13 @@ steps_in_turn w c n at (s ∷ steps) are =
     (All-weaker (IsOnTime at s) (IsInTurn c n at (s ∷ steps)) (λ e h. in_first c n at s steps e are h) first (step_on_time w at s))
     (All-weaker (IsInTurn c (n + 1) (at + step_time s) steps) (IsInTurn c n at (s ∷ steps)) (λ e h. in_later c n at s steps e are h) later (steps_in_turn w c (n + 1) (at + step_time s) steps are.2))
 
--- when step k of change c begins, if the change begins at a moment
+-- when step k of change c starts, if the change starts at that time
 abbrev begin_in_change : Work → (c k at : ℕ) → ℕ
 begin_in_change work c k at = step_begin k at (begun (steps_of work c))
 
--- an event of change c, which begins at a moment
+-- an event of change c, which starts at that time
 abbrev pub IsOfChange : Work → (c at : ℕ) → Event → Type 0
-IsOfChange work c at e = (e.change ≡ c) × ComesAsTold (begin_in_change work c e.step at) e
+IsOfChange work c at e = (e.change ≡ c) × ComesAfterItsSeconds (begin_in_change work c e.step at) e
 
 pub change_on_time : (work : Work) (w c at : ℕ) → All (IsOfChange work c at) (change_events work w c at)
 change_on_time work w c at =
@@ -142,21 +142,21 @@ change_on_time work w c at =
 
 -- ---- within a lane
 
--- when change c begins, of changes one after another, the first of which begins at a moment
+-- when change c starts, if changes are applied one after another from that time
 abbrev change_begin : Work → (c at : ℕ) → List ℕ → ℕ
 change_begin work c at [] = at
 change_begin work c at (x ∷ xs) = if x == c then at else change_begin work c (at + span_of work x) xs
 
 -- an event of one of these changes
 abbrev pub IsOfLane : Work → (at : ℕ) → List ℕ → Event → Type 0
-IsOfLane work at changes e = (1 ≤ count_of e.change changes) × ComesAsTold (begin_in_change work e.change e.step (change_begin work e.change at changes)) e
+IsOfLane work at changes e = (1 ≤ count_of e.change changes) × ComesAfterItsSeconds (begin_in_change work e.change e.step (change_begin work e.change at changes)) e
 
 of_first : (work : Work) (c at : ℕ) (changes : List ℕ) (e : Event) → IsOfChange work c at e → IsOfLane work at (c ∷ changes) e
 of_first work c at changes e h =
     let count : count_of e.change (c ∷ changes) ≡ 1 + count_of e.change changes = count_first e.change c changes (sym h.0) in
     let here : change_begin work e.change at (c ∷ changes) ≡ at = ap (λ b. cond b at (change_begin work e.change (at + span_of work c) changes)) (eq-eqb c e.change (sym h.0)) in
     let same : begin_in_change work e.change e.step (change_begin work e.change at (c ∷ changes)) ≡ begin_in_change work c e.step at = ap (begin_in_change work e.change e.step) here ∙ ap (λ x. begin_in_change work x e.step at) h.0 in
-    (omega arith, subst (λ b. ComesAsTold b e) (sym same) h.1)
+    (omega arith, subst (λ b. ComesAfterItsSeconds b e) (sym same) h.1)
 
 of_later : (work : Work) (c at : ℕ) (changes : List ℕ) (e : Event) → RisesFrom (c + 1) changes → IsOfLane work (at + span_of work c) changes e → IsOfLane work at (c ∷ changes) e
 of_later work c at changes e rise h =
@@ -164,7 +164,7 @@ of_later work c at changes e rise h =
     let other : c ≢ e.change = λ is. (let none : count_of e.change changes ≡ 0 = ap (λ x. count_of x changes) (sym is) ∙ none_below (c + 1) c changes (omega arith) rise in omega arith) in
     let count : count_of e.change (c ∷ changes) ≡ count_of e.change changes = count_later e.change c changes other in
     let later : change_begin work e.change at (c ∷ changes) ≡ change_begin work e.change (at + span_of work c) changes = ap (λ b. cond b at (change_begin work e.change (at + span_of work c) changes)) (ne_eqb c e.change other) in
-    (omega arith, subst (λ b. ComesAsTold (begin_in_change work e.change e.step b) e) (sym later) h.1)
+    (omega arith, subst (λ b. ComesAfterItsSeconds (begin_in_change work e.change e.step b) e) (sym later) h.1)
 
 pub lane_on_time : (work : Work) (w low at : ℕ) (changes : List ℕ) → RisesFrom low changes → All (IsOfLane work at changes) (in_turn (change_events work w) (span_of work) changes at)
 lane_on_time work w low at [] rise = All-nil (IsOfLane work at [])
@@ -201,11 +201,11 @@ abbrev begin_of : Work → List (List ℕ) → (c k : ℕ) → ℕ
 begin_of work lists c k = begin_in_change work c k (change_begin work c 0 (get_or lists (list_with c lists) []))
 
 -- an event of step k of change c
-abbrev IsAsTold : Work → List (List ℕ) → (c k : ℕ) → Event → Type 0
-IsAsTold work lists c k e = e.change ≡ c → e.step ≡ k → ComesAsTold (begin_of work lists c k) e
+abbrev IsInTime : Work → List (List ℕ) → (c k : ℕ) → Event → Type 0
+IsInTime work lists c k e = e.change ≡ c → e.step ≡ k → ComesAfterItsSeconds (begin_of work lists c k) e
 
 of_lane : (work : Work) (n m c k w : ℕ) (lists : List (List ℕ)) (e : Event) → IsPartition n m lists → w < n
-    → IsOfLane work 0 (get_or lists w []) e → IsAsTold work lists c k e
+    → IsOfLane work 0 (get_or lists w []) e → IsInTime work lists c k e
 of_lane work n m c k w lists e parts lt h change step =
     let mine : List ℕ = get_or lists w [] in
     let size : length lists ≡ n = parts.count in
@@ -214,17 +214,17 @@ of_lane work n m c k w lists e parts lt h change step =
     ap (λ x. begin_in_change work x e.step (change_begin work x 0 mine)) change
     ∙ ap (λ j. begin_in_change work c j (change_begin work c 0 mine)) step
     ∙ ap (λ v. begin_in_change work c k (change_begin work c 0 (get_or lists v []))) (sym lane) in
-    subst (λ b. ComesAsTold b e) same h.1
+    subst (λ b. ComesAfterItsSeconds b e) same h.1
 
 pub one_begin : (work : Work) (n m c k : ℕ) (lists : List (List ℕ)) (events : List Event) → IsPartition n m lists
     → IsInterleaving n (λ w. worker_events work w (get_or lists w [])) events → HasOneBegin c k events
-one_begin work n m c k lists events parts told = record {
+one_begin work n m c k lists events parts emitted = record {
   begin = begin_of work lists c k;
-  told = all_parts (IsAsTold work lists c k) events (λ w. ⊎_elim
-      (λ (lt : w < n). subst (All (IsAsTold work lists c k)) (sym (told.parts w lt))
-      (All-weaker (IsOfLane work 0 (get_or lists w [])) (IsAsTold work lists c k) (λ e h. of_lane work n m c k w lists e parts lt h) (worker_events work w (get_or lists w []))
+  in_time = all_parts (IsInTime work lists c k) events (λ w. ⊎_elim
+      (λ (lt : w < n). subst (All (IsInTime work lists c k)) (sym (emitted.parts w lt))
+      (All-weaker (IsOfLane work 0 (get_or lists w [])) (IsInTime work lists c k) (λ e h. of_lane work n m c k w lists e parts lt h) (worker_events work w (get_or lists w []))
       (lane_on_time work w 0 0 (get_or lists w []) (rises_from_zero (get_or lists w []) (parts.rising w [] (let size : length lists ≡ n = parts.count in omega arith))))))
-      (λ (ge : n ≤ w). subst (All (IsAsTold work lists c k)) (sym (nobody_else n events told.named w ge)) (All-nil (IsAsTold work lists c k)))
+      (λ (ge : n ≤ w). subst (All (IsInTime work lists c k)) (sym (nobody_else n events emitted.named w ge)) (All-nil (IsInTime work lists c k)))
       (cases_lt w n));
 }
 
@@ -232,5 +232,5 @@ one_begin work n m c k lists events parts told = record {
 pub none_begins : (c k n : ℕ) (events : List Event) → n ≤ 0 → All (λ e. e.worker < n) events → HasOneBegin c k events
 none_begins c k n events none named = record {
   begin = 0;
-  told = All-weaker (λ (e : Event). e.worker < n) (λ e. e.change ≡ c → e.step ≡ k → ComesAsTold 0 e) (λ e lt. absurd (omega arith)) events named;
+  in_time = All-weaker (λ (e : Event). e.worker < n) (λ e. e.change ≡ c → e.step ≡ k → ComesAfterItsSeconds 0 e) (λ e lt. absurd (omega arith)) events named;
 }

@@ -1,15 +1,14 @@
-//! The words of the command line.
+//! The arguments of the command.
 
 ghost use Rattle.std.specs.Prelude.{◌≡◌, Some, IfOk, IfErr, codes, map, string_bytes};
 ghost use Rattle.clap.specs.Matches.{found_of};
 ghost use Rattle.clap.specs.Simple.{app_of};
 ghost use Rattle.clap.specs.Walk.{one_of, rows_of};
 ghost use Rattle.stream_tool.specs.Words.{WereRefused};
-ghost use Rattle.stream_check.specs.CommandLine.{AreSaid, HaveSaid, command_line};
-ghost use Rattle.stream_check.specs.declared.command.form.Form.TheVariants as forms;
+ghost use Rattle.stream_check.specs.CommandLine.{AreStated, StateSettings, command_line};
+ghost use Rattle.stream_check.specs.declared.command.settings.Form.TheVariants as forms;
 
-use crate::command::form::Form;
-use crate::command::settings::Settings;
+use crate::command::settings::{Form, Settings};
 use crate::rules::mode::Mode;
 use clap::{ArgMatches, Command};
 use std::alloc::{AllocError, Global};
@@ -46,10 +45,12 @@ const FIND: &str = "Find the messages in the lines of a log, and ignore the othe
 const PLAN: &str =
     "Accept a stream of `terraform plan -json` too, which ends with the plan's summary";
 
-/// The settings that the words behind `check` say. `Err` with `Usage::Help` where they ask for help, with
-/// `Usage::Words` where they are none of this command, and with `Usage::Memory` where memory is refused.
+/// Parses the arguments after `check`.
+///
+/// `Err` with `Usage::Help` where they ask for help, with `Usage::Words` where they do not fit, and
+/// with `Usage::Memory` where memory is refused.
 pub fn read_words(alloc: Global, words: &[String]) -> Result<Settings, Usage>
-    ensures said { IfOk result (HaveSaid (map string_bytes words.now)) }
+    ensures stated { IfOk result (StateSettings (map string_bytes words.now)) }
     ensures refused { IfErr result (WereRefused command_line (map string_bytes words.now)) }
 {
     let Ok(command) = command(alloc) else {
@@ -64,7 +65,7 @@ pub fn read_words(alloc: Global, words: &[String]) -> Result<Settings, Usage>
     }
 }
 
-/// The options, and their help.
+/// Defines the options and their help. `Err` where memory is refused.
 fn command<'a>(alloc: Global) -> Result<Command<'a>, AllocError>
     ensures { IfOk result (λ command. app_of command ≡ command_line) }
 {
@@ -80,9 +81,9 @@ fn command<'a>(alloc: Global) -> Result<Command<'a>, AllocError>
     with_option(line, file(alloc))
 }
 
-/// What the matches say.
+/// Returns the settings of parsed arguments. `Err` where memory is refused.
 fn settings_of(alloc: Global, matches: &ArgMatches<'_>) -> Result<Settings, AllocError>
-    ensures { IfOk result (AreSaid (rows_of (found_of matches.now))) }
+    ensures { IfOk result (AreStated (rows_of (found_of matches.now))) }
 {
     let file = file_of(alloc, matches)?;
     Ok(Settings {
@@ -95,7 +96,7 @@ fn settings_of(alloc: Global, matches: &ArgMatches<'_>) -> Result<Settings, Allo
     })
 }
 
-/// How the verdict is said.
+/// Returns the form of the verdict.
 fn form_of(matches: &ArgMatches<'_>) -> Form
     ensures json { one_of (codes "json") (rows_of (found_of matches.now)) ≡ Some (codes "true") → result ≡ forms.Json }
     ensures text { one_of (codes "json") (rows_of (found_of matches.now)) ≡ Some (codes "false") → result ≡ forms.Text }

@@ -1,40 +1,40 @@
-//! What a check came to.
+//! What became of a check.
 
 ghost use Rattle.std.specs.Prelude.{◌≡◌};
-ghost use Rattle.stream_check.specs.Telling.{status_of};
+ghost use Rattle.stream_check.specs.Reports.{status_of};
 
 use crate::command::status::exit_status;
-use crate::command::unsaid::Unsaid;
+use crate::command::unreported::Unreported;
 use crate::verdict::read_fault::ReadFault;
 use crate::verdict::whole::Whole;
 use stream_lines::FailedRead;
 
-/// What a check came to.
+/// What became of a check.
 #[derive(Clone, Copy)]
 pub struct Checked {
     /// The exit status.
     pub status: u8,
-    /// What was found.
+    /// The verdict on the stream, or why there is none.
     pub answer: Result<Whole, ReadFault>,
-    /// That it was said, or why not.
-    pub said: Result<(), Unsaid>,
-    /// That the input was read to its end, or that a read failed.
+    /// Whether the verdict was reported, or why not.
+    pub reported: Result<(), Unreported>,
+    /// Whether the input was read to its end where that was needed. `Err` where a read failed.
     pub rest: Result<(), FailedRead>,
 }
 
 impl Checked {
-    /// What was found, and whether it was said, with the exit status that follows from both.
+    /// The outcome of a check, with the exit status that follows from the verdict and its report.
     pub(crate) fn of(
         answer: Result<Whole, ReadFault>,
-        said: Result<(), Unsaid>,
+        reported: Result<(), Unreported>,
         rest: Result<(), FailedRead>,
     ) -> Checked
-        ensures { result ≡ record { status = status_of answer said; answer = answer; said = said; rest = rest } }
+        ensures { result ≡ record { status = status_of answer reported; answer = answer; reported = reported; rest = rest } }
     {
         Checked {
-            status: exit_status(answer, said),
+            status: exit_status(answer, reported),
             answer,
-            said,
+            reported,
             rest,
         }
     }

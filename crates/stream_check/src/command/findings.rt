@@ -1,25 +1,25 @@
-//! Streams that are not whole, as people and programs are told of them.
+//! Reports findings to people and to programs.
 
 ghost use Rattle.std.specs.Prelude.{◌≡◌, ◌&&◌, not, ℕ, Bool, List, IfErr, IfOk, IfSome, None, Option, Err, if◌then◌else◌, option_map};
 ghost use Rattle.std.specs.Io.KnownBytes.{Keeps};
 ghost use Rattle.stream_check.specs.About.{about_line, object_view};
 ghost use Rattle.stream_check.specs.Checking.{HasRead};
-ghost use Rattle.stream_check.specs.Faults.{is_no_json, tells_object};
+ghost use Rattle.stream_check.specs.Faults.{is_no_json, reports_object};
 ghost use Rattle.stream_check.specs.Judged.{StopsAt};
 ghost use Rattle.stream_check.specs.Message.{Message};
-ghost use Rattle.stream_check.specs.Telling.{IsTold, IsToldOf};
+ghost use Rattle.stream_check.specs.Reports.{IsReported, IsReportOf};
 ghost use Rattle.stream_check.specs.Unended.{AreAllOpen};
-ghost use Rattle.stream_check.specs.declared.command.form.Form.TheVariants as forms;
-ghost use Rattle.stream_check.specs.declared.command.unsaid.Unsaid.TheVariants.{Gone, Memory};
+ghost use Rattle.stream_check.specs.declared.command.settings.Form.TheVariants as forms;
+ghost use Rattle.stream_check.specs.declared.command.unreported.Unreported.TheVariants.{Gone, Memory};
 ghost use Rattle.stream_check.specs.declared.rules.mode.Mode.{Mode as mode_type};
 ghost use Rattle.stream_check.specs.declared.verdict.read_fault.ReadFault.{ReadFault as fault_type};
 
-use crate::command::form::Form;
+use crate::command::finding_report::FindingReport;
 use crate::command::object::{Object, object_in};
-use crate::command::telling::told_line;
+use crate::command::settings::Form;
 use crate::command::texts::finding_line;
-use crate::command::told::Told;
-use crate::command::unsaid::Unsaid;
+use crate::command::unreported::Unreported;
+use crate::command::verdict_lines::finding_json;
 use crate::command::writing::write_line;
 use crate::rules::checker::Checker;
 use crate::rules::fault::Fault;
@@ -31,9 +31,9 @@ use std::alloc::{AllocError, Global};
 use std::io::Write;
 use stream_lines::Line;
 
-/// Says what is wrong with the stream, with all that is known of the faulty line. `Err` where it was not said: with
-/// `Unsaid::Memory` where memory was refused, else where an object could not be written.
-pub fn tell_finding<W: Write, E: Write>(
+/// Reports the finding, with what is known about the faulty line. `Err` with `Unreported::Memory`
+/// where memory was refused. In the form `Json`, `Err` also where the object could not be written.
+pub fn report_finding<W: Write, E: Write>(
     alloc: Global,
     mode: Mode,
     form: Form,
@@ -42,15 +42,15 @@ pub fn tell_finding<W: Write, E: Write>(
     finding: &Finding,
     out: &mut W,
     faults: &mut E,
-) -> Result<(), Unsaid>
-    ensures told { (seen : Option (List ℕ)) → IfSome seen (λ bytes. StopsAt mode bytes finding.now checker.now line.now.text.items line.now.has_feed)
-        → (is_named : Bool) → IsTold is_named mode seen form (Err (fault_type.Found finding.now)) result (W.contents out.old) (W.contents out.new) }
+) -> Result<(), Unreported>
+    ensures reported { (seen : Option (List ℕ)) → IfSome seen (λ bytes. StopsAt mode bytes finding.now checker.now line.now.text.items line.now.has_feed)
+        → (is_named : Bool) → IsReported is_named mode seen form (Err (fault_type.Found finding.now)) result (W.contents out.old) (W.contents out.new) }
     ensures gone { result ≡ Err Gone → Keeps (E.contents faults.old) (E.contents faults.new) }
 {
     let mut scratch = Scratch::new(alloc);
     let object = object_of(alloc, &mut scratch, mode, line, finding.fault)?;
     let open = open_entries(alloc, checker, finding.fault)?;
-    let told = Told {
+    let report = FindingReport {
         finding: *finding,
         text: &line.text,
         is_cut_off: is_cut_off(line, finding.fault),
@@ -58,12 +58,12 @@ pub fn tell_finding<W: Write, E: Write>(
         open: &open,
     };
     match form {
-        Form::Text => tell_text(alloc, &told, faults),
-        Form::Json => tell_object(alloc, &told, out),
+        Form::Text => report_finding_text(alloc, &report, faults),
+        Form::Json => report_finding_object(alloc, &report, out),
     }
 }
 
-/// Whether the line is the last one and breaks off.
+/// Whether the stream was cut off within its last line.
 fn is_cut_off(line: &Line, fault: Fault) -> bool
     ensures { result ≡ (is_no_json fault && not line.now.has_feed) }
 {
@@ -73,25 +73,35 @@ fn is_cut_off(line: &Line, fault: Fault) -> bool
     }
 }
 
-/// Tells a finding to people. `Err` where memory was refused.
-fn tell_text<E: Write>(alloc: Global, told: &Told<'_>, faults: &mut E) -> Result<(), Unsaid>
-    ensures { IfErr result (λ unsaid. unsaid ≡ Memory) }
+/// Writes the finding for people, on `faults`. `Err` where memory was refused.
+fn report_finding_text<E: Write>(
+    alloc: Global,
+    report: &FindingReport<'_>,
+    faults: &mut E,
+) -> Result<(), Unreported>
+    ensures { IfErr result (λ unreported. unreported ≡ Memory) }
 {
-    let line = finding_line(alloc, told)?;
+    let line = finding_line(alloc, report)?;
     let _ = faults.write_all(line.as_str().as_bytes());
     Ok(())
 }
 
-/// Tells a finding to programs. `Err` where memory was refused, or the object could not be written.
-fn tell_object<W: Write>(alloc: Global, told: &Told<'_>, out: &mut W) -> Result<(), Unsaid>
-    ensures { (seen : Option (List ℕ)) (mode : mode_type) → IfSome seen (λ bytes. IsToldOf mode bytes told.now)
-        → (is_named : Bool) → IsTold is_named mode seen forms.Json (Err (fault_type.Found told.now.finding)) result (W.contents out.old) (W.contents out.new) }
+/// Writes the finding for programs, on `out`. `Err` where memory was refused, or the object could
+/// not be written.
+fn report_finding_object<W: Write>(
+    alloc: Global,
+    report: &FindingReport<'_>,
+    out: &mut W,
+) -> Result<(), Unreported>
+    ensures { (seen : Option (List ℕ)) (mode : mode_type) → IfSome seen (λ bytes. IsReportOf mode bytes report.now)
+        → (is_named : Bool) → IsReported is_named mode seen forms.Json (Err (fault_type.Found report.now.finding)) result (W.contents out.old) (W.contents out.new) }
 {
-    let text = told_line(alloc, told)?;
+    let text = finding_json(alloc, report)?;
     write_line(out, text.as_str())
 }
 
-/// What the faulty line is about, where its fault tells that.
+/// Returns what the faulty line is about, where the fault reports it. `Err` where memory was
+/// refused.
 fn object_of<'a>(
     alloc: Global,
     scratch: &'a mut Scratch,
@@ -100,16 +110,16 @@ fn object_of<'a>(
     fault: Fault,
 ) -> Result<Option<Object<'a>>, AllocError>
     ensures { IfOk result (λ object. option_map object_view object
-        ≡ (if tells_object fault then about_line mode.find line.now.text.items else None)) }
+        ≡ (if reports_object fault then about_line mode.find line.now.text.items else None)) }
 {
-    if fault.is_about_its_line() {
+    if fault.reports_object() {
         object_in(alloc, scratch, mode, &line.text)
     } else {
         Ok(None)
     }
 }
 
-/// What stands open, where that is the fault.
+/// Returns what stands open, where that is the fault. `Err` where memory was refused.
 fn open_entries<'a>(
     alloc: Global,
     checker: &'a Checker,

@@ -1,47 +1,47 @@
-//! What became of the words behind `check`.
+//! What became of a run of `check`.
 
 ghost use Rattle.std.specs.Prelude.{◌≡◌, None, Ok, Some};
 
 use crate::command::checked::Checked;
-use crate::command::unsaid::Unsaid;
+use crate::command::unreported::Unreported;
 use crate::verdict::read_fault::ReadFault;
 use crate::verdict::whole::Whole;
 use stream_lines::FailedRead;
 
-/// What became of the words behind `check`.
+/// What became of a run of `check`.
 #[derive(Clone, Copy)]
 pub struct Followed {
     /// The exit status.
     pub status: u8,
-    /// What was found, where a stream was checked.
+    /// The verdict on the stream, or why there is none, where a stream was checked.
     pub answer: Option<Result<Whole, ReadFault>>,
-    /// That it was said, or why not; where no stream was checked nothing is to be said of one.
-    pub said: Result<(), Unsaid>,
-    /// That the input was read to its end where it had to be, or that a read failed.
+    /// Whether the verdict was reported, or why not. It is `Ok` where no stream was checked.
+    pub reported: Result<(), Unreported>,
+    /// Whether the input was read to its end where that was needed. `Err` where a read failed.
     pub rest: Result<(), FailedRead>,
 }
 
 impl Followed {
-    /// No stream was checked.
+    /// The outcome of a run that checked no stream.
     pub(crate) fn without_answer(status: u8, rest: Result<(), FailedRead>) -> Followed
-        ensures { result ≡ record { status = status; answer = None; said = Ok tt; rest = rest } }
+        ensures { result ≡ record { status = status; answer = None; reported = Ok tt; rest = rest } }
     {
         Followed {
             status,
             answer: None,
-            said: Ok(()),
+            reported: Ok(()),
             rest,
         }
     }
 
-    /// A stream was checked.
+    /// The outcome of a run that checked a stream.
     pub(crate) fn with_answer(checked: Checked) -> Followed
-        ensures { result ≡ record { status = checked.status; answer = Some checked.answer; said = checked.said; rest = checked.rest } }
+        ensures { result ≡ record { status = checked.status; answer = Some checked.answer; reported = checked.reported; rest = checked.rest } }
     {
         Followed {
             status: checked.status,
             answer: Some(checked.answer),
-            said: checked.said,
+            reported: checked.reported,
             rest: checked.rest,
         }
     }

@@ -1,4 +1,4 @@
-//! The members of an object that is told (RFC 8259, section 4).
+//! Builds JSON objects member by member (RFC 8259, section 4).
 
 ghost use Rattle.std.specs.Prelude.{◌≡◌, IfOk, OnErr, false};
 ghost use Rattle.serde_json.specs.Data.{Members as members_type, boolean, no_members, object, put as with_member};
@@ -11,52 +11,52 @@ use serde_json::{Map, Value, put};
 use std::alloc::{AllocError, Global};
 use term_text::readable;
 
-/// Members that are put one by one. That memory was refused for some of them is kept in mind until the object is taken, so that
-/// who puts members has no fault to hand on.
+/// The members of an object that is built. Refused memory is remembered until `object`, so that
+/// adding a member returns no error.
 #[derive(Drop)]
 pub struct Members {
     alloc: Global,
-    found: Map<String, Value>,
-    /// Whether memory was there for all of them.
+    values: Map<String, Value>,
+    /// Whether memory sufficed for all members so far.
     is_whole: bool,
 }
 
 impl Members {
-    /// No members.
+    /// An object without members.
     pub fn new(alloc: Global) -> Members
         ensures { Holds result no_members }
     {
         Members {
             alloc,
-            found: Map::new(alloc),
+            values: Map::new(alloc),
             is_whole: true,
         }
     }
 
-    /// Where memory for them comes from.
+    /// The allocator of the members.
     pub fn alloc(&self) -> Global {
         self.alloc
     }
 
-    /// The object of the members. `Err` where memory was refused for some.
+    /// Returns the object. `Err` where memory was refused for a member.
     pub fn object(self) -> Result<Value, AllocError>
         ensures { (ms : members_type) → Holds self ms → IfOk result (λ value. view value ≡ object ms) }
     {
         if self.is_whole {
-            Ok(Value::Object(self.found))
+            Ok(Value::Object(self.values))
         } else {
             Err(AllocError)
         }
     }
 
-    /// Puts a value.
+    /// Adds a member with this value.
     pub fn value(&mut self, name: &str, value: Value)
         ensures { Puts self.old self.new (with_member name.now (view value)) }
     {
-        self.is_whole &= put(&mut self.found, self.alloc, name, value).is_ok();
+        self.is_whole &= put(&mut self.values, self.alloc, name, value).is_ok();
     }
 
-    /// Puts a value for which memory may have been refused.
+    /// Adds a member with this value, or remembers that memory was refused for the value.
     pub fn made(&mut self, name: &str, value: Result<Value, AllocError>)
         ensures made { IfOk value (λ made. Puts self.old self.new (with_member name.now (view made))) }
         ensures refused { OnErr value (self.new.is_whole ≡ false) }
@@ -67,7 +67,7 @@ impl Members {
         }
     }
 
-    /// Puts a text.
+    /// Adds a member with a text.
     pub fn text(&mut self, name: &str, text: &str)
         ensures { Puts self.old self.new (with_text name.now text.now) }
     {
@@ -75,7 +75,7 @@ impl Members {
         self.made(name, value);
     }
 
-    /// Puts bytes as they can be read.
+    /// Adds a member with the bytes as readable text.
     pub fn readable(&mut self, name: &str, bytes: &[u8])
         ensures { Puts self.old self.new (with_text name.now (readable_text bytes.now)) }
     {
@@ -85,14 +85,14 @@ impl Members {
         }
     }
 
-    /// Puts a whole number.
+    /// Adds a member with a whole number.
     pub fn number(&mut self, name: &str, number: u64)
         ensures { Puts self.old self.new (with_number name.now number) }
     {
         self.value(name, Value::from(number));
     }
 
-    /// Puts whether something is so.
+    /// Adds a member that is true or false.
     pub fn flag(&mut self, name: &str, flag: bool)
         ensures { Puts self.old self.new (with_member name.now (boolean flag)) }
     {

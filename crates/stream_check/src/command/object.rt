@@ -3,9 +3,9 @@
 ghost use Rattle.std.specs.Prelude.{◌≡◌, IfOk, option_map};
 ghost use Rattle.std.specs.Option.{option_copied};
 ghost use Rattle.stream_check.specs.About.{about_line, message_in, object_view};
-ghost use Rattle.stream_check.specs.Kept.{about_held};
+ghost use Rattle.stream_check.specs.SlotContents.{about_of_slots};
 
-use crate::lines::found::{from_mark, through_brace};
+use crate::located::{from_mark, through_brace};
 use crate::messages::action::Action;
 use crate::messages::kind::Kind;
 use crate::messages::line_slots::{LineSlots, read_line};
@@ -15,7 +15,7 @@ use crate::rules::mode::Mode;
 use apply_json::{JsonFault, Scratch};
 use std::alloc::{AllocError, Global};
 
-/// What a message is about that tells of a step or of a provisioner.
+/// The subject of a message about a step or a provisioner.
 #[derive(Clone, Copy)]
 pub enum Object<'a> {
     Step {
@@ -30,9 +30,10 @@ pub enum Object<'a> {
 }
 
 impl<'a> Object<'a> {
-    /// What the message of a line is about, where it is about one.
+    /// Returns what the message of the line is about. Only messages about steps and provisioners
+    /// have a subject.
     fn of(line: &LineSlots<'a>) -> Option<Object<'a>>
-        ensures { option_map object_view result ≡ about_held line.now }
+        ensures { option_map object_view result ≡ about_of_slots line.now }
     {
         let name = line.type_name.text()?;
         match line.of_kind(Kind::named(name)) {
@@ -51,14 +52,14 @@ impl<'a> Object<'a> {
         }
     }
 
-    /// The address of what it is about.
+    /// The address of the resource.
     pub fn address(self) -> &'a str {
         match self {
             Object::Step { address, .. } | Object::Provisioner { address, .. } => address,
         }
     }
 
-    /// The action, or the name of the provisioner, or the word for one that has none.
+    /// Returns the action, or the name of the provisioner, or `provisioner` where it has no name.
     pub fn word(self) -> &'a str {
         match self {
             Object::Step { action, .. } => action.word(),
@@ -67,7 +68,8 @@ impl<'a> Object<'a> {
     }
 }
 
-/// What a line's message is about, of a line of a log that which is found in it.
+/// Returns what the message of the line is about. In a log, the message is located in the line
+/// first. `Err` where memory was refused.
 pub fn object_in<'a>(
     alloc: Global,
     scratch: &'a mut Scratch,
@@ -86,7 +88,7 @@ pub fn object_in<'a>(
     }
 }
 
-/// The text of a line's message.
+/// Returns the text of the line's message.
 fn message_in(mode: Mode, text: &[u8]) -> Option<&[u8]>
     ensures { option_copied result ≡ message_in mode.find text.now }
 {

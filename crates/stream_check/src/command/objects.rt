@@ -4,12 +4,12 @@ ghost use Rattle.std.specs.Prelude.{◌≡◌, IfOk};
 ghost use Rattle.serde_json.specs.View.{view};
 ghost use Rattle.stream_check.specs.Objects as object;
 ghost use Rattle.stream_check.specs.Putting.{Puts};
-ghost use Rattle.stream_check.specs.ToldObject as told_object;
+ghost use Rattle.stream_check.specs.ReportObject as report_object;
 
+use crate::command::finding_report::FindingReport;
 use crate::command::members::Members;
 use crate::command::object::Object;
 use crate::command::texts::LINE_FRONT;
-use crate::command::told::Told;
 use crate::messages::totals::Totals;
 use crate::rules::fault::Fault;
 use crate::rules::open_entry::OpenEntry;
@@ -19,7 +19,7 @@ use serde_json::Value;
 use std::alloc::{AllocError, Global};
 use term_text::front;
 
-/// Puts what a whole stream tells.
+/// Adds the members of a verdict on a whole stream.
 pub fn put_whole(members: &mut Members, whole: &Whole)
     ensures { Puts members.old members.new (object.with_whole whole.now) }
 {
@@ -33,7 +33,7 @@ pub fn put_whole(members: &mut Members, whole: &Whole)
     put_count(members, "passed", whole.passed);
 }
 
-/// Puts that the stream is a plan's, where it is.
+/// Adds that the stream is that of a plan, where it is.
 fn put_plan(members: &mut Members, is_plan: bool)
     ensures { Puts members.old members.new (object.with_plan is_plan) }
 {
@@ -42,7 +42,7 @@ fn put_plan(members: &mut Members, is_plan: bool)
     }
 }
 
-/// Puts a count, where there is one.
+/// Adds a count, where there is one.
 fn put_count(members: &mut Members, name: &str, count: Option<u64>)
     ensures { Puts members.old members.new (object.with_count name.now count) }
 {
@@ -51,16 +51,16 @@ fn put_count(members: &mut Members, name: &str, count: Option<u64>)
     }
 }
 
-/// Puts all that is told of a stream that is not whole.
-pub fn put_told(members: &mut Members, told: &Told<'_>)
-    ensures { Puts members.old members.new (told_object.with_told told.now) }
+/// Adds the members of a report on a stream that is not whole.
+pub fn put_report(members: &mut Members, report: &FindingReport<'_>)
+    ensures { Puts members.old members.new (report_object.with_report report.now) }
 {
-    put_finding(members, &told.finding);
-    put_object(members, told.object);
-    put_details(members, told);
+    put_finding(members, &report.finding);
+    put_object(members, report.object);
+    put_details(members, report);
 }
 
-/// Puts the fault and its line, with the one that it contradicts.
+/// Adds the fault and its line, with the line that the faulty one contradicts.
 fn put_finding(members: &mut Members, finding: &Finding)
     ensures { Puts members.old members.new (object.with_finding finding.now) }
 {
@@ -71,9 +71,9 @@ fn put_finding(members: &mut Members, finding: &Finding)
     put_count(members, "passed", finding.passed);
 }
 
-/// Puts what the faulty line is about.
+/// Adds what the faulty line is about.
 fn put_object(members: &mut Members, object: Option<Object<'_>>)
-    ensures { Puts members.old members.new (told_object.with_object object.entry) }
+    ensures { Puts members.old members.new (report_object.with_object object.entry) }
 {
     match object {
         None => {}
@@ -90,23 +90,23 @@ fn put_object(members: &mut Members, object: Option<Object<'_>>)
     }
 }
 
-/// Puts what belongs to some faults alone.
-fn put_details(members: &mut Members, told: &Told<'_>)
-    ensures { Puts members.old members.new (told_object.with_details told.now) }
+/// Adds the members that only some faults have.
+fn put_details(members: &mut Members, report: &FindingReport<'_>)
+    ensures { Puts members.old members.new (report_object.with_details report.now) }
 {
-    match told.finding.fault {
-        Fault::NotJson | Fault::NoType => put_front(members, told.text, told.is_cut_off),
+    match report.finding.fault {
+        Fault::NotJson | Fault::NoType => put_front(members, report.text, report.is_cut_off),
         Fault::Malformed(path, _) => members.text("member", path.text()),
-        Fault::WrongTotals(says, counted) | Fault::WrongPlanTotals(says, counted) => {
-            put_totals(members, "says", says);
+        Fault::WrongTotals(stated, counted) | Fault::WrongPlanTotals(stated, counted) => {
+            put_totals(members, "says", stated);
             put_totals(members, "counted", counted);
         }
-        Fault::Unended => put_open(members, told.open),
+        Fault::Unended => put_open(members, report.open),
         _ => {}
     }
 }
 
-/// Puts the front of a line that is no message.
+/// Adds the front of a line that is no message.
 fn put_front(members: &mut Members, text: &[u8], is_cut_off: bool)
     ensures { Puts members.old members.new (object.with_front text.now is_cut_off) }
 {
@@ -114,7 +114,7 @@ fn put_front(members: &mut Members, text: &[u8], is_cut_off: bool)
     members.flag("cut_off", is_cut_off);
 }
 
-/// Puts totals, as an object of their own.
+/// Adds totals, as an object of their own.
 fn put_totals(members: &mut Members, name: &str, totals: Totals)
     ensures { Puts members.old members.new (object.with_totals name.now totals) }
 {
@@ -122,7 +122,7 @@ fn put_totals(members: &mut Members, name: &str, totals: Totals)
     members.made(name, value);
 }
 
-/// Totals as an object.
+/// Returns totals as an object. `Err` where memory was refused.
 fn totals_object(alloc: Global, totals: Totals) -> Result<Value, AllocError>
     ensures { IfOk result (λ value. view value ≡ object.totals_object totals) }
 {
@@ -133,17 +133,17 @@ fn totals_object(alloc: Global, totals: Totals) -> Result<Value, AllocError>
     members.object()
 }
 
-/// Puts all that stands open.
+/// Adds all that stands open.
 fn put_open(members: &mut Members, entries: &[OpenEntry<'_>])
-    ensures { Puts members.old members.new (told_object.with_open entries.now) }
+    ensures { Puts members.old members.new (report_object.with_open entries.now) }
 {
     let value = open_array(members.alloc(), entries);
     members.made("open", value);
 }
 
-/// All that stands open, as an array.
+/// Returns all that stands open, as an array. `Err` where memory was refused.
 fn open_array(alloc: Global, entries: &[OpenEntry<'_>]) -> Result<Value, AllocError>
-    ensures { IfOk result (λ value. view value ≡ told_object.open_array entries.now) }
+    ensures { IfOk result (λ value. view value ≡ report_object.open_array entries.now) }
 {
     let mut values = Vec::new(alloc);
     for entry in entries {
@@ -152,9 +152,9 @@ fn open_array(alloc: Global, entries: &[OpenEntry<'_>]) -> Result<Value, AllocEr
     Ok(Value::Array(values))
 }
 
-/// One of the things that stand open, as an object.
+/// Returns one open entry as an object. `Err` where memory was refused.
 fn entry_object(alloc: Global, entry: &OpenEntry<'_>) -> Result<Value, AllocError>
-    ensures { IfOk result (λ value. view value ≡ told_object.entry_object entry.now) }
+    ensures { IfOk result (λ value. view value ≡ report_object.entry_object entry.now) }
 {
     let mut members = Members::new(alloc);
     members.text("address", entry.address);

@@ -1,15 +1,23 @@
-//! What the words of the command line say.
+//! The settings of the command.
 
-use crate::command::form::Form;
 use crate::rules::mode::Mode;
 
-/// What the words behind `check` say.
+/// The form of the verdict.
+#[derive(Clone, Copy)]
+pub enum Form {
+    /// A line of text.
+    Text,
+    /// A line with a JSON object (RFC 8259).
+    Json,
+}
+
+/// The settings that the arguments of `check` state.
 #[derive(Drop)]
 pub struct Settings {
-    /// What the stream is judged as.
+    /// What kind of stream is accepted.
     pub mode: Mode,
-    /// How the verdict is said.
+    /// The form of the verdict.
     pub form: Form,
-    /// The file with the stream; standard input where there is none, or it is `-`.
+    /// The file with the stream. Without a file, or with `-`, the stream is standard input.
     pub file: Option<String>,
 }

@@ -1,24 +1,24 @@
 //! The exit statuses of `check`.
 
 ghost use Rattle.std.specs.Prelude.{◌≡◌};
-ghost use Rattle.stream_check.specs.Telling.{fault_status_of, status_of};
+ghost use Rattle.stream_check.specs.Reports.{fault_status_of, status_of};
 
-use crate::command::unsaid::Unsaid;
+use crate::command::unreported::Unreported;
 use crate::verdict::read_fault::ReadFault;
 use crate::verdict::whole::Whole;
 use stream_tool::{FAILED, REFUSED};
 
-/// The stream is whole, and tells of an error.
+/// The stream is whole, and reports an error.
 const ERRORS: u8 = 1;
 
 /// The stream is not whole.
 const NOT_WHOLE: u8 = 4;
 
-/// The exit status of what was found, where it was said or was not.
-pub fn exit_status(answer: Result<Whole, ReadFault>, said: Result<(), Unsaid>) -> u8
-    ensures { result ≡ status_of answer said }
+/// Returns the exit status of a verdict that was reported, or was not.
+pub fn exit_status(answer: Result<Whole, ReadFault>, reported: Result<(), Unreported>) -> u8
+    ensures { result ≡ status_of answer reported }
 {
-    let Ok(()) = said else {
+    let Ok(()) = reported else {
         return FAILED;
     };
     match answer {
@@ -27,7 +27,7 @@ pub fn exit_status(answer: Result<Whole, ReadFault>, said: Result<(), Unsaid>) -
     }
 }
 
-/// The exit status where the stream is not found to be whole.
+/// Returns the exit status where there is no verdict, or the stream is not whole.
 fn fault_status(fault: ReadFault) -> u8
     ensures { result ≡ fault_status_of fault }
 {

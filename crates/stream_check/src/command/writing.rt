@@ -1,20 +1,20 @@
-//! Lines that go out.
+//! Writes verdicts to the output.
 
 ghost use Rattle.std.specs.Prelude.{◌≡◌, ◌≢◌, ◌++◌, ◌∷◌, [], Err, IfErr, OnOk};
 ghost use Rattle.std.specs.Io.KnownBytes.{Appends, Keeps};
-ghost use Rattle.stream_check.specs.declared.command.unsaid.Unsaid.TheVariants.{Gone, Memory};
+ghost use Rattle.stream_check.specs.declared.command.unreported.Unreported.TheVariants.{Gone, Memory};
 
-use crate::command::unsaid::Unsaid;
+use crate::command::unreported::Unreported;
 use std::io::{self, ErrorKind, Write};
 use stream_tool::report;
 
-/// Writes the text and a line feed, all of it, and sends it on.
+/// Writes the text and a line feed, then flushes.
 ///
-/// `Err` with `Unsaid::Gone` where that fails since the reader of `out` is gone, and with `Unsaid::Unwritten` where it fails
-/// for another reason.
-pub fn write_line<W: Write>(out: &mut W, text: &str) -> Result<(), Unsaid>
+/// `Err` with `Unreported::Gone` where the reader of `out` is gone, and with
+/// `Unreported::Unwritten` where a write or a flush fails otherwise.
+pub fn write_line<W: Write>(out: &mut W, text: &str) -> Result<(), Unreported>
     ensures written { OnOk result (Appends (W.contents out.old) (W.contents out.new) (text.now ++ 10 ∷ [])) }
-    ensures unwritten { IfErr result (λ unsaid. unsaid ≢ Memory) }
+    ensures unwritten { IfErr result (λ unreported. unreported ≢ Memory) }
 {
     match write_whole(out, text) {
         Ok(()) => Ok(()),
@@ -22,7 +22,7 @@ pub fn write_line<W: Write>(out: &mut W, text: &str) -> Result<(), Unsaid>
     }
 }
 
-/// Writes the text and a line feed, and flushes.
+/// Writes the text and a line feed, then flushes. `Err` where a write or the flush fails.
 fn write_whole<W: Write>(out: &mut W, text: &str) -> io::Result<()>
     ensures { OnOk result (Appends (W.contents out.old) (W.contents out.new) (text.now ++ 10 ∷ [])) }
 {
@@ -30,25 +30,25 @@ fn write_whole<W: Write>(out: &mut W, text: &str) -> io::Result<()>
     out.flush()
 }
 
-/// What a failed write or flush is.
-fn unwritten(error: &io::Error) -> Unsaid
+/// Classifies a failed write or flush.
+fn unwritten(error: &io::Error) -> Unreported
     ensures { result ≢ Memory }
 {
     if error.kind() == ErrorKind::BrokenPipe {
-        Unsaid::Gone
+        Unreported::Gone
     } else {
-        Unsaid::Unwritten
+        Unreported::Unwritten
     }
 }
 
-/// Says why something was not said, where it was not. Nothing is said where the reader of the output is gone: whoever ended it,
-/// as `head` ends, knows that.
-pub fn report_unsaid<E: Write>(faults: &mut E, said: Result<(), Unsaid>)
-    ensures quiet { OnOk said (Keeps (E.contents faults.old) (E.contents faults.new)) }
-    ensures gone { said ≡ Err Gone → Keeps (E.contents faults.old) (E.contents faults.new) }
+/// Reports on `faults` why a verdict was not reported. Nothing is reported where the reader of the
+/// output is gone. Whoever ended that reader, as `head` ends, knows.
+pub fn report_failure<E: Write>(faults: &mut E, reported: Result<(), Unreported>)
+    ensures quiet { OnOk reported (Keeps (E.contents faults.old) (E.contents faults.new)) }
+    ensures gone { reported ≡ Err Gone → Keeps (E.contents faults.old) (E.contents faults.new) }
 {
-    match said {
-        Ok(()) | Err(Unsaid::Gone) => {}
-        Err(unsaid) => report(faults, unsaid),
+    match reported {
+        Ok(()) | Err(Unreported::Gone) => {}
+        Err(unreported) => report(faults, unreported),
     }
 }

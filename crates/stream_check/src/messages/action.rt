@@ -1,11 +1,12 @@
-//! What is done to an object.
+//! What a step does to its object.
 
 ghost use Rattle.std.specs.Prelude.{◌≡◌};
 ghost use Rattle.stream_check.specs.Words.{action_named, action_word};
 
 use apply_json::is_text;
 
-/// What a step does to its object (`hook.action`). A refresh has no such word: its messages have types of their own.
+/// What a step does to its object (`hook.action`). No word names a refresh: its messages have types
+/// of their own.
 #[derive(Clone, Copy)]
 pub enum Action {
     Create,
@@ -16,7 +17,7 @@ pub enum Action {
 }
 
 impl Action {
-    /// The action that the word names.
+    /// Returns the action that the word names.
     pub fn named(word: &str) -> Option<Action>
         ensures { result ≡ action_named word.now }
     {

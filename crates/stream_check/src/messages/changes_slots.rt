@@ -1,37 +1,37 @@
-//! What is kept of the members of `changes`.
+//! The members of `changes` that are read.
 
 ghost use Rattle.std.specs.Prelude.{◌≡◌, ◌<◌, Err, OnOk, Some, length};
 ghost use Rattle.serde_json.specs.Data.{Data};
-ghost use Rattle.apply_json.specs.Keeping.{none_kept};
+ghost use Rattle.apply_json.specs.Verbatim.{none_verbatim};
 ghost use Rattle.apply_json.specs.Tokens.{IsNoValue, IsRead};
-ghost use Rattle.stream_check.specs.Kept.{HoldsChanges, inside, presence_of, summary_held, totals_held};
+ghost use Rattle.stream_check.specs.SlotContents.{HoldsChanges, inside, presence_of, summary_of_slots, totals_of_slots};
 ghost use Rattle.stream_check.specs.MessageView.{message_view};
 ghost use Rattle.stream_check.specs.Results.{mapped};
 
-use crate::messages::members::{count_at, read_found, text_at};
+use crate::messages::members::{count_at, read_into_slot, text_at};
 use crate::messages::message::Message;
 use crate::messages::path::Path;
 use crate::messages::presence::Presence;
 use crate::messages::totals::Totals;
 use crate::rules::fault::Fault;
-use apply_json::{ReadFault, Reader, Scalar, Slots, is_text, pass_member, read_object};
+use apply_json::{ReadFault, Reader, Shallow, Slots, is_text, read_object, skip_member};
 use std::alloc::Global;
 
-/// The members of `changes` that a summary is made of.
+/// The members of `changes` that a summary needs.
 #[derive(Clone, Copy, Drop)]
 pub struct ChangesSlots<'a> {
     pub is: Presence,
-    pub operation: Option<Scalar<'a>>,
-    pub added: Option<Scalar<'a>>,
-    pub changed: Option<Scalar<'a>>,
-    pub removed: Option<Scalar<'a>>,
+    pub operation: Option<Shallow<'a>>,
+    pub added: Option<Shallow<'a>>,
+    pub changed: Option<Shallow<'a>>,
+    pub removed: Option<Shallow<'a>>,
 }
 
 impl<'a> ChangesSlots<'a> {
     ghost use Rattle.serde_json.specs.Data.{no_members};
     ghost use Rattle.std.specs.Prelude.{None};
 
-    /// There is no `changes`.
+    /// Slots of a message without `changes`.
     pub fn new() -> ChangesSlots<'a>
         ensures is { result.is ≡ presence_of None }
         ensures holds { HoldsChanges result no_members }
@@ -45,7 +45,8 @@ impl<'a> ChangesSlots<'a> {
         }
     }
 
-    /// Reads `changes`, in which arrays and objects nest at most `depth` deep, into its slots.
+    /// Reads `changes` into its slots. Arrays and objects may nest `depth` deep. `Err` where the
+    /// value is no JSON, or memory is refused.
     pub fn read(
         alloc: Global,
         reader: &mut Reader<'a>,
@@ -67,9 +68,9 @@ impl<'a> ChangesSlots<'a> {
         }
     }
 
-    /// A summary.
+    /// Returns the summary. `Err` where a member is missing or has another type.
     pub fn summary(&self) -> Result<Message<'a>, Fault>
-        ensures { mapped message_view result ≡ summary_held self.now }
+        ensures { mapped message_view result ≡ summary_of_slots self.now }
     {
         match self
             .is
@@ -84,9 +85,9 @@ impl<'a> ChangesSlots<'a> {
         }
     }
 
-    /// The totals.
+    /// Returns the totals. `Err` where a count is missing or no whole number.
     fn totals(&self) -> Result<Totals, Fault>
-        ensures { result ≡ totals_held self.now }
+        ensures { result ≡ totals_of_slots self.now }
     {
         let added = count_at(Path::Added, self.added)?;
         let changed = count_at(Path::Changed, self.changed)?;
@@ -100,7 +101,7 @@ impl<'a> ChangesSlots<'a> {
 }
 
 impl<'a> Slots<'a> for ChangesSlots<'a> {
-    ghost kept = { none_kept };
+    ghost is_verbatim = { none_verbatim };
 
     ghost holds = { λ _ slots ms. HoldsChanges slots ms };
 
@@ -112,15 +113,15 @@ impl<'a> Slots<'a> for ChangesSlots<'a> {
         depth: usize,
     ) -> Result<(), ReadFault> {
         if is_text(name, "operation") {
-            read_found(reader, depth, &mut self.operation)
+            read_into_slot(reader, depth, &mut self.operation)
         } else if is_text(name, "add") {
-            read_found(reader, depth, &mut self.added)
+            read_into_slot(reader, depth, &mut self.added)
         } else if is_text(name, "change") {
-            read_found(reader, depth, &mut self.changed)
+            read_into_slot(reader, depth, &mut self.changed)
         } else if is_text(name, "remove") {
-            read_found(reader, depth, &mut self.removed)
+            read_into_slot(reader, depth, &mut self.removed)
         } else {
-            pass_member(reader, depth)
+            skip_member(reader, depth)
         }
     }
 }

@@ -1,34 +1,34 @@
-//! What is kept of the members of `diagnostic`.
+//! The members of `diagnostic` that are read.
 
 ghost use Rattle.std.specs.Prelude.{◌≡◌, ◌<◌, Err, OnOk, Some, length};
 ghost use Rattle.serde_json.specs.Data.{Data};
-ghost use Rattle.apply_json.specs.Keeping.{none_kept};
+ghost use Rattle.apply_json.specs.Verbatim.{none_verbatim};
 ghost use Rattle.apply_json.specs.Tokens.{IsNoValue, IsRead};
-ghost use Rattle.stream_check.specs.Kept.{HoldsDiagnostic, diagnostic_held, inside, presence_of};
+ghost use Rattle.stream_check.specs.SlotContents.{HoldsDiagnostic, diagnostic_of_slots, inside, presence_of};
 ghost use Rattle.stream_check.specs.MessageView.{message_view};
 ghost use Rattle.stream_check.specs.Results.{mapped};
 
-use crate::messages::members::{read_found, text_at, text_in};
+use crate::messages::members::{read_into_slot, text_at, text_in};
 use crate::messages::message::Message;
 use crate::messages::path::Path;
 use crate::messages::presence::Presence;
 use crate::rules::fault::Fault;
-use apply_json::{ReadFault, Reader, Scalar, Slots, is_text, pass_member, read_object};
+use apply_json::{ReadFault, Reader, Shallow, Slots, is_text, read_object, skip_member};
 use std::alloc::Global;
 
-/// The members of `diagnostic` that are looked at.
+/// The members of `diagnostic` that are read.
 #[derive(Clone, Copy, Drop)]
 pub struct DiagnosticSlots<'a> {
     pub is: Presence,
-    pub severity: Option<Scalar<'a>>,
-    pub address: Option<Scalar<'a>>,
+    pub severity: Option<Shallow<'a>>,
+    pub address: Option<Shallow<'a>>,
 }
 
 impl<'a> DiagnosticSlots<'a> {
     ghost use Rattle.serde_json.specs.Data.{no_members};
     ghost use Rattle.std.specs.Prelude.{None};
 
-    /// There is no `diagnostic`.
+    /// Slots of a message without `diagnostic`.
     pub fn new() -> DiagnosticSlots<'a>
         ensures is { result.is ≡ presence_of None }
         ensures holds { HoldsDiagnostic result no_members }
@@ -40,7 +40,8 @@ impl<'a> DiagnosticSlots<'a> {
         }
     }
 
-    /// Reads `diagnostic`, in which arrays and objects nest at most `depth` deep, into its slots.
+    /// Reads `diagnostic` into its slots. Arrays and objects may nest `depth` deep. `Err` where the
+    /// value is no JSON, or memory is refused.
     pub fn read(
         alloc: Global,
         reader: &mut Reader<'a>,
@@ -62,9 +63,10 @@ impl<'a> DiagnosticSlots<'a> {
         }
     }
 
-    /// An error or a warning. An address that is no text is none.
+    /// Returns the error or warning. An address that is no text counts as missing. `Err` where the
+    /// severity is missing or no text.
     pub fn message(&self) -> Result<Message<'a>, Fault>
-        ensures { mapped message_view result ≡ diagnostic_held self.now }
+        ensures { mapped message_view result ≡ diagnostic_of_slots self.now }
     {
         match self
             .is
@@ -81,7 +83,7 @@ impl<'a> DiagnosticSlots<'a> {
 }
 
 impl<'a> Slots<'a> for DiagnosticSlots<'a> {
-    ghost kept = { none_kept };
+    ghost is_verbatim = { none_verbatim };
 
     ghost holds = { λ _ slots ms. HoldsDiagnostic slots ms };
 
@@ -93,11 +95,11 @@ impl<'a> Slots<'a> for DiagnosticSlots<'a> {
         depth: usize,
     ) -> Result<(), ReadFault> {
         if is_text(name, "severity") {
-            read_found(reader, depth, &mut self.severity)
+            read_into_slot(reader, depth, &mut self.severity)
         } else if is_text(name, "address") {
-            read_found(reader, depth, &mut self.address)
+            read_into_slot(reader, depth, &mut self.address)
         } else {
-            pass_member(reader, depth)
+            skip_member(reader, depth)
         }
     }
 }

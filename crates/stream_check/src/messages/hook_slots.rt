@@ -1,42 +1,41 @@
-//! What is kept of the members of `hook`.
+//! The members of `hook` that are read.
 
 ghost use Rattle.std.specs.Prelude.{◌≡◌, ◌<◌, Err, OnOk, Some, length};
 ghost use Rattle.serde_json.specs.Data.{Data};
-ghost use Rattle.apply_json.specs.Keeping.{none_kept};
+ghost use Rattle.apply_json.specs.Verbatim.{none_verbatim};
 ghost use Rattle.apply_json.specs.Tokens.{IsNoValue, IsRead};
-ghost use Rattle.stream_check.specs.Kept.{HoldsHook, address_held, inside, presence_of, provision_held, refresh_held, start_held, subject_held, timed_held};
+ghost use Rattle.stream_check.specs.SlotContents.{HoldsHook, address_of_slots, inside, presence_of, provision_of_slots, refresh_of_slots, start_of_slots, subject_of_slots, timed_of_slots};
 ghost use Rattle.stream_check.specs.Message.{timed_stage_of};
 ghost use Rattle.stream_check.specs.MessageView.{message_view};
 ghost use Rattle.stream_check.specs.Results.{mapped};
 
 use crate::messages::action::Action;
 use crate::messages::inner_slot::InnerSlot;
-use crate::messages::members::{count_at, read_found, text_at};
+use crate::messages::members::{count_at, read_into_slot, text_at};
 use crate::messages::message::{Message, Subject};
 use crate::messages::path::Path;
 use crate::messages::presence::Presence;
-use crate::messages::stage::Stage;
-use crate::messages::timed_stage::TimedStage;
+use crate::messages::timed_stage::{Stage, TimedStage};
 use crate::rules::fault::Fault;
-use apply_json::{ReadFault, Reader, Scalar, Slots, is_text, pass_member, read_object};
+use apply_json::{ReadFault, Reader, Shallow, Slots, is_text, read_object, skip_member};
 use std::alloc::Global;
 
-/// The members of `hook` that tell of a step or of a provisioner.
+/// The members of `hook` that messages about steps and provisioners need.
 #[derive(Clone, Copy, Drop)]
 pub struct HookSlots<'a> {
     pub is: Presence,
     /// `resource`, with its `addr`.
     pub resource: InnerSlot<'a>,
-    pub action: Option<Scalar<'a>>,
-    pub seconds: Option<Scalar<'a>>,
-    pub provisioner: Option<Scalar<'a>>,
+    pub action: Option<Shallow<'a>>,
+    pub seconds: Option<Shallow<'a>>,
+    pub provisioner: Option<Shallow<'a>>,
 }
 
 impl<'a> HookSlots<'a> {
     ghost use Rattle.serde_json.specs.Data.{no_members};
     ghost use Rattle.std.specs.Prelude.{None};
 
-    /// There is no `hook`.
+    /// Slots of a message without `hook`.
     pub fn new() -> HookSlots<'a>
         ensures is { result.is ≡ presence_of None }
         ensures holds { HoldsHook result no_members }
@@ -50,7 +49,8 @@ impl<'a> HookSlots<'a> {
         }
     }
 
-    /// Reads `hook`, in which arrays and objects nest at most `depth` deep, into its slots.
+    /// Reads `hook` into its slots. Arrays and objects may nest `depth` deep. `Err` where the value
+    /// is no JSON, or memory is refused.
     pub fn read(
         alloc: Global,
         reader: &mut Reader<'a>,
@@ -72,10 +72,10 @@ impl<'a> HookSlots<'a> {
         }
     }
 
-    /// The address and the action word of a step.
+    /// Returns the address and the action word. `Err` where one of them is missing or no text.
     #[inline(always)]
     fn subject(&self) -> Result<Subject<'a>, Fault>
-        ensures { mapped (λ s. (s.address.now, s.word.now)) result ≡ subject_held self.now }
+        ensures { mapped (λ s. (s.address.now, s.word.now)) result ≡ subject_of_slots self.now }
     {
         match self.resource.text(Path::Address, Path::Resource) {
             Ok(address) => match text_at(Path::Action, self.action) {
@@ -86,18 +86,18 @@ impl<'a> HookSlots<'a> {
         }
     }
 
-    /// The address alone.
+    /// Returns the address. `Err` where it is missing or no text.
     fn address(&self) -> Result<&'a str, Fault>
-        ensures { mapped (λ address. address.now) result ≡ address_held self.now }
+        ensures { mapped (λ address. address.now) result ≡ address_of_slots self.now }
     {
         self.is
             .object(Path::Address, Path::Hook)
             .and(self.resource.text(Path::Address, Path::Resource))
     }
 
-    /// A start.
+    /// Returns the message of a start. `Err` where a member is missing or has another type.
     pub fn start(&self) -> Result<Message<'a>, Fault>
-        ensures { mapped message_view result ≡ start_held self.now }
+        ensures { mapped message_view result ≡ start_of_slots self.now }
     {
         match self
             .is
@@ -109,9 +109,10 @@ impl<'a> HookSlots<'a> {
         }
     }
 
-    /// Progress or an end of a step, with its seconds.
+    /// Returns the message of a progress or an end, with its seconds. `Err` where a member is
+    /// missing or has another type.
     pub fn timed(&self, stage: Stage) -> Result<Message<'a>, Fault>
-        ensures { mapped message_view result ≡ timed_held (timed_stage_of stage) self.now }
+        ensures { mapped message_view result ≡ timed_of_slots (timed_stage_of stage) self.now }
     {
         match self
             .is
@@ -126,9 +127,9 @@ impl<'a> HookSlots<'a> {
         }
     }
 
-    /// What becomes of a provisioner.
+    /// Returns the message about a provisioner. `Err` where its address is missing or no text.
     pub fn provision(&self, stage: Stage) -> Result<Message<'a>, Fault>
-        ensures { mapped message_view result ≡ provision_held stage self.now }
+        ensures { mapped message_view result ≡ provision_of_slots stage self.now }
     {
         match self.address() {
             Ok(address) => Ok(Message::Provision { address, stage }),
@@ -136,9 +137,9 @@ impl<'a> HookSlots<'a> {
         }
     }
 
-    /// What becomes of a refresh.
+    /// Returns the message about a refresh. `Err` where its address is missing or no text.
     pub fn refresh(&self, stage: TimedStage) -> Result<Message<'a>, Fault>
-        ensures { mapped message_view result ≡ refresh_held stage self.now }
+        ensures { mapped message_view result ≡ refresh_of_slots stage self.now }
     {
         match self.address() {
             Ok(address) => Ok(Message::Step {
@@ -152,7 +153,7 @@ impl<'a> HookSlots<'a> {
 }
 
 impl<'a> Slots<'a> for HookSlots<'a> {
-    ghost kept = { none_kept };
+    ghost is_verbatim = { none_verbatim };
 
     ghost holds = { λ _ slots ms. HoldsHook slots ms };
 
@@ -166,13 +167,13 @@ impl<'a> Slots<'a> for HookSlots<'a> {
         if is_text(name, "resource") {
             InnerSlot::read(alloc, reader, depth, "addr", &mut self.resource)
         } else if is_text(name, "action") {
-            read_found(reader, depth, &mut self.action)
+            read_into_slot(reader, depth, &mut self.action)
         } else if is_text(name, "elapsed_seconds") {
-            read_found(reader, depth, &mut self.seconds)
+            read_into_slot(reader, depth, &mut self.seconds)
         } else if is_text(name, "provisioner") {
-            read_found(reader, depth, &mut self.provisioner)
+            read_into_slot(reader, depth, &mut self.provisioner)
         } else {
-            pass_member(reader, depth)
+            skip_member(reader, depth)
         }
     }
 }

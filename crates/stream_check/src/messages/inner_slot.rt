@@ -1,9 +1,9 @@
-//! One member of an object that stands in a message.
+//! An object in a message, of which one member is read.
 
 ghost use Rattle.std.specs.Prelude.{◌≡◌, ◌<◌, ℕ, Err, List, None, OnOk, Some, length};
 ghost use Rattle.serde_json.specs.Data.{Data};
 ghost use Rattle.apply_json.specs.Tokens.{IsNoValue, IsRead};
-ghost use Rattle.stream_check.specs.Kept.{inner_of, inner_text_held, inner_view};
+ghost use Rattle.stream_check.specs.SlotContents.{inner_of, required_inner_text, inner_view};
 ghost use Rattle.stream_check.specs.Results.{mapped};
 
 use crate::messages::members::text_at;
@@ -11,28 +11,29 @@ use crate::messages::named_slot::NamedSlot;
 use crate::messages::path::Path;
 use crate::messages::presence::Presence;
 use crate::rules::fault::Fault;
-use apply_json::{ReadFault, Reader, Scalar, read_object};
+use apply_json::{ReadFault, Reader, Shallow, read_object};
 use std::alloc::Global;
 
-/// An object of which one member is looked at.
+/// An object in a message, of which one member is read.
 #[derive(Clone, Copy, Drop)]
 pub struct InnerSlot<'a> {
     pub is: Presence,
-    pub found: Option<Scalar<'a>>,
+    pub value: Option<Shallow<'a>>,
 }
 
 impl<'a> InnerSlot<'a> {
-    /// There is no such object.
+    /// The slot of an object that is missing.
     pub fn new() -> InnerSlot<'a>
         ensures { (name : List ℕ) → inner_view result ≡ inner_of name None }
     {
         InnerSlot {
             is: Presence::Missing,
-            found: None,
+            value: None,
         }
     }
 
-    /// Reads a value, in which arrays and objects nest at most `depth` deep, and in it the member of that name, into its slot.
+    /// Reads a value, and its member of that name, into the slot. Arrays and objects may nest
+    /// `depth` deep. `Err` where the value is no JSON, or memory is refused.
     #[inline(always)]
     pub fn read(
         alloc: Global,
@@ -46,12 +47,12 @@ impl<'a> InnerSlot<'a> {
         ensures shorter { OnOk result (length reader.new < length reader.old) }
         ensures err { result ≡ Err ReadFault.NotJson → IsNoValue depth reader.old }
     {
-        let mut named = NamedSlot { name, found: None };
+        let mut named = NamedSlot { name, value: None };
         match read_object(alloc, reader, depth, &mut named) {
             Ok(value) => {
                 *slot = InnerSlot {
                     is: Presence::of(value),
-                    found: named.found,
+                    value: named.value,
                 };
                 Ok(())
             }
@@ -59,12 +60,13 @@ impl<'a> InnerSlot<'a> {
         }
     }
 
-    /// The text that the member is. An `Err` says that it is none, or that what it stands in is no object.
+    /// Returns the text of the member. `Err` where the member is missing or no text, or its
+    /// container is no object.
     pub fn text(self, member: Path, container: Path) -> Result<&'a str, Fault>
-        ensures { mapped (λ text. text.now) result ≡ inner_text_held member container self.entry }
+        ensures { mapped (λ text. text.now) result ≡ required_inner_text member container self.entry }
     {
         self.is
             .object(member, container)
-            .and(text_at(member, self.found))
+            .and(text_at(member, self.value))
     }
 }

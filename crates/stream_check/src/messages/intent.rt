@@ -1,4 +1,4 @@
-//! What a plan says of a change.
+//! What a plan intends for an object.
 
 ghost use Rattle.std.specs.Prelude.{◌≡◌};
 ghost use Rattle.stream_check.specs.Message.{intent_named};
@@ -12,12 +12,12 @@ pub enum Intent {
     Update,
     Delete,
     Replace,
-    /// Nothing that a total counts.
+    /// An intent that no total counts.
     Nothing,
 }
 
 impl Intent {
-    /// What the word plans.
+    /// Returns the intent that the word names.
     pub fn named(word: &str) -> Intent
         ensures { result ≡ intent_named word.now }
     {

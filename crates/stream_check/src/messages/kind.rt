@@ -1,12 +1,12 @@
-//! The types of messages.
+//! Kinds of messages, by their types.
 
 ghost use Rattle.std.specs.Prelude.{◌≡◌};
 ghost use Rattle.stream_check.specs.MessageKinds.{general_kind, kind_named, stepless_kind};
 
-use crate::messages::stage::Stage;
+use crate::messages::timed_stage::Stage;
 use apply_json::is_text;
 
-/// What a message of a type tells of (Machine-Readable UI, "Message Types").
+/// The kind of a message, by its type (Machine-Readable UI, "Message Types").
 #[derive(Clone, Copy)]
 pub enum Kind {
     Version,
@@ -16,18 +16,18 @@ pub enum Kind {
     Timed(Stage),
     /// A start or an end of a refresh, which is a step without seconds.
     Refresh(Stage),
-    /// What becomes of a provisioner.
+    /// A stage of a provisioner.
     Provision(Stage),
     Planned,
     Summary,
     Diagnostic,
     Outputs,
-    /// A type that no law is about.
+    /// A type that no rule is about.
     Other,
 }
 
 impl Kind {
-    /// What a message of that type tells of.
+    /// Returns the kind of a type.
     pub fn named(name: &str) -> Kind
         ensures { result ≡ kind_named name.now }
     {
@@ -46,7 +46,7 @@ impl Kind {
         }
     }
 
-    /// The same of a type that is about a refresh, or about no step.
+    /// Returns the kind of a type that is no start, progress or end of a step.
     fn of_no_step(name: &str) -> Kind
         ensures { result ≡ stepless_kind name.now }
     {
@@ -67,7 +67,7 @@ impl Kind {
         }
     }
 
-    /// The same of a type that is about no step and no provisioner.
+    /// Returns the kind of a type that is about no step, refresh or provisioner.
     fn of_no_object(name: &str) -> Kind
         ensures { result ≡ general_kind name.now }
     {

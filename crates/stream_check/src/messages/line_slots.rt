@@ -1,12 +1,12 @@
-//! What is kept of the members of a line.
+//! The members of a line that are read.
 
 ghost use Rattle.std.specs.Prelude.{◌≡◌, IfErr, IfOk, Some, length};
 ghost use Rattle.serde_json.specs.Data.{Data};
-ghost use Rattle.apply_json.specs.Keeping.{none_kept};
+ghost use Rattle.apply_json.specs.Verbatim.{none_verbatim};
 ghost use Rattle.apply_json.specs.Parsed.{IsNoTree};
-ghost use Rattle.apply_json.specs.Seen.{members_in};
+ghost use Rattle.apply_json.specs.ShallowView.{members_in};
 ghost use Rattle.apply_json.specs.Tree.{tree_of};
-ghost use Rattle.stream_check.specs.Kept.{HoldsLine, kind_held, message_held, planned_held};
+ghost use Rattle.stream_check.specs.SlotContents.{HoldsLine, kind_of_slots, message_of_slots, planned_of_slots};
 ghost use Rattle.stream_check.specs.Lines.{text_message};
 ghost use Rattle.stream_check.specs.MessageView.{message_view};
 ghost use Rattle.stream_check.specs.Results.{Gives, mapped};
@@ -22,16 +22,16 @@ use crate::messages::path::Path;
 use crate::messages::timed_stage::TimedStage;
 use crate::rules::fault::Fault;
 use apply_json::{
-    JsonFault, ReadFault, Reader, Scalar, Scratch, Slots, is_text, pass_member, read_scalar_into,
-    read_slots,
+    JsonFault, ReadFault, Reader, Scratch, Shallow, Slots, is_text, read_shallow_into, read_slots,
+    skip_member,
 };
 use std::alloc::Global;
 
-/// The members of a line that messages are made of (Machine-Readable UI, "Message Types").
+/// The members of a line that messages need (Machine-Readable UI, "Message Types").
 #[derive(Clone, Copy, Drop)]
 pub struct LineSlots<'a> {
     /// `type`.
-    pub type_name: Scalar<'a>,
+    pub type_name: Shallow<'a>,
     pub hook: HookSlots<'a>,
     /// `change`, with its `action`.
     pub change: InnerSlot<'a>,
@@ -42,12 +42,12 @@ pub struct LineSlots<'a> {
 impl<'a> LineSlots<'a> {
     ghost use Rattle.serde_json.specs.Data.{no_members};
 
-    /// No member.
+    /// Slots of an object without members.
     pub fn new() -> LineSlots<'a>
         ensures { HoldsLine result no_members }
     {
         LineSlots {
-            type_name: Scalar::Absent,
+            type_name: Shallow::Absent,
             hook: HookSlots::new(),
             change: InnerSlot::new(),
             changes: ChangesSlots::new(),
@@ -55,10 +55,13 @@ impl<'a> LineSlots<'a> {
         }
     }
 
-    /// The message that the line is. One without a type is none, but in a log, in which messages have to be found, it is another
-    /// program's. An `Err` says which member a type that is known lacks.
+    /// Returns the message of the line. In a log, an object without a type is the message of
+    /// another program.
+    ///
+    /// `Err` with `Fault::NoType` where the type is missing or no text. `Err` with
+    /// `Fault::Malformed` where a member of a known type is missing or has another type.
     fn message(&self, find: bool) -> Result<Message<'a>, Fault>
-        ensures { mapped message_view result ≡ message_held find self.now }
+        ensures { mapped message_view result ≡ message_of_slots find self.now }
     {
         match self.type_name.text() {
             Some(name) => self.of_kind(Kind::named(name)),
@@ -70,10 +73,11 @@ impl<'a> LineSlots<'a> {
         }
     }
 
-    /// The message of a type that tells of that.
+    /// Returns the message of this kind. `Err` with `Fault::Malformed` where a member is missing or
+    /// has another type.
     #[inline(always)]
     pub fn of_kind(&self, kind: Kind) -> Result<Message<'a>, Fault>
-        ensures { mapped message_view result ≡ kind_held kind self.now }
+        ensures { mapped message_view result ≡ kind_of_slots kind self.now }
     {
         match kind {
             Kind::Version => Ok(Message::Version),
@@ -89,9 +93,9 @@ impl<'a> LineSlots<'a> {
         }
     }
 
-    /// A change that was planned.
+    /// Returns the message of a planned change. `Err` where its action is missing or no text.
     fn plan(&self) -> Result<Message<'a>, Fault>
-        ensures { mapped message_view result ≡ planned_held self.now }
+        ensures { mapped message_view result ≡ planned_of_slots self.now }
     {
         match self.change.text(Path::ChangeAction, Path::Change) {
             Ok(word) => Ok(Message::Planned {
@@ -103,7 +107,7 @@ impl<'a> LineSlots<'a> {
 }
 
 impl<'a> Slots<'a> for LineSlots<'a> {
-    ghost kept = { none_kept };
+    ghost is_verbatim = { none_verbatim };
 
     ghost holds = { λ _ slots ms. HoldsLine slots ms };
 
@@ -117,7 +121,7 @@ impl<'a> Slots<'a> for LineSlots<'a> {
         if is_text(name, "hook") {
             HookSlots::read(alloc, reader, depth, &mut self.hook)
         } else if is_text(name, "type") {
-            read_scalar_into(reader, depth, &mut self.type_name)
+            read_shallow_into(reader, depth, &mut self.type_name)
         } else if is_text(name, "change") {
             InnerSlot::read(alloc, reader, depth, "action", &mut self.change)
         } else if is_text(name, "changes") {
@@ -125,12 +129,13 @@ impl<'a> Slots<'a> for LineSlots<'a> {
         } else if is_text(name, "diagnostic") {
             DiagnosticSlots::read(alloc, reader, depth, &mut self.diagnostic)
         } else {
-            pass_member(reader, depth)
+            skip_member(reader, depth)
         }
     }
 }
 
-/// Reads the members of the line that a text is. `scratch` grows to its length.
+/// Reads the members of a line. `scratch` grows to the length of the line. `Err` where the text is
+/// no JSON, or memory is refused.
 #[inline(always)]
 pub fn read_line<'a>(
     alloc: Global,
@@ -147,7 +152,8 @@ pub fn read_line<'a>(
     }
 }
 
-/// The message of a text. `scratch` grows to its length.
+/// Returns the message of a text. `scratch` grows to the length of the text. `Err` with the first
+/// fault of the text, or with `Fault::Memory`.
 pub fn message_in<'a>(
     alloc: Global,
     scratch: &'a mut Scratch,

@@ -1,16 +1,15 @@
-//! What a line says, as it stands in the line.
+//! Messages as they stand in their lines.
 
 ghost use Rattle.std.specs.Prelude.{◌≡◌};
 ghost use Rattle.stream_check.specs.Message.{step_or_other, summary_named};
 
 use crate::messages::action::Action;
 use crate::messages::intent::Intent;
-use crate::messages::stage::Stage;
-use crate::messages::timed_stage::TimedStage;
+use crate::messages::timed_stage::{Stage, TimedStage};
 use crate::messages::totals::Totals;
 use apply_json::is_text;
 
-/// A message whose texts stand in its line, or in what reading it needs.
+/// A message that borrows its texts from its line, or from the scratch of the reader.
 #[derive(Clone, Copy)]
 pub enum Message<'a> {
     Version,
@@ -38,7 +37,7 @@ pub enum Message<'a> {
     },
     Outputs,
     Other,
-    /// A line of a log that is no message.
+    /// A line of a log that holds no message.
     Foreign,
 }
 
@@ -52,7 +51,7 @@ pub struct Subject<'a> {
 impl<'a> Message<'a> {
     ghost use Rattle.stream_check.specs.MessageView.{message_view};
 
-    /// A message about a step; one with an action that is not known is passed over.
+    /// The message about a step. A message with an unknown action is `Other`.
     pub fn of_step(subject: Subject<'a>, stage: TimedStage) -> Message<'a>
         ensures { message_view result ≡ step_or_other (subject.entry.address.now, subject.entry.word.now) stage }
     {
@@ -66,7 +65,7 @@ impl<'a> Message<'a> {
         }
     }
 
-    /// A summary of that operation.
+    /// The summary of an operation. The summary of an unknown operation is `Other`.
     pub fn of_totals(operation: &str, totals: Totals) -> Message<'a>
         ensures { message_view result ≡ summary_named operation.now totals }
     {

@@ -1,21 +1,21 @@
-//! A member that is looked at by its name.
+//! A slot for the member of one name.
 
-ghost use Rattle.apply_json.specs.Keeping.{none_kept};
-ghost use Rattle.stream_check.specs.Kept.{HoldsNamed};
+ghost use Rattle.apply_json.specs.Verbatim.{none_verbatim};
+ghost use Rattle.stream_check.specs.SlotContents.{HoldsNamed};
 
-use crate::messages::members::read_found;
-use apply_json::{ReadFault, Reader, Scalar, Slots, is_text, pass_member};
+use crate::messages::members::read_into_slot;
+use apply_json::{ReadFault, Reader, Shallow, Slots, is_text, skip_member};
 use std::alloc::Global;
 
-/// The member of that name.
+/// A slot for the member of one name.
 #[derive(Clone, Copy, Drop)]
 pub struct NamedSlot<'a> {
     pub name: &'a str,
-    pub found: Option<Scalar<'a>>,
+    pub value: Option<Shallow<'a>>,
 }
 
 impl<'a> Slots<'a> for NamedSlot<'a> {
-    ghost kept = { none_kept };
+    ghost is_verbatim = { none_verbatim };
 
     ghost holds = { λ start slot ms. HoldsNamed start.name.now slot ms };
 
@@ -27,9 +27,9 @@ impl<'a> Slots<'a> for NamedSlot<'a> {
         depth: usize,
     ) -> Result<(), ReadFault> {
         if is_text(name, self.name) {
-            read_found(reader, depth, &mut self.found)
+            read_into_slot(reader, depth, &mut self.value)
         } else {
-            pass_member(reader, depth)
+            skip_member(reader, depth)
         }
     }
 }

@@ -1,11 +1,12 @@
-//! Where a member stands in a message.
+//! Paths of members in a message.
 
 ghost use Rattle.std.specs.Prelude.{◌≡◌};
 ghost use Rattle.stream_check.specs.Malformed.{path_text};
 
 use std::fmt;
 
-/// The members of messages that are read, and what they stand in (Machine-Readable UI, "Message Types").
+/// The members of messages that are read, and the objects that hold them (Machine-Readable UI,
+/// "Message Types").
 #[derive(Clone, Copy, PartialEq, Eq)]
 pub enum Path {
     Hook,
@@ -25,7 +26,7 @@ pub enum Path {
 }
 
 impl Path {
-    /// The names from the message down to the member, with a dot between them.
+    /// The names from the message down to the member, joined with dots.
     pub fn text(self) -> &'static str
         ensures { result.now ≡ path_text self }
     {

@@ -1,43 +1,43 @@
-//! Whether an object stands where one has to be.
+//! Whether a required object is present.
 
 ghost use Rattle.std.specs.Prelude.{◌≡◌, Some};
 ghost use Rattle.serde_json.specs.Data.{Data};
-ghost use Rattle.apply_json.specs.Seen.{scalar_view, seen};
-ghost use Rattle.stream_check.specs.Kept.{object_held, presence_of};
+ghost use Rattle.apply_json.specs.ShallowView.{shallow_view, shallow_of};
+ghost use Rattle.stream_check.specs.SlotContents.{required_object, presence_of};
 
-use crate::messages::lack::Lack;
+use crate::messages::member_fault::MemberFault;
 use crate::messages::path::Path;
 use crate::rules::fault::Fault;
-use apply_json::Scalar;
+use apply_json::Shallow;
 
-/// What stands in the place of an object that others stand in.
+/// Whether a required object is present.
 #[derive(Clone, Copy, Drop)]
 pub enum Presence {
     Missing,
-    /// It is there, also as `null`, and no object.
+    /// The value is present, also as `null`, and no object.
     NoObject,
     Object,
 }
 
 impl Presence {
-    /// That of a value which is there.
-    pub fn of(value: Scalar<'_>) -> Presence
-        ensures { (d : Data) → scalar_view value.entry ≡ seen (Some d) → result ≡ presence_of (Some d) }
+    /// The presence of a value that was read.
+    pub fn of(value: Shallow<'_>) -> Presence
+        ensures { (d : Data) → shallow_view value.entry ≡ shallow_of (Some d) → result ≡ presence_of (Some d) }
     {
         match value {
-            Scalar::Object => Presence::Object,
+            Shallow::Object => Presence::Object,
             _ => Presence::NoObject,
         }
     }
 
-    /// Whether it is an object, in which the member stands. An `Err` says that the member is missing, or that what it stands in is
-    /// no object.
+    /// Checks that the object is present. `Err` where it is missing: then the member is reported as
+    /// missing. `Err` also where the value is no object: then the container is reported.
     pub fn object(self, member: Path, container: Path) -> Result<(), Fault>
-        ensures { result ≡ object_held member container self }
+        ensures { result ≡ required_object member container self }
     {
         match self {
-            Presence::Missing => Err(Fault::Malformed(member, Lack::Missing)),
-            Presence::NoObject => Err(Fault::Malformed(container, Lack::NoObject)),
+            Presence::Missing => Err(Fault::Malformed(member, MemberFault::Missing)),
+            Presence::NoObject => Err(Fault::Malformed(container, MemberFault::NoObject)),
             Presence::Object => Ok(()),
         }
     }

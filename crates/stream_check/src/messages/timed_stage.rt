@@ -1,11 +1,18 @@
-//! What becomes of a step.
+//! The stages of a step or a provisioner.
 
 ghost use Rattle.std.specs.Prelude.{◌≡◌};
 ghost use Rattle.stream_check.specs.Message.{timed_stage_of};
 
-use crate::messages::stage::Stage;
+/// A stage of a provisioner, or of a step without its seconds.
+#[derive(Clone, Copy)]
+pub enum Stage {
+    Start,
+    Progress,
+    Complete,
+    Errored,
+}
 
-/// What a message says of a step, with the seconds since its start.
+/// A stage of a step, with the seconds since its start.
 #[derive(Clone, Copy)]
 pub enum TimedStage {
     Start,
@@ -15,7 +22,7 @@ pub enum TimedStage {
 }
 
 impl TimedStage {
-    /// That part of a step, after so many seconds; a start has none.
+    /// The stage with its seconds. A start has none.
     pub fn of(stage: Stage, seconds: u64) -> TimedStage
         ensures { result ≡ timed_stage_of stage seconds }
     {

@@ -1,14 +1,14 @@
-//! How much was done.
+//! Counts creates, updates and deletes.
 
 ghost use Rattle.std.specs.Prelude.{◌≡◌, ◌<◌, ◌^◌};
-ghost use Rattle.stream_check.specs.Counted.{begun_counted, counted, foretold, one_more};
+ghost use Rattle.stream_check.specs.Counted.{begun_counted, counted, planned_counted, with_one};
 ghost use Rattle.stream_check.specs.Tally.{same_totals, share_of};
 
 use crate::messages::action::Action;
 use crate::messages::intent::Intent;
 use crate::messages::timed_stage::TimedStage;
 
-/// How many creates, updates and deletes there were; a replacement counts as a delete and a create.
+/// How many creates, updates and deletes there are. A replacement counts as a delete and a create.
 #[derive(Clone, Copy, Debug, PartialEq, Eq)]
 pub struct Totals {
     pub added: u64,
@@ -17,7 +17,7 @@ pub struct Totals {
 }
 
 impl Totals {
-    /// Nothing was done.
+    /// No create, update or delete.
     pub const NONE: Totals = Totals {
         added: 0,
         changed: 0,
@@ -25,12 +25,12 @@ impl Totals {
     };
 }
 
-/// The totals with one of the action more; reads and refreshes are not counted.
-fn one_more(totals: Totals, action: Action) -> Totals
+/// Counts one more step of the action. Reads and refreshes are not counted.
+fn with_one(totals: Totals, action: Action) -> Totals
     requires added { totals.added < 2 ^ 63 }
     requires changed { totals.changed < 2 ^ 63 }
     requires removed { totals.removed < 2 ^ 63 }
-    ensures { result ≡ one_more action totals }
+    ensures { result ≡ with_one action totals }
 {
     let mut new = totals;
     match action {
@@ -42,7 +42,7 @@ fn one_more(totals: Totals, action: Action) -> Totals
     new
 }
 
-/// The totals of what was completed, after a message about a step.
+/// The totals of completed steps, after a message about a step.
 pub fn counted(totals: Totals, action: Action, stage: TimedStage) -> Totals
     requires added { totals.added < 2 ^ 63 }
     requires changed { totals.changed < 2 ^ 63 }
@@ -50,12 +50,12 @@ pub fn counted(totals: Totals, action: Action, stage: TimedStage) -> Totals
     ensures { result ≡ counted action stage totals }
 {
     match stage {
-        TimedStage::Complete(_) => one_more(totals, action),
+        TimedStage::Complete(_) => with_one(totals, action),
         TimedStage::Start | TimedStage::Progress(_) | TimedStage::Errored(_) => totals,
     }
 }
 
-/// The totals of what has begun, after a message about a step.
+/// The totals of started steps, after a message about a step.
 pub fn begun_counted(totals: Totals, action: Action, stage: TimedStage) -> Totals
     requires added { totals.added < 2 ^ 63 }
     requires changed { totals.changed < 2 ^ 63 }
@@ -63,17 +63,17 @@ pub fn begun_counted(totals: Totals, action: Action, stage: TimedStage) -> Total
     ensures { result ≡ begun_counted action stage totals }
 {
     match stage {
-        TimedStage::Start => one_more(totals, action),
+        TimedStage::Start => with_one(totals, action),
         TimedStage::Progress(_) | TimedStage::Complete(_) | TimedStage::Errored(_) => totals,
     }
 }
 
-/// The totals with one planned change more.
-pub fn foretold(totals: Totals, intent: Intent) -> Totals
+/// The totals of planned changes, after one more planned change.
+pub fn planned_counted(totals: Totals, intent: Intent) -> Totals
     requires added { totals.added < 2 ^ 63 }
     requires changed { totals.changed < 2 ^ 63 }
     requires removed { totals.removed < 2 ^ 63 }
-    ensures { result ≡ foretold intent totals }
+    ensures { result ≡ planned_counted intent totals }
 {
     let mut new = totals;
     match intent {
@@ -89,14 +89,16 @@ pub fn foretold(totals: Totals, intent: Intent) -> Totals
     new
 }
 
-/// Whether the totals are the same.
-pub fn agree(said: Totals, found: Totals) -> bool
-    ensures { result ≡ same_totals said found }
+/// Whether both totals agree.
+pub fn agree(stated: Totals, actual: Totals) -> bool
+    ensures { result ≡ same_totals stated actual }
 {
-    said.added == found.added && said.changed == found.changed && said.removed == found.removed
+    stated.added == actual.added
+        && stated.changed == actual.changed
+        && stated.removed == actual.removed
 }
 
-/// How many of the action there are; `None` of reads and refreshes, which are not counted.
+/// The count of the action. Reads and refreshes have none.
 pub fn share_of(action: Action, totals: Totals) -> Option<u64>
     ensures { result ≡ share_of action totals }
 {

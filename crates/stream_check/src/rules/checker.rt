@@ -1,10 +1,10 @@
-//! A checker of the lines of a stream.
+//! Checks a stream line by line.
 
 ghost use Rattle.std.specs.Prelude.{◌≡◌, ◌<◌, ◌^◌, ◌↔◌, List, [], false};
 ghost use Rattle.std.specs.List.{list_any};
 ghost use Rattle.stream_check.specs.Small.{IsSmall};
 
-use crate::lines::found::piece_of;
+use crate::located::piece_of;
 use crate::messages::line_slots::message_in;
 use crate::rules::fault::Fault;
 use crate::rules::limits::{MAX_BYTES, MAX_LINES};
@@ -14,13 +14,14 @@ use crate::rules::tally::Tally;
 use apply_json::Scratch;
 use std::alloc::{AllocError, Global};
 
-/// What is needed of the lines so far: it grows only with the number of addresses at which something stands open, and
-/// with the longest line.
+/// The state of a check. It grows only with the number of addresses at which something stands open,
+/// and with the longest line.
 #[derive(Drop)]
 pub struct Checker {
     pub(crate) tally: Tally,
     pub(crate) pending: OpenSteps,
-    // Kept from line to line, so that reading one takes no memory of its own. It is boxed, since a line takes it out.
+    // Stored between lines, so that a line needs no memory of its own. It is boxed because reading
+    // a line takes it out.
     scratch: Option<Box<Scratch>>,
     ghost small: { IsSmall tally },
 }
@@ -28,10 +29,10 @@ pub struct Checker {
 impl Checker {
     ghost use Rattle.stream_check.specs.Checking.{Continues, HasRead, lines_read};
     ghost use Rattle.stream_check.specs.Lines.{next, passed_of, read_line, read_text};
-    ghost use Rattle.stream_check.specs.Message.{Message as said, foreign};
+    ghost use Rattle.stream_check.specs.Message.{Message as message_type, foreign};
     ghost use Rattle.stream_check.specs.Tally.{is_error};
 
-    /// No line was read.
+    /// A checker that has read no line.
     pub fn new(alloc: Global) -> Self
         ensures { HasRead result [] }
     {
@@ -42,8 +43,9 @@ impl Checker {
         }
     }
 
-    /// Takes the next line, without its line feed; of a line of a log, the message that is found in it. An `Err` says its
-    /// first fault, and the checker stands where it stood.
+    /// Checks the next line, without its line feed. In a log, the message is located in the line
+    /// first. `Err` with the first fault of the line, or with `Fault::Memory`: the checker is
+    /// unchanged then.
     pub fn line(&mut self, alloc: Global, mode: Mode, text: &[u8]) -> Result<(), Fault>
         requires { lines_read self.old < 2 ^ 32 }
         ensures { Continues self.old self.new (λ messages. read_line mode.find messages text.now) result }
@@ -58,7 +60,7 @@ impl Checker {
         }
     }
 
-    /// Takes a line of a log in which no message begins.
+    /// Counts a line of a log that holds no message. The result is always `Ok`.
     fn foreign(&mut self) -> Result<(), Fault>
         requires { lines_read self.old < 2 ^ 32 }
         ensures { Continues self.old self.new (λ messages. next messages foreign) result }
@@ -67,19 +69,19 @@ impl Checker {
         Ok(())
     }
 
-    /// Takes the text of a message.
+    /// Checks the text of a message. `Err` as for `line`.
     fn text(&mut self, alloc: Global, find: bool, text: &[u8]) -> Result<(), Fault>
         requires { lines_read self.old < 2 ^ 32 }
         ensures { Continues self.old self.new (λ messages. read_text find messages text.now) result }
     {
         // The message borrows from the scratch while the checker changes.
-        let mut scratch = taken(alloc, &mut self.scratch)?;
+        let mut scratch = take_scratch(alloc, &mut self.scratch)?;
         let answer = self.text_with(alloc, &mut *scratch, find, text);
         self.scratch = Some(scratch);
         answer
     }
 
-    /// Does what `text` does, with a scratch of its own.
+    /// Does what `text` does, with a scratch that is no part of the checker. `Err` as for `line`.
     fn text_with(
         &mut self,
         alloc: Global,
@@ -96,14 +98,14 @@ impl Checker {
         }
     }
 
-    /// The number of lines that were taken.
+    /// How many lines were accepted.
     pub fn count(&self) -> u64
         ensures { result ≡ lines_read self.now }
     {
         self.tally.lines
     }
 
-    /// Whether no further line is taken.
+    /// Whether the greatest number of lines is reached.
     pub fn is_full(&self) -> bool
         ensures { result ≡ false ↔ lines_read self.now < 2 ^ 32 }
     {
@@ -112,14 +114,14 @@ impl Checker {
 
     /// Whether a diagnostic with severity `error` was read.
     pub fn has_failed(&self) -> bool
-        ensures { (messages : List said) → HasRead self.now messages → result ≡ list_any is_error messages }
+        ensures { (messages : List message_type) → HasRead self.now messages → result ≡ list_any is_error messages }
     {
         self.tally.has_failed
     }
 
-    /// How many lines were passed over, where they may be.
+    /// How many lines were ignored, where `find` asks for that.
     pub fn passed(&self, mode: Mode) -> Option<u64>
-        ensures { (messages : List said) → HasRead self.now messages → result ≡ passed_of mode messages }
+        ensures { (messages : List message_type) → HasRead self.now messages → result ≡ passed_of mode messages }
     {
         if mode.find {
             Some(self.tally.foreign)
@@ -129,9 +131,12 @@ impl Checker {
     }
 }
 
-/// Takes the scratch that is kept, or makes one.
-fn taken(alloc: Global, kept: &mut Option<Box<Scratch>>) -> Result<Box<Scratch>, AllocError> {
-    match kept.take() {
+/// Takes the stored scratch, or makes one. `Err` where memory is refused.
+fn take_scratch(
+    alloc: Global,
+    stored: &mut Option<Box<Scratch>>,
+) -> Result<Box<Scratch>, AllocError> {
+    match stored.take() {
         Some(scratch) => Ok(scratch),
         None => Ok(Box::new(alloc, Scratch::new(alloc))?),
     }

@@ -1,11 +1,11 @@
-//! What a checker says of the end of a stream, and of what stands open there or where a summary comes.
+//! The end of a stream, and what stands open there or at a summary.
 
 ghost use Rattle.std.specs.Prelude.{◌≡◌, List, not, nat_lt, IfOk};
 
 use crate::messages::totals::Totals;
+use crate::rules::address_state::OpenCriteria;
 use crate::rules::checker::Checker;
 use crate::rules::fault::Fault;
-use crate::rules::matters::Matters;
 use crate::rules::mode::Mode;
 use crate::rules::open_entry::OpenEntry;
 use crate::verdict::whole::Whole;
@@ -14,38 +14,39 @@ use std::alloc::{AllocError, Global};
 impl Checker {
     ghost use Rattle.stream_check.specs.Checking.{HasRead};
     ghost use Rattle.stream_check.specs.Lines.{end_of, whole_with};
-    ghost use Rattle.stream_check.specs.Message.{Message as said};
+    ghost use Rattle.stream_check.specs.Message.{Message as message_type};
     ghost use Rattle.stream_check.specs.Open.{any_open};
     ghost use Rattle.stream_check.specs.Unended.{AreAllOpen};
 
-    /// Whether a refresh that stands open matters, and whether failures that are left do.
-    fn matters(&self) -> Matters
+    /// What counts as open after the lines so far.
+    fn criteria(&self) -> OpenCriteria
         ensures refreshes { result.refreshes ≡ not self.now.tally.has_failed }
-        ensures failures { result.failures ≡ nat_lt self.now.tally.errors_alone self.now.tally.failures }
+        ensures failures { result.failures ≡ nat_lt self.now.tally.errors_without_address self.now.tally.failures }
     {
-        Matters {
+        OpenCriteria {
             refreshes: !self.tally.has_failed,
-            failures: self.tally.errors_alone < self.tally.failures,
+            failures: self.tally.errors_without_address < self.tally.failures,
         }
     }
 
     /// Whether something stands open.
     pub(crate) fn is_open(&self) -> bool
-        ensures { (messages : List said) → HasRead self.now messages → result ≡ any_open messages }
+        ensures { (messages : List message_type) → HasRead self.now messages → result ≡ any_open messages }
     {
-        self.pending.has_open(self.matters())
+        self.pending.has_open(self.criteria())
     }
 
-    /// All that stands open: the addresses in the order of their bytes, and at each its kinds in theirs.
+    /// Returns all that stands open: addresses in the order of their bytes, and the kinds of each
+    /// in the order of `OpenKind`. `Err` where memory is refused.
     pub fn open_entries(&self, alloc: Global) -> Result<Vec<OpenEntry<'_>>, AllocError>
-        ensures { IfOk result (λ entries. (messages : List said) → HasRead self.now messages → AreAllOpen messages entries.items) }
+        ensures { IfOk result (λ entries. (messages : List message_type) → HasRead self.now messages → AreAllOpen messages entries.items) }
     {
-        self.pending.open_entries(alloc, self.matters())
+        self.pending.open_entries(alloc, self.criteria())
     }
 
-    /// The end of the stream: what it tells, or what is wrong with it.
+    /// Returns the verdict on a stream that ends here. `Err` with the fault of the end.
     pub fn end(&self, mode: Mode) -> Result<Whole, Fault>
-        ensures { (messages : List said) → HasRead self.now messages → result ≡ end_of mode messages }
+        ensures { (messages : List message_type) → HasRead self.now messages → result ≡ end_of mode messages }
     {
         if self.is_open() {
             return Err(Fault::Unended);
@@ -59,9 +60,9 @@ impl Checker {
         Err(self.tally.why_no_end())
     }
 
-    /// What the lines tell, with those totals.
+    /// The verdict on a whole stream with these totals.
     fn whole(&self, mode: Mode, is_plan: bool, totals: Totals) -> Whole
-        ensures { (messages : List said) → HasRead self.now messages → result ≡ whole_with mode is_plan totals messages }
+        ensures { (messages : List message_type) → HasRead self.now messages → result ≡ whole_with mode is_plan totals messages }
     {
         Whole {
             totals,

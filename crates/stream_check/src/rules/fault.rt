@@ -1,71 +1,72 @@
 //! What is wrong with a line, or with the end of a stream.
 
 ghost use Rattle.std.specs.Prelude.{◌≡◌};
-ghost use Rattle.stream_check.specs.Faults.{other_of, tells_object, word_of};
+ghost use Rattle.stream_check.specs.Faults.{other_of, reports_object, word_of};
 ghost use Rattle.stream_check.specs.declared.rules.fault.Fault.TheVariants.{Memory};
 
-use crate::messages::lack::Lack;
+use crate::messages::member_fault::MemberFault;
 use crate::messages::path::Path;
 use crate::messages::totals::Totals;
 use std::alloc::{AllocError, AllocFailed};
 use std::error::Error;
 use std::fmt;
 
-/// Why a line does not fit behind the lines before it. The variants are tested in this order.
+/// Why a line does not fit the lines before it. The variants are tested in this order.
 #[derive(Clone, Copy, Drop, PartialEq, Eq)]
 pub enum Fault {
     /// The line has more than 67,108,864 bytes.
     TooLong,
-    /// The line, or the message that begins in a line of a log, is no JSON (RFC 8259), or nested more than 127 deep.
+    /// The line, or the message located in a line of a log, is no JSON (RFC 8259), or nests more
+    /// than 127 deep.
     NotJson,
     /// The line is no JSON object with a text `type`.
     NoType,
-    /// A member that its type has is missing, or is not what it has to be.
-    Malformed(Path, Lack),
+    /// A member that the type needs is missing, or has another type.
+    Malformed(Path, MemberFault),
     /// The first message is not `version`.
     NoVersion,
-    /// `version` stands a second time, behind that line.
+    /// A second `version`. The first one stands on that line.
     VersionAgain(u64),
-    /// A message about a step or a plan, or a summary, behind the summary of that line.
+    /// A message about a step or a plan, or a summary, after the summary on that line.
     AfterSummary(u64),
-    /// The summary of a plan stands a second time, behind that line.
+    /// A second summary of a plan. The first one stands on that line.
     PlanAgain(u64),
-    /// Outputs where no summary came, or outputs came since.
+    /// Outputs that follow no summary, or follow other outputs of the same summary.
     OutputsAlone,
-    /// A step starts that began on that line and has not ended.
+    /// A step starts that started on that line and has not ended.
     StartsAgain(u64),
-    /// Too many steps of one address overlap; the first of them began on that line.
+    /// Too many steps of one address overlap. The first of them started on that line.
     TooMany(u64),
-    /// A step starts, and as many of its kind as were planned have begun.
+    /// More steps of this action start than were planned.
     NotPlanned,
-    /// A message about a step that does not stand open.
+    /// A message about a step that is not open.
     NotOpen,
-    /// The seconds of a step do not rise: those of that line are not less.
+    /// The seconds of a step do not rise. The seconds on that line are not less.
     NotLater(u64),
-    /// An end leaves a provisioner that began on that line behind.
+    /// A step ends while its provisioner runs, which started on that line.
     LeavesProvisioner(u64),
-    /// A message about a provisioner where no create or delete of its address stands open.
+    /// A message about a provisioner outside of a create or a delete of its address.
     NoStep,
-    /// A provisioner starts where one that began on that line runs.
+    /// A provisioner starts while another one runs, which started on that line.
     ProvisionerRuns(u64),
     /// A message about a provisioner that does not run.
     NoProvisioner,
-    /// A step or a provisioner has not ended where it has to, or no error explained a failure.
+    /// Something stands open at a summary or at the end.
     Unended,
-    /// The summary says the first totals, and the lines have the second.
+    /// The summary states the first totals, but the lines have the second.
     WrongTotals(Totals, Totals),
-    /// The summary of a plan says the first totals, and the second were planned.
+    /// The summary of a plan states the first totals, but the second were planned.
     WrongPlanTotals(Totals, Totals),
     /// The stream ends without a summary and without an error.
     NoEnd,
-    /// The stream ends behind the summary of a plan, as that of a plan does.
+    /// The stream ends with the summary of a plan, as the stream of a plan does.
     NoApply,
     /// Memory was refused.
     Memory,
 }
 
 impl Fault {
-    /// The fault in a word, for programs.
+    /// The word for the fault, for programs.
     pub fn word(self) -> &'static str
         ensures { result.now ≡ word_of self }
     {
@@ -94,9 +95,9 @@ impl Fault {
         }
     }
 
-    /// Whether it is told what the message of the faulty line is about.
-    pub fn is_about_its_line(self) -> bool
-        ensures { result ≡ tells_object self }
+    /// Whether the report names what the faulty line is about.
+    pub fn reports_object(self) -> bool
+        ensures { result ≡ reports_object self }
     {
         match self {
             Fault::TooLong
@@ -113,7 +114,7 @@ impl Fault {
         }
     }
 
-    /// The line that the faulty one contradicts, counted from 1, where the fault names one.
+    /// The line that the faulty one contradicts, counted from 1.
     pub fn other(self) -> Option<u64>
         ensures { result ≡ other_of self }
     {
@@ -130,7 +131,7 @@ impl Fault {
         }
     }
 
-    /// The text of the fault, up to the first thing that it names.
+    /// The text of the fault, up to the line or member that it names.
     fn text(self) -> &'static str {
         match self {
             Fault::TooLong => "is longer than 67108864 bytes",
@@ -159,8 +160,8 @@ impl Fault {
         }
     }
 
-    /// The text of the fault behind the line that it names.
-    fn text_behind(self) -> &'static str {
+    /// The text of the fault after the line that it names.
+    fn text_after_line(self) -> &'static str {
         match self {
             Fault::StartsAgain(_) => " started",
             Fault::LeavesProvisioner(_) => " runs in",
@@ -170,14 +171,14 @@ impl Fault {
     }
 }
 
-// By hand: a derived one is proved with a way out for each text.
+// A derived implementation would be proved with one return for each text.
 impl fmt::Display for Fault {
     fn fmt<W: fmt::Write>(&self, f: &mut fmt::Formatter<W>) -> fmt::Result {
         f.write_str(self.text())?;
         match *self {
-            Fault::Malformed(path, lack) => write!(f, "{path} {lack}"),
+            Fault::Malformed(path, member_fault) => write!(f, "{path} {member_fault}"),
             _ => match self.other() {
-                Some(line) => write!(f, "{line}{}", self.text_behind()),
+                Some(line) => write!(f, "{line}{}", self.text_after_line()),
                 None => Ok(()),
             },
         }

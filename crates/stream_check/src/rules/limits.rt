@@ -1,4 +1,4 @@
-//! How much is read.
+//! Limits of reading.
 
 pub use stream_lines::MAX_BYTES;
 

@@ -1,4 +1,5 @@
-//! What a checker makes of one message after another.
+//! Checks one message after another. Each `Err` is the fault of the message, or `Fault::Memory`.
+//! The checker is unchanged then.
 
 ghost use Rattle.std.specs.Prelude.{◌≡◌, ◌<◌, ◌^◌, Some, true, false};
 ghost use Rattle.std.specs.Option.{option_copied};
@@ -7,22 +8,20 @@ ghost use Rattle.stream_check.specs.Tally.{failure_count};
 use crate::messages::action::Action;
 use crate::messages::intent::Intent;
 use crate::messages::message::Message;
-use crate::messages::stage::Stage;
-use crate::messages::timed_stage::TimedStage;
+use crate::messages::timed_stage::{Stage, TimedStage};
 use crate::messages::totals::{Totals, agree};
+use crate::rules::address_state::{Failures, failures_cleared, provision_on, step_on};
 use crate::rules::checker::Checker;
-use crate::rules::failures::Failures;
 use crate::rules::fault::Fault;
-use crate::rules::standing::{explained, provision_on, step_on};
 use std::alloc::Global;
 
 impl Checker {
     ghost use Rattle.stream_check.specs.Checking.{Continues, lines_read};
-    ghost use Rattle.stream_check.specs.Lines.{as_first, behind, next};
+    ghost use Rattle.stream_check.specs.Lines.{as_first, after_version, next};
     ghost use Rattle.stream_check.specs.Message.{step, provision, planned, plan_summary, summary, diagnostic, outputs};
     ghost use Rattle.stream_check.specs.MessageView.{message_view};
 
-    /// Takes a message.
+    /// Checks a message.
     pub(crate) fn message(&mut self, alloc: Global, message: Message<'_>) -> Result<(), Fault>
         requires { lines_read self.old < 2 ^ 32 }
         ensures { Continues self.old self.new (λ messages. next messages (message_view message.entry)) result }
@@ -54,7 +53,7 @@ impl Checker {
         }
     }
 
-    /// Takes a message before the version.
+    /// Checks a message before the version.
     fn first(&mut self, message: Message<'_>) -> Result<(), Fault>
         requires { lines_read self.old < 2 ^ 32 }
         ensures { Continues self.old self.new (λ messages. as_first messages (message_view message.entry)) result }
@@ -72,7 +71,7 @@ impl Checker {
         }
     }
 
-    /// Takes a message about a step.
+    /// Checks a message about a step.
     fn step(
         &mut self,
         alloc: Global,
@@ -81,25 +80,25 @@ impl Checker {
         stage: TimedStage,
     ) -> Result<(), Fault>
         requires { lines_read self.old < 2 ^ 32 }
-        ensures { Continues self.old self.new (λ messages. behind messages 0 (step address.now action stage)) result }
+        ensures { Continues self.old self.new (λ messages. after_version messages 0 (step address.now action stage)) result }
     {
         match stage {
             TimedStage::Progress(seconds) => self.progress(address, action, seconds),
-            _ => self.turn(alloc, address, action, stage),
+            _ => self.start_or_end(alloc, address, action, stage),
         }
     }
 
-    /// Takes progress of a step.
+    /// Checks a progress of a step.
     fn progress(&mut self, address: &str, action: Action, seconds: u64) -> Result<(), Fault>
         requires { lines_read self.old < 2 ^ 32 }
-        ensures { Continues self.old self.new (λ messages. behind messages 0 (step address.now action (TimedStage.Progress seconds))) result }
+        ensures { Continues self.old self.new (λ messages. after_version messages 0 (step address.now action (TimedStage.Progress seconds))) result }
     {
         if let Some(line) = self.tally.summary {
             return Err(Fault::AfterSummary(line));
         }
         match self
             .pending
-            .tell(address, action, seconds, self.tally.lines + 1)
+            .note_progress(address, action, seconds, self.tally.lines + 1)
         {
             Ok(()) => {
                 self.tally = self.tally.with_line();
@@ -109,8 +108,8 @@ impl Checker {
         }
     }
 
-    /// Takes the start or the end of a step.
-    fn turn(
+    /// Checks the start or the end of a step.
+    fn start_or_end(
         &mut self,
         alloc: Global,
         address: &str,
@@ -118,53 +117,53 @@ impl Checker {
         stage: TimedStage,
     ) -> Result<(), Fault>
         requires { lines_read self.old < 2 ^ 32 }
-        ensures { Continues self.old self.new (λ messages. behind messages 0 (step address.now action stage)) result }
+        ensures { Continues self.old self.new (λ messages. after_version messages 0 (step address.now action stage)) result }
     {
         if let Some(line) = self.tally.summary {
             return Err(Fault::AfterSummary(line));
         }
-        let standing = match step_on(
+        let state = match step_on(
             action,
             stage,
             self.tally.lines + 1,
             self.pending.at(address),
         ) {
-            Ok(standing) => standing,
+            Ok(state) => state,
             Err(fault) => return Err(fault),
         };
         if self.tally.is_beyond(action, stage) {
             return Err(Fault::NotPlanned);
         }
-        let Ok(()) = self.pending.set(alloc, address, standing) else {
+        let Ok(()) = self.pending.set(alloc, address, state) else {
             return Err(Fault::Memory);
         };
         self.tally = self.tally.with_step(action, stage);
         Ok(())
     }
 
-    /// Takes a message about a provisioner.
+    /// Checks a message about a provisioner.
     fn provision(&mut self, alloc: Global, address: &str, stage: Stage) -> Result<(), Fault>
         requires { lines_read self.old < 2 ^ 32 }
-        ensures { Continues self.old self.new (λ messages. behind messages 0 (provision address.now stage)) result }
+        ensures { Continues self.old self.new (λ messages. after_version messages 0 (provision address.now stage)) result }
     {
         if let Some(line) = self.tally.summary {
             return Err(Fault::AfterSummary(line));
         }
-        let standing = match provision_on(stage, self.tally.lines + 1, self.pending.at(address)) {
-            Ok(standing) => standing,
+        let state = match provision_on(stage, self.tally.lines + 1, self.pending.at(address)) {
+            Ok(state) => state,
             Err(fault) => return Err(fault),
         };
-        let Ok(()) = self.pending.set(alloc, address, standing) else {
+        let Ok(()) = self.pending.set(alloc, address, state) else {
             return Err(Fault::Memory);
         };
         self.tally = self.tally.with_line();
         Ok(())
     }
 
-    /// Takes a planned change.
+    /// Checks a planned change.
     fn plan(&mut self, intent: Intent) -> Result<(), Fault>
         requires { lines_read self.old < 2 ^ 32 }
-        ensures { Continues self.old self.new (λ messages. behind messages 0 (planned intent)) result }
+        ensures { Continues self.old self.new (λ messages. after_version messages 0 (planned intent)) result }
     {
         if let Some(line) = self.tally.summary {
             return Err(Fault::AfterSummary(line));
@@ -173,10 +172,10 @@ impl Checker {
         Ok(())
     }
 
-    /// Takes the summary of a plan.
+    /// Checks the summary of a plan.
     fn plan_summary(&mut self, totals: Totals) -> Result<(), Fault>
         requires { lines_read self.old < 2 ^ 32 }
-        ensures { Continues self.old self.new (λ messages. behind messages 0 (plan_summary totals)) result }
+        ensures { Continues self.old self.new (λ messages. after_version messages 0 (plan_summary totals)) result }
     {
         if let Some(line) = self.tally.summary {
             return Err(Fault::AfterSummary(line));
@@ -191,10 +190,10 @@ impl Checker {
         Ok(())
     }
 
-    /// Takes a summary.
+    /// Checks the summary of an apply.
     fn summary(&mut self, totals: Totals) -> Result<(), Fault>
         requires { lines_read self.old < 2 ^ 32 }
-        ensures { Continues self.old self.new (λ messages. behind messages 0 (summary totals)) result }
+        ensures { Continues self.old self.new (λ messages. after_version messages 0 (summary totals)) result }
     {
         if let Some(line) = self.tally.summary {
             return Err(Fault::AfterSummary(line));
@@ -209,10 +208,10 @@ impl Checker {
         Ok(())
     }
 
-    /// Takes outputs.
+    /// Checks outputs.
     fn outputs(&mut self) -> Result<(), Fault>
         requires { lines_read self.old < 2 ^ 32 }
-        ensures { Continues self.old self.new (λ messages. behind messages 0 outputs) result }
+        ensures { Continues self.old self.new (λ messages. after_version messages 0 outputs) result }
     {
         if self.tally.awaits_outputs {
             self.tally = self.tally.with_outputs();
@@ -222,7 +221,7 @@ impl Checker {
         }
     }
 
-    /// Takes a diagnostic.
+    /// Checks a diagnostic.
     fn diagnostic(
         &mut self,
         alloc: Global,
@@ -230,7 +229,7 @@ impl Checker {
         address: Option<&str>,
     ) -> Result<(), Fault>
         requires { lines_read self.old < 2 ^ 32 }
-        ensures { Continues self.old self.new (λ messages. behind messages 0 (diagnostic is_error (option_copied address.entry))) result }
+        ensures { Continues self.old self.new (λ messages. after_version messages 0 (diagnostic is_error (option_copied address.entry))) result }
     {
         if !is_error {
             return self.warning(address);
@@ -244,25 +243,28 @@ impl Checker {
         }
     }
 
-    /// Takes a diagnostic that is no error.
+    /// Accepts a diagnostic that is no error.
     fn warning(&mut self, address: Option<&str>) -> Result<(), Fault>
         requires { lines_read self.old < 2 ^ 32 }
-        ensures { Continues self.old self.new (λ messages. behind messages 0 (diagnostic false (option_copied address.entry))) result }
+        ensures { Continues self.old self.new (λ messages. after_version messages 0 (diagnostic false (option_copied address.entry))) result }
     {
         self.tally = self.tally.with_line();
         Ok(())
     }
 
-    /// Takes an error that names an address.
+    /// Checks an error that names an address: it explains the failures there.
     fn error_at(&mut self, alloc: Global, address: &str) -> Result<(), Fault>
         requires { lines_read self.old < 2 ^ 32 }
-        ensures { Continues self.old self.new (λ messages. behind messages 0 (diagnostic true (Some address.now))) result }
+        ensures { Continues self.old self.new (λ messages. after_version messages 0 (diagnostic true (Some address.now))) result }
     {
-        let standing = self.pending.at(address);
-        let Ok(()) = self.pending.set(alloc, address, explained(true, standing)) else {
+        let state = self.pending.at(address);
+        let Ok(()) = self
+            .pending
+            .set(alloc, address, failures_cleared(true, state))
+        else {
             return Err(Fault::Memory);
         };
-        let count = failure_count(standing.failures);
+        let count = failure_count(state.failures);
         self.tally = self.tally.with_error_at(count);
         Ok(())
     }

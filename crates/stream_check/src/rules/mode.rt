@@ -1,16 +1,17 @@
-//! What a stream is judged as.
+//! Which streams are accepted.
 
-/// What a stream is judged as.
+/// Which streams are accepted.
 #[derive(Clone, Copy)]
 pub struct Mode {
-    /// The lines are those of a log, in which messages are to be found; lines without one are passed over.
+    /// The lines are those of a log. Messages are located in them, and lines without a message are
+    /// ignored.
     pub find: bool,
-    /// A stream of a plan, which ends with the plan's summary, is whole too.
+    /// The stream of a plan is accepted too. It ends with the summary of the plan.
     pub plan: bool,
 }
 
 impl Mode {
-    /// Each line is a message, and the stream is that of an apply.
+    /// Each line is a message, and only the stream of an apply is accepted.
     pub const PLAIN: Mode = Mode {
         find: false,
         plan: false,

@@ -1,4 +1,4 @@
-//! The steps that stand open, by address.
+//! What stands open, by address.
 
 ghost use Rattle.std.specs.Prelude.{◌≡◌, ◌∷◌, ◌++◌, [], ℕ, List, map, true, false, IfErr, IfOk, OnOk, OnErr, None, unwrap_or, if◌then◌else◌};
 ghost use Rattle.std.specs.BTreeMap.{get_by_text};
@@ -9,160 +9,161 @@ ghost use Rattle.std.specs.Ordering.{nat_cmp};
 ghost use Rattle.std.specs.Str.{bytes_eq};
 ghost use Rattle.stream_check.specs.Addresses.{addresses_in};
 ghost use Rattle.stream_check.specs.Open.{stands_open};
-ghost use Rattle.stream_check.specs.Standing.{idle, step_on, unless_idle};
-ghost use Rattle.stream_check.specs.Unended.{open_failures, open_step, opened, opens_of, where_so};
+ghost use Rattle.stream_check.specs.AddressState.{idle, step_on, unless_idle};
+ghost use Rattle.stream_check.specs.Unended.{open_failures, open_step, opened, opens_of, if_required};
 ghost use Rattle.stream_check.specs.declared.messages.timed_stage.TimedStage.TheVariants.{Progress};
 
 use crate::messages::action::Action;
-use crate::rules::failures::Failures;
+use crate::rules::address_state::{
+    AddressState, Failures, OpenCriteria, idle, is_idle, note_progress, stands_open,
+};
 use crate::rules::fault::Fault;
-use crate::rules::matters::Matters;
-use crate::rules::open_entry::OpenEntry;
-use crate::rules::open_kind::OpenKind;
+use crate::rules::open_entry::{OpenEntry, OpenKind};
 use crate::rules::pending::Pending;
-use crate::rules::standing::{Standing, nothing, nothing_open, stands_open, tell};
 use std::alloc::{AllocError, Global};
 use std::collections::BTreeMap;
 
-/// For each address at which something stands open, what does.
+/// The state of each address at which something stands open.
 #[derive(Drop)]
 pub struct OpenSteps {
-    pub standings: BTreeMap<String, Standing>,
+    pub states: BTreeMap<String, AddressState>,
 }
 
 impl OpenSteps {
-    /// Nothing stands open.
+    /// No address at which something stands open.
     pub fn new(alloc: Global) -> Self
-        ensures { (address : List ℕ) → get_by_text result.standings address ≡ None }
+        ensures { (address : List ℕ) → get_by_text result.states address ≡ None }
     {
         OpenSteps {
-            standings: BTreeMap::new(alloc),
+            states: BTreeMap::new(alloc),
         }
     }
 
-    /// What stands open at the address.
-    pub fn at(&self, address: &str) -> Standing
-        ensures { result ≡ unwrap_or (get_by_text self.now.standings address.now) idle }
+    /// Returns the state of the address.
+    pub fn at(&self, address: &str) -> AddressState
+        ensures { result ≡ unwrap_or (get_by_text self.now.states address.now) idle }
     {
-        match self.standings.get(address) {
-            Some(standing) => *standing,
-            None => nothing(),
+        match self.states.get(address) {
+            Some(state) => *state,
+            None => idle(),
         }
     }
 
-    /// Sets what stands open at the address. An `Err` changes nothing.
+    /// Sets the state of the address. `Err` where memory is refused: nothing is changed then.
     pub fn set(
         &mut self,
         alloc: Global,
         address: &str,
-        standing: Standing,
+        state: AddressState,
     ) -> Result<(), AllocError>
-        ensures ok { OnOk result ((other : List ℕ) → get_by_text self.new.standings other
-            ≡ (if bytes_eq address.now other then unless_idle standing else get_by_text self.old.standings other)) }
-        ensures err { OnErr result ((other : List ℕ) → get_by_text self.new.standings other ≡ get_by_text self.old.standings other) }
+        ensures ok { OnOk result ((other : List ℕ) → get_by_text self.new.states other
+            ≡ (if bytes_eq address.now other then unless_idle state else get_by_text self.old.states other)) }
+        ensures err { OnErr result ((other : List ℕ) → get_by_text self.new.states other ≡ get_by_text self.old.states other) }
     {
-        if nothing_open(&standing) {
-            let _ = self.standings.remove(address);
-        } else if let Some(kept) = self.standings.get_mut(address) {
-            *kept = standing;
+        if is_idle(&state) {
+            let _ = self.states.remove(address);
+        } else if let Some(kept) = self.states.get_mut(address) {
+            *kept = state;
         } else {
             let key = String::from_str(alloc, address)?;
-            self.standings.insert(key, standing)?;
+            self.states.insert(key, state)?;
         }
         Ok(())
     }
 
-    /// Takes progress of the action at the address on that line: so many seconds. An `Err` changes nothing.
-    pub fn tell(
+    /// Changes the state of the address by a progress on that line. `Err` with the fault of the
+    /// message: nothing is changed then.
+    pub fn note_progress(
         &mut self,
         address: &str,
         action: Action,
         seconds: u64,
         line: u64,
     ) -> Result<(), Fault>
-        ensures ok { OnOk result ((standing : Standing)
-            × (step_on action (Progress seconds) line (unwrap_or (get_by_text self.old.standings address.now) idle) ≡ Ok standing)
-            × ((other : List ℕ) → get_by_text self.new.standings other
-            ≡ (if bytes_eq address.now other then unless_idle standing else get_by_text self.old.standings other))) }
-        ensures err { IfErr result (λ fault. (step_on action (Progress seconds) line (unwrap_or (get_by_text self.old.standings address.now) idle) ≡ Err fault)
-            × ((other : List ℕ) → get_by_text self.new.standings other ≡ get_by_text self.old.standings other)) }
+        ensures ok { OnOk result ((state : AddressState)
+            × (step_on action (Progress seconds) line (unwrap_or (get_by_text self.old.states address.now) idle) ≡ Ok state)
+            × ((other : List ℕ) → get_by_text self.new.states other
+            ≡ (if bytes_eq address.now other then unless_idle state else get_by_text self.old.states other))) }
+        ensures err { IfErr result (λ fault. (step_on action (Progress seconds) line (unwrap_or (get_by_text self.old.states address.now) idle) ≡ Err fault)
+            × ((other : List ℕ) → get_by_text self.new.states other ≡ get_by_text self.old.states other)) }
     {
-        match self.standings.get_mut(address) {
-            Some(standing) => tell(standing, action, seconds, line),
+        match self.states.get_mut(address) {
+            Some(state) => note_progress(state, action, seconds, line),
             None => Err(Fault::NotOpen),
         }
     }
 
-    /// Whether something stands open that matters.
-    pub fn has_open(&self, matters: Matters) -> bool
-        ensures some { result ≡ true → (address : List ℕ) × (stands_open matters.refreshes matters.failures
-            (unwrap_or (get_by_text self.now.standings address) idle) ≡ true) }
-        ensures none { result ≡ false → (address : List ℕ) → stands_open matters.refreshes matters.failures
-            (unwrap_or (get_by_text self.now.standings address) idle) ≡ false }
+    /// Whether something stands open, by the criteria.
+    pub fn has_open(&self, criteria: OpenCriteria) -> bool
+        ensures some { result ≡ true → (address : List ℕ) × (stands_open criteria.refreshes criteria.failures
+            (unwrap_or (get_by_text self.now.states address) idle) ≡ true) }
+        ensures none { result ≡ false → (address : List ℕ) → stands_open criteria.refreshes criteria.failures
+            (unwrap_or (get_by_text self.now.states address) idle) ≡ false }
     {
-        for (address, _) in self.standings.iter() {
-            if stands_open(matters, &self.at(address.as_str())) {
+        for (address, _) in self.states.iter() {
+            if stands_open(criteria, &self.at(address.as_str())) {
                 return true;
             }
         }
         false
     }
 
-    /// All that stands open and matters: the addresses in the order of their bytes, and at each its kinds in theirs.
+    /// Returns all that stands open, by the criteria: addresses in the order of their bytes, and
+    /// the kinds of each in the order of `OpenKind`. `Err` where memory is refused.
     pub fn open_entries(
         &self,
         alloc: Global,
-        matters: Matters,
+        criteria: OpenCriteria,
     ) -> Result<Vec<OpenEntry<'_>>, AllocError>
-        ensures in_order { IfOk result (λ entries. IsStrictlySortedBy (slice_cmp nat_cmp) (addresses_in self.now.standings)) }
-        ensures told { IfOk result (λ entries. map opened entries.items ≡ flat_map
-            (λ address. opens_of matters.refreshes matters.failures address (unwrap_or (get_by_text self.now.standings address) idle))
-            (addresses_in self.now.standings)) }
+        ensures in_order { IfOk result (λ entries. IsStrictlySortedBy (slice_cmp nat_cmp) (addresses_in self.now.states)) }
+        ensures listed { IfOk result (λ entries. map opened entries.items ≡ flat_map
+            (λ address. opens_of criteria.refreshes criteria.failures address (unwrap_or (get_by_text self.now.states address) idle))
+            (addresses_in self.now.states)) }
     {
         let mut entries = Vec::new(alloc);
-        for (address, _) in self.standings.iter() {
+        for (address, _) in self.states.iter() {
             let address = address.as_str();
-            push_entries(&mut entries, matters, address, &self.at(address))?;
+            push_entries(&mut entries, criteria, address, &self.at(address))?;
         }
         Ok(entries)
     }
 }
 
-/// Adds what stands open at the address and matters.
+/// Adds the entries of one address. `Err` where memory is refused.
 fn push_entries<'a>(
     entries: &mut Vec<OpenEntry<'a>>,
-    matters: Matters,
+    criteria: OpenCriteria,
     address: &'a str,
-    standing: &Standing,
+    state: &AddressState,
 ) -> Result<(), AllocError>
     ensures { OnOk result (map opened entries.new.items ≡ map opened entries.old.items
-        ++ opens_of matters.refreshes matters.failures address.now standing.now) }
+        ++ opens_of criteria.refreshes criteria.failures address.now state.now) }
 {
-    push_step(entries, address, OpenKind::Create, standing.create)?;
-    push_step(entries, address, OpenKind::Update, standing.update)?;
-    push_step(entries, address, OpenKind::Delete, standing.delete)?;
-    let refresh = step_where(matters.refreshes, standing.refresh);
+    push_step(entries, address, OpenKind::Create, state.create)?;
+    push_step(entries, address, OpenKind::Update, state.update)?;
+    push_step(entries, address, OpenKind::Delete, state.delete)?;
+    let refresh = step_if(criteria.refreshes, state.refresh);
     push_step(entries, address, OpenKind::Refresh, refresh)?;
-    let failures = failures_where(matters.failures, standing.failures);
+    let failures = failures_if(criteria.failures, state.failures);
     push_failures(entries, address, failures)?;
     Ok(())
 }
 
-/// The step, where it matters.
-fn step_where(matters: bool, pending: Option<Pending>) -> Option<Pending>
-    ensures { result ≡ where_so matters pending }
+/// Returns the step, where the criteria count it.
+fn step_if(criteria: bool, pending: Option<Pending>) -> Option<Pending>
+    ensures { result ≡ if_required criteria pending }
 {
-    if matters { pending } else { None }
+    if criteria { pending } else { None }
 }
 
-/// The failures, where they matter.
-fn failures_where(matters: bool, failures: Option<Failures>) -> Option<Failures>
-    ensures { result ≡ where_so matters failures }
+/// Returns the failures, where the criteria count them.
+fn failures_if(criteria: bool, failures: Option<Failures>) -> Option<Failures>
+    ensures { result ≡ if_required criteria failures }
 {
-    if matters { failures } else { None }
+    if criteria { failures } else { None }
 }
 
-/// Adds a step, where it stands open.
+/// Adds an entry for an open step. `Err` where memory is refused.
 fn push_step<'a>(
     entries: &mut Vec<OpenEntry<'a>>,
     address: &'a str,
@@ -173,11 +174,11 @@ fn push_step<'a>(
 {
     match pending {
         None => Ok(()),
-        Some(pending) => push_entry(entries, address, kind, pending.begin()),
+        Some(pending) => push_entry(entries, address, kind, pending.start_line()),
     }
 }
 
-/// Adds failures, where some are left.
+/// Adds an entry for failures. `Err` where memory is refused.
 fn push_failures<'a>(
     entries: &mut Vec<OpenEntry<'a>>,
     address: &'a str,
@@ -191,7 +192,7 @@ fn push_failures<'a>(
     }
 }
 
-/// Adds what stands open of that kind since that line.
+/// Adds an entry. `Err` where memory is refused.
 fn push_entry<'a>(
     entries: &mut Vec<OpenEntry<'a>>,
     address: &'a str,

@@ -1,4 +1,4 @@
-//! What stands open of one step.
+//! The open steps of one action at one address.
 
 ghost use Rattle.std.specs.Prelude.{◌≡◌};
 ghost use Rattle.stream_check.specs.Course.{after, begun, ended, may_overlap, progressed};
@@ -7,32 +7,40 @@ use crate::messages::action::Action;
 use crate::messages::timed_stage::TimedStage;
 use crate::rules::fault::Fault;
 
-/// A step that has begun and not ended.
+/// One open step, or several that overlap.
 #[derive(Clone, Copy)]
 pub enum Pending {
-    /// It began on that line, and so many seconds were told of it last, on the line `since`; its start tells of 0.
-    One { begin: u64, told: u64, since: u64 },
-    /// So many of several that overlapped have not ended; the first of them began on that line.
-    Several { begin: u64, count: u64 },
+    /// A step that started on `start_line`. Line `since` stated its latest seconds; the start
+    /// states 0.
+    One {
+        start_line: u64,
+        last_seconds: u64,
+        since: u64,
+    },
+    /// How many of several overlapping steps are open. The first of them started on `start_line`.
+    Several {
+        start_line: u64,
+        count: u64,
+    },
 }
 
 impl Pending {
-    ghost use Rattle.stream_check.specs.Course.{begin_of};
+    ghost use Rattle.stream_check.specs.Course.{start_line_of};
 
-    /// The line on which it began, or the first of several.
-    pub fn begin(self) -> u64
-        ensures { result ≡ begin_of self }
+    /// The line on which the step, or the first of several, started.
+    pub fn start_line(self) -> u64
+        ensures { result ≡ start_line_of self }
     {
         match self {
-            Pending::One { begin, .. } | Pending::Several { begin, .. } => begin,
+            Pending::One { start_line, .. } | Pending::Several { start_line, .. } => start_line,
         }
     }
 }
 
-/// How many steps of one address may overlap.
+/// How many steps of one action may overlap at one address.
 const MAX_OVERLAP: u64 = 10_000;
 
-/// Whether two steps of this kind may overlap at one address.
+/// Whether two steps of the action may overlap at one address.
 fn may_overlap(action: Action) -> bool
     ensures { result ≡ may_overlap action }
 {
@@ -42,65 +50,83 @@ fn may_overlap(action: Action) -> bool
     }
 }
 
-/// What stands open after a start on that line.
+/// Returns the open steps after a start on that line. `Err` with the fault of the message.
 fn begun(action: Action, line: u64, pending: Option<Pending>) -> Result<Option<Pending>, Fault>
     ensures { result ≡ begun action line pending }
 {
     match pending {
         None => Ok(Some(Pending::One {
-            begin: line,
-            told: 0,
+            start_line: line,
+            last_seconds: 0,
             since: line,
         })),
-        Some(Pending::One { begin, .. }) => if may_overlap(action) {
-            Ok(Some(Pending::Several { begin, count: 2 }))
-        } else {
-            Err(Fault::StartsAgain(begin))
-        },
-        Some(Pending::Several { begin, count }) => if count < MAX_OVERLAP {
+        Some(Pending::One { start_line, .. }) => if may_overlap(action) {
             Ok(Some(Pending::Several {
-                begin,
+                start_line,
+                count: 2,
+            }))
+        } else {
+            Err(Fault::StartsAgain(start_line))
+        },
+        Some(Pending::Several { start_line, count }) => if count < MAX_OVERLAP {
+            Ok(Some(Pending::Several {
+                start_line,
                 count: count + 1,
             }))
         } else {
-            Err(Fault::TooMany(begin))
+            Err(Fault::TooMany(start_line))
         },
     }
 }
 
-/// What stands open after so many seconds were told on that line.
-fn told(seconds: u64, line: u64, pending: Option<Pending>) -> Result<Option<Pending>, Fault>
+/// Returns the open steps after a progress on that line. `Err` with the fault of the message.
+fn progressed(seconds: u64, line: u64, pending: Option<Pending>) -> Result<Option<Pending>, Fault>
     ensures { result ≡ progressed seconds line pending }
 {
     match pending {
         None => Err(Fault::NotOpen),
-        Some(Pending::One { begin, told, since }) => if told < seconds {
+        Some(
+            Pending::One {
+                start_line,
+                last_seconds,
+                since,
+            },
+        ) => if last_seconds < seconds {
             Ok(Some(Pending::One {
-                begin,
-                told: seconds,
+                start_line,
+                last_seconds: seconds,
                 since: line,
             }))
         } else {
             Err(Fault::NotLater(since))
         },
-        Some(Pending::Several { begin, count }) => Ok(Some(Pending::Several { begin, count })),
+        Some(Pending::Several { start_line, count }) => Ok(Some(Pending::Several {
+            start_line,
+            count,
+        })),
     }
 }
 
-/// What stands open after an end.
+/// Returns the open steps after an end. `Err` with the fault of the message.
 fn ended(seconds: u64, pending: Option<Pending>) -> Result<Option<Pending>, Fault>
     ensures { result ≡ ended seconds pending }
 {
     match pending {
         None => Err(Fault::NotOpen),
-        Some(Pending::One { told, since, .. }) => if seconds < told {
+        Some(
+            Pending::One {
+                last_seconds,
+                since,
+                ..
+            },
+        ) => if seconds < last_seconds {
             Err(Fault::NotLater(since))
         } else {
             Ok(None)
         },
-        Some(Pending::Several { begin, count }) => if 1 < count {
+        Some(Pending::Several { start_line, count }) => if 1 < count {
             Ok(Some(Pending::Several {
-                begin,
+                start_line,
                 count: count - 1,
             }))
         } else {
@@ -109,7 +135,8 @@ fn ended(seconds: u64, pending: Option<Pending>) -> Result<Option<Pending>, Faul
     }
 }
 
-/// What stands open after a message about the step on that line, or the message's fault.
+/// Returns the open steps after a message about the step on that line. `Err` with the fault of the
+/// message.
 pub fn after(
     action: Action,
     stage: TimedStage,
@@ -120,7 +147,7 @@ pub fn after(
 {
     match stage {
         TimedStage::Start => begun(action, line, pending),
-        TimedStage::Progress(seconds) => told(seconds, line, pending),
+        TimedStage::Progress(seconds) => progressed(seconds, line, pending),
         TimedStage::Complete(seconds) => ended(seconds, pending),
         TimedStage::Errored(seconds) => ended(seconds, pending),
     }

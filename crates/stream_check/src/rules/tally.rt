@@ -1,4 +1,4 @@
-//! What the lines so far say, counted.
+//! Counts the lines of a stream.
 
 ghost use Rattle.std.specs.Prelude.{◌≡◌, ◌<◌, ◌^◌, ◌&&◌, ◌||◌, if◌then◌else◌, is_some, []};
 ghost use Rattle.stream_check.specs.Counted.{failures_counted, is_used_up};
@@ -6,35 +6,35 @@ ghost use Rattle.stream_check.specs.Counted.{failures_counted, is_used_up};
 use crate::messages::action::Action;
 use crate::messages::intent::Intent;
 use crate::messages::timed_stage::TimedStage;
-use crate::messages::totals::{Totals, agree, begun_counted, counted, foretold, share_of};
+use crate::messages::totals::{Totals, agree, begun_counted, counted, planned_counted, share_of};
+use crate::rules::address_state::may_fail;
 use crate::rules::fault::Fault;
 use crate::rules::mode::Mode;
-use crate::rules::standing::may_fail;
 
-/// What the lines so far say, but for what stands open at addresses.
+/// What is known of all lines so far, apart from the state of addresses.
 #[derive(Clone, Copy)]
 pub struct Tally {
-    /// How many lines there were.
+    /// How many lines were read.
     pub lines: u64,
-    /// The creates, updates and deletes that were completed, have begun, and were planned.
+    /// Completed, started and planned creates, updates and deletes.
     pub completed: Totals,
     pub begun: Totals,
     pub planned: Totals,
-    /// Whether a planned change was told.
+    /// Whether a planned change was reported.
     pub has_plan: bool,
-    /// The lines of the version, of the summary of a plan, and of that of an apply.
+    /// The lines of the version, of the summary of a plan, and of the summary of an apply.
     pub version: Option<u64>,
     pub plan_summary: Option<u64>,
     pub summary: Option<u64>,
-    /// Whether the outputs of a summary may still come.
+    /// Whether the outputs of a summary may follow.
     pub awaits_outputs: bool,
-    /// Whether an error was told.
+    /// Whether an error was reported.
     pub has_failed: bool,
-    /// How many errors without an address were told.
-    pub errors_alone: u64,
-    /// How many failures are left that no error with their address was told behind.
+    /// How many errors without an address were reported.
+    pub errors_without_address: u64,
+    /// How many failures no error with their address explains.
     pub failures: u64,
-    /// How many lines were no messages, and passed over.
+    /// How many lines of a log hold no message.
     pub foreign: u64,
 }
 
@@ -42,7 +42,7 @@ impl Tally {
     ghost use Rattle.stream_check.specs.Small.{IsSmall};
     ghost use Rattle.stream_check.specs.Tallied.{has_nothing_begun, is_beyond, tally_of, with_error, with_error_at, with_foreign, with_line, with_outputs, with_plan_summary, with_planned, with_step, with_summary, with_version};
 
-    /// Of no line.
+    /// The tally of no line.
     pub fn new() -> Tally
         ensures value { result ≡ tally_of [] }
         ensures small { IsSmall result }
@@ -58,13 +58,13 @@ impl Tally {
             summary: None,
             awaits_outputs: false,
             has_failed: false,
-            errors_alone: 0,
+            errors_without_address: 0,
             failures: 0,
             foreign: 0,
         }
     }
 
-    /// With a line more that changes nothing else.
+    /// Counts a line that changes nothing else.
     pub fn with_line(self) -> Tally
         requires few { self.lines < 2 ^ 32 }
         requires small { IsSmall self }
@@ -76,7 +76,7 @@ impl Tally {
         new
     }
 
-    /// With the version.
+    /// Counts the version.
     pub fn with_version(self) -> Tally
         requires few { self.lines < 2 ^ 32 }
         requires small { IsSmall self }
@@ -89,7 +89,7 @@ impl Tally {
         new
     }
 
-    /// With a line that is no message.
+    /// Counts a line that holds no message.
     pub fn with_foreign(self) -> Tally
         requires few { self.lines < 2 ^ 32 }
         requires small { IsSmall self }
@@ -102,7 +102,7 @@ impl Tally {
         new
     }
 
-    /// With a message about a step.
+    /// Counts a message about a step.
     pub fn with_step(self, action: Action, stage: TimedStage) -> Tally
         requires few { self.lines < 2 ^ 32 }
         requires small { IsSmall self }
@@ -117,7 +117,7 @@ impl Tally {
         new
     }
 
-    /// With a planned change.
+    /// Counts a planned change.
     pub fn with_planned(self, intent: Intent) -> Tally
         requires few { self.lines < 2 ^ 32 }
         requires small { IsSmall self }
@@ -126,12 +126,12 @@ impl Tally {
     {
         let mut new = self;
         new.lines += 1;
-        new.planned = foretold(self.planned, intent);
+        new.planned = planned_counted(self.planned, intent);
         new.has_plan = true;
         new
     }
 
-    /// With the summary of a plan.
+    /// Counts the summary of a plan.
     pub fn with_plan_summary(self) -> Tally
         requires few { self.lines < 2 ^ 32 }
         requires small { IsSmall self }
@@ -145,7 +145,7 @@ impl Tally {
         new
     }
 
-    /// With the summary of an apply.
+    /// Counts the summary of an apply.
     pub fn with_summary(self) -> Tally
         requires few { self.lines < 2 ^ 32 }
         requires small { IsSmall self }
@@ -159,7 +159,7 @@ impl Tally {
         new
     }
 
-    /// With the outputs.
+    /// Counts outputs.
     pub fn with_outputs(self) -> Tally
         requires few { self.lines < 2 ^ 32 }
         requires small { IsSmall self }
@@ -172,7 +172,7 @@ impl Tally {
         new
     }
 
-    /// With an error that names no address.
+    /// Counts an error without an address.
     pub fn with_error(self) -> Tally
         requires few { self.lines < 2 ^ 32 }
         requires small { IsSmall self }
@@ -182,11 +182,11 @@ impl Tally {
         let mut new = self;
         new.lines += 1;
         new.has_failed = true;
-        new.errors_alone += 1;
+        new.errors_without_address += 1;
         new
     }
 
-    /// With an error that names an address at which so many failures were left.
+    /// Counts an error with an address, which explains this many failures.
     pub fn with_error_at(self, failures: u64) -> Tally
         requires few { self.lines < 2 ^ 32 }
         requires small { IsSmall self }
@@ -200,7 +200,7 @@ impl Tally {
         new
     }
 
-    /// Whether a start of the action is one more than was planned.
+    /// Whether the start of a step exceeds the plan.
     pub fn is_beyond(&self, action: Action, stage: TimedStage) -> bool
         ensures { result ≡ is_beyond action stage self.now }
     {
@@ -211,15 +211,15 @@ impl Tally {
         }
     }
 
-    /// Whether the lines are those of a plan: its summary came, none of an apply, and nothing has begun that a plan
-    /// does not begin.
+    /// Whether the lines are those of a plan: its summary was read, no summary of an apply, and no
+    /// create, update or delete has started.
     fn is_plan(&self) -> bool
         ensures { result ≡ has_nothing_begun self.now }
     {
         self.plan_summary.is_some() && self.summary.is_none() && agree(self.begun, Totals::NONE)
     }
 
-    /// Whether the lines are a whole stream of a plan, where one is asked for.
+    /// Whether the lines are a whole stream of a plan, and such a stream is accepted.
     pub fn ends_as_plan(&self, mode: Mode) -> bool
         ensures { result ≡ (mode.plan && has_nothing_begun self.now) }
     {
@@ -227,14 +227,14 @@ impl Tally {
         mode.plan && is_plan
     }
 
-    /// Whether there was a summary or an error.
+    /// Whether a summary of an apply or an error was read.
     pub fn ends_as_apply(&self) -> bool
         ensures { result ≡ (is_some self.now.summary || self.now.has_failed) }
     {
         self.summary.is_some() || self.has_failed
     }
 
-    /// Why the lines have no end.
+    /// Returns the fault of a stream without an end.
     pub fn why_no_end(&self) -> Fault
         ensures { result ≡ (if has_nothing_begun self.now then Fault.NoApply else Fault.NoEnd) }
     {
@@ -246,7 +246,7 @@ impl Tally {
     }
 }
 
-/// Whether so many have begun as were planned.
+/// Whether as many steps have started as were planned.
 fn is_used_up(begun: Option<u64>, planned: Option<u64>) -> bool
     ensures { result ≡ is_used_up begun planned }
 {

@@ -2,7 +2,7 @@
 
 ghost use Rattle.std.specs.Prelude.{◌≡◌, ◌≢◌, ◌||◌, ◌++◌, ◌∷◌, [], ℕ, List, Ok, true, false};
 ghost use Rattle.std.specs.List.{list_any};
-ghost use Rattle.stream_check.specs.Laws.{IsWhole, Say, is_end, is_start};
+ghost use Rattle.stream_check.specs.Laws.{IsWhole, StateMessages, is_end, is_start};
 ghost use Rattle.stream_check.specs.Lines.{line_message, verdict_of};
 ghost use Rattle.stream_check.specs.Tally.{is_summary};
 ghost use Rattle.stream_check.specs.declared.rules.mode.Mode.{Mode};
@@ -12,23 +12,24 @@ ghost use Rattle.stream_check.specs.declared.messages.action.Action.TheVariants.
 ghost use Rattle.stream_check.specs.declared.messages.timed_stage.TimedStage.{TimedStage};
 ghost use Rattle.stream_check.specs.declared.verdict.whole.Whole.{Whole};
 
-/// In an accepted stream each create, update and delete of an object ends as often as it starts, and never before it
-/// starts; the totals are how many of them were completed, and a summary says the same.
+/// In an accepted stream, each create, update and delete of an object ends as often as it starts,
+/// and never before it starts. The totals are the counts of completed steps. The summary states the
+/// same totals.
 pub fn each_step_ends_once()
     ensures { (mode : Mode) (texts : List (List ℕ)) (whole : Whole) → verdict_of mode texts ≡ Ok whole
         → (messages : List Message) × IsWhole mode texts whole messages }
 {}
 
-/// A stream that is accepted, tells of no error and is not taken for a plan's has a summary: one that is cut off before
-/// it is not accepted.
+/// An accepted stream of an apply without errors has a summary. So a stream that is cut off before
+/// its summary is not accepted.
 pub fn a_stream_without_errors_is_summed_up()
     ensures { (mode : Mode) (texts : List (List ℕ)) (whole : Whole) → verdict_of mode texts ≡ Ok whole
         → whole.has_errors ≡ false → whole.is_plan ≡ false
-        → (messages : List Message) × Say mode.find [] messages texts × (list_any is_summary messages ≡ true) }
+        → (messages : List Message) × StateMessages mode.find [] messages texts × (list_any is_summary messages ≡ true) }
 {}
 
-/// A line that starts or ends a create, an update or a delete can't be put into an accepted stream, or taken from it,
-/// so that it is still accepted; such a line that stands twice is found, wherever it stands.
+/// Adding or removing one line that starts or ends a create, an update or a delete makes an
+/// accepted stream unacceptable. So such a line that stands twice is reported, wherever it stands.
 pub fn no_start_or_end_is_one_too_many()
     ensures { (mode : Mode) (front back : List (List ℕ)) (line : List ℕ) (address : List ℕ) (action : Action) (stage : TimedStage)
         → line_message mode.find line ≡ Ok (step address action stage) → action ≢ Read → action ≢ Refresh

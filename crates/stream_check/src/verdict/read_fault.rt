@@ -1,4 +1,4 @@
-//! Why a stream that was read is not found to be whole.
+//! Why there is no verdict that a stream is whole.
 
 ghost use Rattle.std.specs.Prelude.{◌≡◌};
 ghost use Rattle.stream_check.specs.Reading.{IsNoAnswer};
@@ -9,13 +9,13 @@ use std::alloc::AllocError;
 use stream_lines::{FailedRead, LineFault};
 use thiserror::Error;
 
-/// Why a stream that was read is not found to be whole.
+/// Why there is no verdict that a stream is whole.
 #[derive(Clone, Copy, Debug, Drop, Error, PartialEq, Eq)]
 pub enum ReadFault {
-    /// It is not whole. The fault is never `Fault::Memory`.
+    /// The stream is not whole. The fault is never `Fault::Memory`.
     #[error("{0}")]
     Found(Finding),
-    /// It has more than 4,294,967,296 lines.
+    /// The stream has more than 4,294,967,296 lines.
     #[error("the stream has more than 4294967296 lines")]
     TooMany,
     /// A read failed.

@@ -1,18 +1,18 @@
-//! What a whole stream tells.
+//! The verdict on a whole stream.
 
 use crate::messages::totals::Totals;
 
-/// What a stream tells in which nothing is missing and nothing is wrong.
+/// The verdict on a stream in which nothing is missing and nothing is wrong.
 #[derive(Clone, Copy, Debug, Drop, PartialEq, Eq)]
 pub struct Whole {
-    /// How many creates, updates and deletes were completed; of a plan's stream, how many were planned.
+    /// The completed creates, updates and deletes. For the stream of a plan, the planned ones.
     pub totals: Totals,
-    /// Whether a diagnostic with severity `error` stands in it.
+    /// Whether the stream has a diagnostic with severity `error`.
     pub has_errors: bool,
-    /// How many lines it has.
+    /// How many lines the stream has.
     pub lines: u64,
-    /// Whether it is the stream of a plan.
+    /// Whether the stream is that of a plan.
     pub is_plan: bool,
-    /// How many lines were passed over, where lines may be.
+    /// How many lines were ignored, where `find` asks for that.
     pub passed: Option<u64>,
 }

@@ -1,13 +1,13 @@
-//! Files that are named.
+//! Checks of named files.
 
 use super::*;
 use std::rt::Files;
 use std::{array, fs};
 
-/// What stands on standard input, of which nothing may be read.
+/// Standard input, which must stay unread.
 const UNREAD: &[u8] = b"no message\n";
 
-/// Fails where the check of a file with that stream ends with another status, or reads anything of standard input.
+/// Fails where the check of the file ends with another status, or reads standard input.
 fn file_alone_is_read(
     rt: &(impl Abort + Files),
     alloc: Global,
@@ -17,14 +17,14 @@ fn file_alone_is_read(
 ) {
     fs::write(rt, name, stream).expect(rt, "a file");
     let word = String::from_str(alloc, name).expect(rt, "memory");
-    let word = &*kept(rt, alloc, word);
+    let word = &*leaked(rt, alloc, word);
     let mut input = UNREAD;
-    let printed = kept(rt, alloc, Vec::new(alloc));
-    let faults = kept(rt, alloc, Vec::new(alloc));
+    let printed = leaked(rt, alloc, Vec::new(alloc));
+    let faults = leaked(rt, alloc, Vec::new(alloc));
     let words = array::from_ref(word);
-    let found = follow(rt, alloc, words, false, &mut input, printed, faults);
+    let actual = follow(rt, alloc, words, false, &mut input, printed, faults);
     fs::remove_file(rt, name).expect(rt, "the file");
-    holds(rt, name, found.status == status);
+    holds(rt, name, actual.status == status);
     holds(rt, name, input == UNREAD);
 }
 
@@ -33,7 +33,7 @@ fn file_that_is_whole(rt: HostRuntime) {
     file_alone_is_read(&rt, rt.alloc(), "whole.jsonl", WHOLE, 0);
 }
 
-/// What is read behind the fault is the rest of the file.
+/// The rest after the fault is read from the file.
 #[test]
 fn file_that_is_not_whole(rt: HostRuntime) {
     let stream = "{\"type\":\"version\"}\n{\"type\":\"version\"}\nand more\n";

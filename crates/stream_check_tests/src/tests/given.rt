@@ -1,14 +1,14 @@
-//! Lines that are given.
+//! Checks of given lines.
 
 use super::*;
 
-/// Messages are to be found in lines of a log.
+/// Locates messages in the lines of a log.
 const FIND: Mode = Mode {
     find: true,
     plan: false,
 };
 
-/// A plan's stream is whole too.
+/// Accepts the stream of a plan.
 const PLAN: Mode = Mode {
     find: false,
     plan: true,
@@ -17,21 +17,21 @@ const PLAN: Mode = Mode {
 /// A line whose type is no text.
 const NO_TYPE: &str = r#"{"type":7}"#;
 
-/// Adds the line.
+/// Appends a line.
 fn add_line(rt: &impl Abort, alloc: Global, lines: &mut Vec<Vec<u8>>, text: &str) {
     let mut line = Vec::new(alloc);
     line.extend_from_slice(text.as_bytes()).expect(rt, "memory");
     lines.push(line).expect(rt, "memory");
 }
 
-/// Fails where the lines have another finding.
+/// Fails where the check of the lines has another result than the finding.
 fn finding_is(rt: &impl Abort, alloc: Global, lines: &[Vec<u8>], mode: Mode, finding: Finding) {
     assert!(rt; lines.len() < 1 << 32);
-    let found = check_lines(alloc, mode, lines);
-    holds(rt, "finding", found == Err(finding));
+    let actual = check_lines(alloc, mode, lines);
+    holds(rt, "finding", actual == Err(finding));
 }
 
-/// A finding where no line may be passed over.
+/// A finding in a stream where no line may be ignored.
 fn at_line(line: u64, fault: Fault) -> Finding {
     Finding {
         line,
@@ -47,12 +47,12 @@ fn nothing_is_no_stream(rt: HostRuntime) {
     finding_is(&rt, rt.alloc(), &none, Mode::PLAIN, finding);
 }
 
-/// From 1 on; what is missing is found at the last line. A line without the mark of Terraform's messages is passed over in
-/// a log.
+/// Lines are counted from 1. A missing end is a fault of the last line. In a log, a line that
+/// starts no message of Terraform is ignored.
 #[test]
 fn lines_have_numbers(rt: HostRuntime) {
     let alloc = rt.alloc();
-    let lines = kept(&rt, alloc, Vec::new(alloc));
+    let lines = leaked(&rt, alloc, Vec::new(alloc));
     add_line(&rt, alloc, lines, VERSION);
     finding_is(&rt, alloc, lines, Mode::PLAIN, at_line(1, Fault::NoEnd));
     add_line(&rt, alloc, lines, NO_TYPE);
@@ -65,7 +65,7 @@ fn lines_have_numbers(rt: HostRuntime) {
     finding_is(&rt, alloc, lines, FIND, passed);
 }
 
-/// Fails where the checker answers the line otherwise, or says then that it has read another number of lines.
+/// Fails where the checker answers otherwise, or has accepted another number of lines.
 fn line_gives(
     rt: &impl Abort,
     alloc: Global,
@@ -75,12 +75,12 @@ fn line_gives(
     count: u64,
 ) {
     assert!(rt; !checker.is_full());
-    let found = checker.line(alloc, Mode::PLAIN, line.as_bytes());
-    holds(rt, line, found == wanted);
+    let actual = checker.line(alloc, Mode::PLAIN, line.as_bytes());
+    holds(rt, line, actual == wanted);
     holds(rt, line, checker.count() == count);
 }
 
-/// What a stream tells that has no steps, and errors or none.
+/// The verdict on a stream without steps.
 fn of_lines(lines: u64, has_errors: bool) -> Whole {
     Whole {
         totals: Totals::NONE,
@@ -91,11 +91,11 @@ fn of_lines(lines: u64, has_errors: bool) -> Whole {
     }
 }
 
-/// A checker stands where it stood behind a line that is faulty, and says of itself what it says of the stream.
+/// A faulty line leaves the checker unchanged. Its getters agree with its verdict.
 #[test]
 fn a_checker_says_what_it_has_read(rt: HostRuntime) {
     let alloc = rt.alloc();
-    let checker = kept(&rt, alloc, Checker::new(alloc));
+    let checker = leaked(&rt, alloc, Checker::new(alloc));
     line_gives(&rt, alloc, checker, NO_TYPE, Err(Fault::NoType), 0);
     line_gives(&rt, alloc, checker, "[", Err(Fault::NotJson), 0);
     line_gives(&rt, alloc, checker, VERSION, Ok(()), 1);

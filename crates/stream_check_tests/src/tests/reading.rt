@@ -1,9 +1,9 @@
-//! Streams that a reader gives.
+//! Checks of streams that a reader gives.
 
 use super::*;
 
-/// What it tells.
-const TOLD: Whole = Whole {
+/// The verdict on `WHOLE`.
+const EXPECTED: Whole = Whole {
     totals: Totals {
         added: 1,
         changed: 0,
@@ -15,22 +15,27 @@ const TOLD: Whole = Whole {
     passed: None,
 };
 
-/// Fails where something else is told of the whole stream through a buffer of that size.
-fn whole_is_found(rt: &impl Abort, alloc: Global, capacity: usize) {
+/// Fails where the check through a buffer of that size has another verdict.
+fn whole_is_reported(rt: &impl Abort, alloc: Global, capacity: usize) {
     let reader = BufReader::with_capacity(alloc, capacity, WHOLE.as_bytes());
-    let reader = kept(rt, alloc, reader.expect(rt, "memory"));
-    holds(rt, "whole", check(alloc, Mode::PLAIN, reader) == Ok(TOLD));
+    let reader = leaked(rt, alloc, reader.expect(rt, "memory"));
+    holds(
+        rt,
+        "whole",
+        check(alloc, Mode::PLAIN, reader) == Ok(EXPECTED),
+    );
 }
 
-/// Through a buffer of any size the answer is the same, so that lines are put together well.
+/// Each size of the buffer gives the same verdict, so lines are put together correctly.
 #[test]
 fn buffers(rt: HostRuntime) {
     for capacity in 1..40 {
-        whole_is_found(&rt, rt.alloc(), capacity);
+        whole_is_reported(&rt, rt.alloc(), capacity);
     }
 }
 
-/// A reader that is interrupted at each second read, gives one byte at a time, and fails behind its bytes.
+/// A reader that gives one byte at a time. Every second read is interrupted, and a read after the
+/// last byte fails.
 #[derive(Drop)]
 struct Broken<'a> {
     bytes: &'a [u8],
@@ -38,7 +43,7 @@ struct Broken<'a> {
 }
 
 impl<'a> Broken<'a> {
-    /// With those bytes.
+    /// A reader of these bytes.
     fn of(bytes: &'a [u8]) -> Broken<'a> {
         Broken {
             bytes,
@@ -64,10 +69,10 @@ impl Read for Broken<'_> {
     }
 }
 
-/// Fails where something else is said of those bytes, behind which the reader fails.
-fn broken_is_found(rt: &impl Abort, alloc: Global, bytes: &[u8], wanted: &str) {
+/// Fails where the check of the bytes, after which the reader fails, has another error.
+fn broken_is_reported(rt: &impl Abort, alloc: Global, bytes: &[u8], wanted: &str) {
     let reader = BufReader::new(alloc, Broken::of(bytes));
-    let reader = kept(rt, alloc, reader.expect(rt, "memory"));
+    let reader = leaked(rt, alloc, reader.expect(rt, "memory"));
     match check(alloc, Mode::PLAIN, reader) {
         Ok(_) => rt.panic(wanted),
         Err(fault) => fault_is(rt, alloc, fault, wanted),
@@ -76,77 +81,78 @@ fn broken_is_found(rt: &impl Abort, alloc: Global, bytes: &[u8], wanted: &str) {
 
 /// Fails where the fault has another text.
 fn fault_is(rt: &impl Abort, alloc: Global, fault: ReadFault, wanted: &str) {
-    let text = kept(rt, alloc, fault.to_string(alloc).expect(rt, "memory"));
+    let text = leaked(rt, alloc, fault.to_string(alloc).expect(rt, "memory"));
     text_is(rt, wanted, text.as_str(), wanted);
 }
 
 #[test]
 fn reader_fails(rt: HostRuntime) {
     let bytes = WHOLE.as_bytes();
-    broken_is_found(&rt, rt.alloc(), bytes, "the stream could not be read");
+    broken_is_reported(&rt, rt.alloc(), bytes, "the stream could not be read");
 }
 
-/// What is wrong is found before the reader fails behind it.
+/// A fault is reported before the read after it fails.
 #[test]
 fn finding_comes_first(rt: HostRuntime) {
     let alloc = rt.alloc();
     let first = b"{\"type\":\"log\"}\n";
-    broken_is_found(&rt, alloc, first, "line 1 comes before the version");
-    broken_is_found(&rt, alloc, b"[\n", "line 1 is not a message");
-    broken_is_found(&rt, alloc, b"[]\n", "line 1 is not a message");
+    broken_is_reported(&rt, alloc, first, "line 1 comes before the version");
+    broken_is_reported(&rt, alloc, b"[\n", "line 1 is not a message");
+    broken_is_reported(&rt, alloc, b"[]\n", "line 1 is not a message");
 }
 
-/// Bytes that have to be text.
+/// The bytes as text.
 fn text_of<'a>(rt: &impl Abort, bytes: &'a [u8]) -> &'a str {
     str::from_utf8(bytes).ok().expect(rt, "a text")
 }
 
-/// Fails where the check of what the reader gives prints something, says something else, or ends with another status, or where
-/// no read fails behind it.
-fn input_is_told<R: Read>(
+/// Fails where the check prints to the output, reports another message, or ends with another
+/// status. Fails too where no later read fails.
+fn input_is_reported<R: Read>(
     rt: &impl Abort,
     alloc: Global,
     form: Form,
     input: &mut R,
     status: u8,
-    said: &str,
+    message: &str,
 ) {
-    let printed = kept(rt, alloc, Vec::new(alloc));
-    let faults = kept(rt, alloc, Vec::new(alloc));
+    let printed = leaked(rt, alloc, Vec::new(alloc));
+    let faults = leaked(rt, alloc, Vec::new(alloc));
     let checked = check_input(alloc, Mode::PLAIN, form, None, input, printed, faults);
     holds(rt, "printed", printed.is_empty());
-    text_is(rt, "said", text_of(rt, faults.as_slice()), said);
+    text_is(rt, "said", text_of(rt, faults.as_slice()), message);
     holds(rt, "status", checked.status == status);
     holds(rt, "not read to its end", checked.rest.is_err());
 }
 
-/// That is no verdict, and so no object.
+/// A failed read gives no verdict, and so no object.
 #[test]
 fn reader_fails_where_objects_are_wanted(rt: HostRuntime) {
     let mut input = Broken::of(WHOLE.as_bytes());
-    let said = "applystream: the stream could not be read\n";
-    input_is_told(&rt, rt.alloc(), Form::Json, &mut input, 2, said);
+    let message = "applystream: the stream could not be read\n";
+    input_is_reported(&rt, rt.alloc(), Form::Json, &mut input, 2, message);
     holds(&rt, "all that there is", input.bytes.is_empty());
 }
 
-/// A read that fails behind a fault ends it, and what was said stays so; one that is interrupted does not.
+/// A failed read after a fault ends the reading, and the report stays. An interrupted read does
+/// not.
 #[test]
 fn behind_a_fault_a_read_fails(rt: HostRuntime) {
     let mut input = Broken::of(b"no message\nand more\n");
-    let said = "applystream: line 1 is not a message: no message\n";
-    input_is_told(&rt, rt.alloc(), Form::Text, &mut input, 4, said);
+    let message = "applystream: line 1 is not a message: no message\n";
+    input_is_reported(&rt, rt.alloc(), Form::Text, &mut input, 4, message);
     holds(&rt, "all that there is", input.bytes.is_empty());
 }
 
-/// Behind a fault what a reader with a buffer has not shown yet is read too.
+/// After a fault, the buffer is read to its end too.
 #[test]
 fn rest_of_a_reader_with_a_buffer(rt: HostRuntime) {
     let alloc = rt.alloc();
     let given = b"no message\nand more\n".as_slice();
     let reader = BufReader::with_capacity(alloc, 7, given);
-    let reader = kept(&rt, alloc, reader.expect(&rt, "memory"));
-    let printed = kept(&rt, alloc, Vec::new(alloc));
-    let faults = kept(&rt, alloc, Vec::new(alloc));
+    let reader = leaked(&rt, alloc, reader.expect(&rt, "memory"));
+    let printed = leaked(&rt, alloc, Vec::new(alloc));
+    let faults = leaked(&rt, alloc, Vec::new(alloc));
     let checked = check_command(
         alloc,
         Mode::PLAIN,
@@ -162,10 +168,10 @@ fn rest_of_a_reader_with_a_buffer(rt: HostRuntime) {
     holds(&rt, "all that there is", reader.get_ref().is_empty());
 }
 
-/// How long the address is of which is told: an object with it is larger than any buffer on its way.
+/// The length of the reported address: an object with it is larger than any buffer.
 const LONG: usize = 70_000;
 
-/// The bytes with so many letters between them.
+/// The bytes with that many letters between them.
 fn around(rt: &impl Abort, alloc: Global, front: &str, back: &str) -> Vec<u8> {
     let mut bytes = Vec::new(alloc);
     bytes
@@ -181,18 +187,18 @@ fn around(rt: &impl Abort, alloc: Global, front: &str, back: &str) -> Vec<u8> {
     bytes
 }
 
-/// An object is told whole, however long its texts are.
+/// An object is printed whole, however long its texts are.
 #[test]
 fn object_of_a_long_address(rt: HostRuntime) {
     let alloc = rt.alloc();
     let front =
         "{\"type\":\"version\"}\n{\"type\":\"apply_start\",\"hook\":{\"action\":\"create\",\"resource\":{\"addr\":\"";
-    let stream = kept(&rt, alloc, around(&rt, alloc, front, "\"}}}\n"));
+    let stream = leaked(&rt, alloc, around(&rt, alloc, front, "\"}}}\n"));
     let front = "{\"fault\":\"unended\",\"line\":2,\"open\":[{\"address\":\"";
     let back = "\",\"kind\":\"create\",\"line\":2}],\"whole\":false}\n";
-    let wanted = kept(&rt, alloc, around(&rt, alloc, front, back));
-    let printed = kept(&rt, alloc, Vec::new(alloc));
-    let faults = kept(&rt, alloc, Vec::new(alloc));
+    let wanted = leaked(&rt, alloc, around(&rt, alloc, front, back));
+    let printed = leaked(&rt, alloc, Vec::new(alloc));
+    let faults = leaked(&rt, alloc, Vec::new(alloc));
     let mut input = stream.as_slice();
     let checked = check_input(
         alloc,
@@ -204,7 +210,7 @@ fn object_of_a_long_address(rt: HostRuntime) {
         faults,
     );
     holds(&rt, "status", checked.status == 4);
-    holds(&rt, "said", checked.said == Ok(()));
+    holds(&rt, "said", checked.reported == Ok(()));
     holds(&rt, "the object", printed.as_slice() == wanted.as_slice());
     holds(&rt, "nothing else", faults.is_empty());
 }

@@ -1,11 +1,11 @@
-//! The words of the command line.
+//! The arguments of the command.
 
 ghost use Rattle.std.specs.Prelude.{◌≡◌, false, IfErr, IfOk, IfSome, codes, map, string_bytes};
 ghost use Rattle.clap.specs.Matches.{found_of};
 ghost use Rattle.clap.specs.Simple.{app_of};
 ghost use Rattle.clap.specs.Walk.{one_of, rows_of, rule_of};
 ghost use Rattle.stream_tool.specs.Words.{WereRefused};
-ghost use Rattle.stream_play.specs.CommandLine.{AreSaid, HaveSaid, IsSpeed, command_line, speed_rule};
+ghost use Rattle.stream_play.specs.CommandLine.{AreStated, StateSettings, IsSpeed, command_line, speed_rule};
 
 use crate::command::settings::Settings;
 use crate::speed::Speed;
@@ -31,10 +31,12 @@ Exit status:
   2  wrong options, a file or a stream that can't be read, or a line that is too long
   3  out of memory, or the output could not be written"#;
 
-/// The settings that the words behind `play` say. `Err` with `Usage::Help` where they ask for help, with `Usage::Words` where
-/// they are none of this command, and with `Usage::Memory` where memory is refused.
+/// Parses the arguments after `play`.
+///
+/// `Err` with `Usage::Help` where they ask for help, with `Usage::Words` where they do not fit, and
+/// with `Usage::Memory` where memory is refused.
 pub fn read_words(alloc: Global, words: &[String]) -> Result<Settings, Usage>
-    ensures said { IfOk result (HaveSaid (map string_bytes words.now)) }
+    ensures stated { IfOk result (StateSettings (map string_bytes words.now)) }
     ensures refused { IfErr result (WereRefused command_line (map string_bytes words.now)) }
 {
     let command = command(alloc)?;
@@ -44,7 +46,7 @@ pub fn read_words(alloc: Global, words: &[String]) -> Result<Settings, Usage>
     }
 }
 
-/// The options, and their help.
+/// Defines the options and their help. `Err` where memory is refused.
 fn command<'a>(alloc: Global) -> Result<Command<'a>, AllocError>
     ensures { IfOk result (λ command. app_of command ≡ command_line) }
 {
@@ -57,6 +59,7 @@ fn command<'a>(alloc: Global) -> Result<Command<'a>, AllocError>
     with_option(with_option(line, speed(alloc)), file(alloc))
 }
 
+/// Defines `--speed N`.
 fn speed<'a>(alloc: Global) -> Arg<'a>
     ensures { (rule_of result ≡ speed_rule) × (result.global ≡ false) }
 {
@@ -68,9 +71,9 @@ fn speed<'a>(alloc: Global) -> Arg<'a>
         .help("How many times as fast, 1 to 86400")
 }
 
-/// What the matches say.
+/// Returns the settings of parsed arguments. `Err` where memory is refused.
 fn settings_of(alloc: Global, matches: &ArgMatches<'_>) -> Result<Settings, AllocError>
-    ensures { IfOk result (AreSaid (rows_of (found_of matches.now))) }
+    ensures { IfOk result (AreStated (rows_of (found_of matches.now))) }
 {
     let file = file_of(alloc, matches)?;
     Ok(Settings {
@@ -79,7 +82,7 @@ fn settings_of(alloc: Global, matches: &ArgMatches<'_>) -> Result<Settings, Allo
     })
 }
 
-/// The speed. The parser has tested the number, so that the bounds here do not change it.
+/// Returns the speed. The parser has checked the range, so `Speed::new` does not change the number.
 fn speed_of(matches: &ArgMatches<'_>) -> Speed
     ensures { IfSome (one_of (codes "speed") (rows_of (found_of matches.now))) (λ text. IsSpeed text result) }
 {

@@ -21,16 +21,21 @@ use std::fs;
 use std::io::{BufReader, Read, Write};
 use std::rt::Files;
 use std::time::Clock;
-use stream_tool::{answer_usage, read_on, refuse_file, refuse_memory};
+use stream_tool::{answer_usage, flush_and_drain, refuse_file, refuse_memory};
 
-/// How many bytes are asked for at once.
+/// How many bytes one read asks for.
 const BUFFER_LEN: usize = 65_536;
 
-/// Does what the words behind `play` say, and answers the exit status: 0 where the whole stream was played, or help was asked
-/// for, 2 where the words are none of the command, the file could not be opened, a read failed or a line is too long, and 3
-/// where memory was refused or `out` could not be written, which is said unless its reader is gone. Whatever ends it early, the
-/// input or the file is read to its end then; behind words that are refused, and a file that can't be opened, the input, unless
-/// it is a terminal, at which nobody waits.
+/// Runs `play` with these arguments, and returns the exit status with what became of the stream:
+///
+/// - 0: the whole stream was written, or help was printed.
+/// - 2: the arguments are refused, the file can't be opened, a read failed, or a line is too long.
+/// - 3: memory was refused, or `out` could not be written. The latter is not reported where the
+///   reader of `out` is gone.
+///
+/// After a fault, the stream that was played is read to its end. After refused arguments, or for a
+/// file that can't be opened, the input is read to its end. A terminal is not, since nobody waits
+/// there.
 pub fn follow<F: Files, C: Clock, R: Read, W: Write, E: Write>(
     files: &F,
     clock: &C,
@@ -41,7 +46,7 @@ pub fn follow<F: Files, C: Clock, R: Read, W: Write, E: Write>(
     out: &mut W,
     faults: &mut E,
 ) -> Followed
-    ensures told { WasPlayed F.File.remaining (map string_bytes words.now) (R.remaining input.old) (R.remaining input.new) (W.contents out.old) (W.contents out.new) result
+    ensures outcome { WasPlayed F.File.remaining (map string_bytes words.now) (R.remaining input.old) (R.remaining input.new) (W.contents out.old) (W.contents out.new) result
         ⊎ WasNotPlayed (map string_bytes words.now) (W.contents out.old) (W.contents out.new) result.status }
     ensures help { fault_of command_line (map string_bytes words.now) ≡ DisplayHelp ∷ [] → (result.status ≡ 0) ⊎ (result.status ≡ 3) }
     ensures quiet { result.status ≡ 0 → Keeps (E.contents faults.old) (E.contents faults.new) }
@@ -54,7 +59,7 @@ pub fn follow<F: Files, C: Clock, R: Read, W: Write, E: Write>(
         Err(usage) => {
             let status = answer_usage(&usage, out, faults);
             let is_awaited = status > 0 && !is_terminal;
-            return Followed::without_answer(status, read_on(is_awaited, input, faults));
+            return Followed::without_answer(status, flush_and_drain(is_awaited, input, faults));
         }
     };
     let Some(name) = &settings.file else {
@@ -77,12 +82,12 @@ pub fn follow<F: Files, C: Clock, R: Read, W: Write, E: Write>(
         }
         Err(error) => {
             let status = refuse_file(alloc, faults, name, "opened", Some(&error));
-            Followed::without_answer(status, read_on(!is_terminal, input, faults))
+            Followed::without_answer(status, flush_and_drain(!is_terminal, input, faults))
         }
     }
 }
 
-/// Does what `play_command` does, with a reader that has no buffer.
+/// Does what `play_command` does, over a reader without a buffer.
 pub fn play_input<R: Read, W: Write, E: Write, C: Clock>(
     alloc: Global,
     clock: &C,
@@ -105,16 +110,16 @@ pub fn play_input<R: Read, W: Write, E: Write, C: Clock>(
         return Outcome {
             status,
             answer: Err(PlayFault::Memory),
-            rest: read_on(true, input, faults),
+            rest: flush_and_drain(true, input, faults),
         };
     };
     let outcome = play_reader(alloc, clock, speed, name, false, &mut reader, out, faults);
     drop(reader);
-    // What the buffer held is dropped with it; behind a stream that was played to its end nothing is asked for again, for which
-    // a terminal would wait.
+    // Dropping the buffer drops its bytes. A stream that was played to its end is not read again,
+    // because a terminal would wait.
     let rest = match outcome.answer {
         Ok(()) => outcome.rest,
-        Err(_) => read_on(true, input, faults),
+        Err(_) => flush_and_drain(true, input, faults),
     };
     Outcome {
         status: outcome.status,
@@ -123,10 +128,12 @@ pub fn play_input<R: Read, W: Write, E: Write, C: Clock>(
     }
 }
 
-/// Plays the stream that the reader gives, and answers the exit status. What goes wrong is said at once on `faults`, of the
-/// file of that name where one is given, and then the rest is read and dropped: a reader that stops would end whoever writes
-/// the stream. The lines before are sent on first. Nothing is said where the reader of `out` is gone. A text for `faults` that
-/// cannot be written is dropped.
+/// Plays the stream of the reader, and returns the exit status.
+///
+/// A fault is reported at once on `faults`, with the name of the file where `name` is given. Lines
+/// before the fault are flushed first. Then the rest is read and dropped, so that SIGPIPE does not
+/// stop the writer of the stream. Nothing is reported where the reader of `out` is gone. A failed
+/// write to `faults` is ignored.
 pub fn play_command<R: Read, W: Write, E: Write, C: Clock>(
     alloc: Global,
     clock: &C,
@@ -148,13 +155,13 @@ pub fn play_command<R: Read, W: Write, E: Write, C: Clock>(
     play_reader(alloc, clock, speed, name, true, reader, out, faults)
 }
 
-/// Does what `play_command` does, but reads on behind what was not played to its end only where it is asked to.
+/// Does what `play_command` does. After a fault, the rest is only read where `drains_rest`.
 fn play_reader<R: Read, W: Write, E: Write, C: Clock>(
     alloc: Global,
     clock: &C,
     speed: Speed,
     name: Option<&str>,
-    reads_on: bool,
+    drains_rest: bool,
     reader: &mut BufReader<R>,
     out: &mut W,
     faults: &mut E,
@@ -165,7 +172,7 @@ fn play_reader<R: Read, W: Write, E: Write, C: Clock>(
     ensures quiet { result.status ≡ 0 → Keeps (E.contents faults.old) (E.contents faults.new) }
     ensures gone { result.answer ≡ Err Gone → Keeps (E.contents faults.old) (E.contents faults.new) }
     ensures statuses { result.status ≤ 3 }
-    ensures read { reads_on ≡ true → OnOk result.rest
+    ensures read { drains_rest ≡ true → OnOk result.rest
         (OnSome (reader_remaining R.remaining reader.old) (IsAtEnd (reader_remaining R.remaining reader.new))) }
 {
     match play(alloc, clock, speed, reader, out) {
@@ -180,7 +187,7 @@ fn play_reader<R: Read, W: Write, E: Write, C: Clock>(
             Outcome {
                 status,
                 answer: Err(fault),
-                rest: read_on(reads_on, reader, faults),
+                rest: flush_and_drain(drains_rest, reader, faults),
             }
         }
     }

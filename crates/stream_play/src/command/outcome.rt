@@ -1,15 +1,15 @@
-//! What playing came to.
+//! What became of a stream.
 
 use crate::play_fault::PlayFault;
 use stream_lines::FailedRead;
 
-/// What playing came to.
+/// What became of a stream.
 #[derive(Clone, Copy)]
 pub struct Outcome {
     /// The exit status.
     pub status: u8,
-    /// Whether all was played, or why not.
+    /// Whether all of it was played, or why not.
     pub answer: Result<(), PlayFault>,
-    /// That the input was read to its end, or that a read failed.
+    /// Whether the input was read to its end where that was needed. `Err` where a read failed.
     pub rest: Result<(), FailedRead>,
 }

@@ -1,4 +1,4 @@
-//! Why a stream was not played to its end.
+//! Reports why a stream was not played to its end.
 
 ghost use Rattle.std.specs.Prelude.{◌≡◌};
 ghost use Rattle.std.specs.Io.KnownBytes.{Keeps};
@@ -10,8 +10,9 @@ use std::alloc::Global;
 use std::io::Write;
 use stream_tool::{FAILED, REFUSED, refuse_unread, report};
 
-/// Says why the stream was not played to its end, of a file where it has a name, and answers the exit status. Nothing is said
-/// where the reader of the output is gone: whoever ended it, as `head` ends, knows that.
+/// Reports the fault on `faults`, with the name of the file where `name` is given, and returns the
+/// exit status. Nothing is reported where the reader of the output is gone. Whoever ended that
+/// reader, as `head` ends, knows.
 pub fn refuse<E: Write>(alloc: Global, faults: &mut E, name: Option<&str>, fault: PlayFault) -> u8
     ensures status { IsFaultStatus name.entry fault result }
     ensures gone { fault ≡ Gone → Keeps (E.contents faults.old) (E.contents faults.new) }
@@ -26,7 +27,7 @@ pub fn refuse<E: Write>(alloc: Global, faults: &mut E, name: Option<&str>, fault
     }
 }
 
-/// The exit status of a fault.
+/// Returns the exit status of the fault.
 fn fault_status(fault: PlayFault) -> u8
     ensures { result ≡ fault_status_of fault }
 {
@@ -36,7 +37,7 @@ fn fault_status(fault: PlayFault) -> u8
     }
 }
 
-/// Sends on the lines that were played before the fault. Behind a write that failed nothing is written.
+/// Flushes the lines that were played before the fault. After a failed write, nothing is flushed.
 pub fn send_on<W: Write>(out: &mut W, fault: PlayFault)
     ensures { Keeps (W.contents out.old) (W.contents out.new) }
 {

@@ -1,12 +1,12 @@
-//! What the words of the command line say.
+//! The settings of the command.
 
 use crate::speed::Speed;
 
-/// What the words behind `play` say.
+/// The settings that the arguments of `play` state.
 #[derive(Debug, Drop)]
 pub struct Settings {
-    /// How many times as fast.
+    /// How many times as fast as the timestamps.
     pub speed: Speed,
-    /// The file with the stream; standard input where there is none, or it is `-`.
+    /// The file with the stream. Without a file, or with `-`, the stream is standard input.
     pub file: Option<String>,
 }

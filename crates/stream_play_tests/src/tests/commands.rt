@@ -1,15 +1,15 @@
-//! The command, from its words to its exit status.
+//! The command, from its arguments to its exit status.
 
 use super::*;
 use std::{array, fs};
 
-/// Bytes of which there are none yet.
+/// An empty vector.
 fn no_bytes(rt: &impl Abort, alloc: Global) -> &'static mut Vec<u8> {
-    kept(rt, alloc, Vec::new(alloc))
+    leaked(rt, alloc, Vec::new(alloc))
 }
 
-/// Fails where playing the update, behind which the reader fails or not, into a writer with that room that fails so ends
-/// otherwise: with that status, so many bytes written, and that text.
+/// Plays `UPDATE` into a writer that fails after `room` bytes. Fails where the status, the written
+/// bytes or the message differ.
 fn ends_with(
     rt: &impl Abort,
     alloc: Global,
@@ -17,7 +17,7 @@ fn ends_with(
     room: usize,
     kind: ErrorKind,
     status: u8,
-    said: &str,
+    message: &str,
 ) {
     let world = new_world(rt, alloc, "");
     let bytes = UPDATE.as_bytes();
@@ -39,31 +39,31 @@ fn ends_with(
     let speed = Speed::new(86_400);
     let outcome = play_input(alloc, world, speed, None, &mut input, &mut taker, faults);
     holds(rt, "status", outcome.status == status);
-    holds(rt, "said", faults.as_slice() == said.as_bytes());
+    holds(rt, "said", faults.as_slice() == message.as_bytes());
     holds(rt, "what came out", taker.has_all());
     holds(rt, "read to its end", input.bytes.is_empty());
 }
 
 #[test]
 fn reader_that_fails(rt: HostRuntime) {
-    let said = "applystream: the stream could not be read\n";
+    let message = "applystream: the stream could not be read\n";
     let full = ErrorKind::StorageFull;
-    ends_with(&rt, rt.alloc(), true, usize::MAX, full, 2, said);
+    ends_with(&rt, rt.alloc(), true, usize::MAX, full, 2, message);
 }
 
-/// At each byte of the whole output, and behind the last one, where what was written can't be sent on. Nothing is said where
-/// the reader of the output is gone.
+/// The writer fails at each byte of the output, and at the flush after the last byte. Nothing is
+/// reported where the reader of the output is gone.
 #[test]
 fn writer_that_fails(rt: HostRuntime) {
     let alloc = rt.alloc();
-    let said = "applystream: the output could not be written\n";
+    let message = "applystream: the output could not be written\n";
     for room in 0..=UPDATE.len() {
-        ends_with(&rt, alloc, false, room, ErrorKind::StorageFull, 3, said);
+        ends_with(&rt, alloc, false, room, ErrorKind::StorageFull, 3, message);
         ends_with(&rt, alloc, false, room, ErrorKind::BrokenPipe, 3, "");
     }
 }
 
-/// Lines before one that is too long are played, and all of it is read.
+/// Lines before a line that is too long are played, and the input is read to its end.
 #[test]
 fn line_that_is_too_long(rt: HostRuntime) {
     let alloc = rt.alloc();
@@ -76,11 +76,11 @@ fn line_that_is_too_long(rt: HostRuntime) {
     let outcome = play_input(alloc, world, speed, None, &mut input, taken, faults);
     holds(&rt, "status", outcome.status == 2);
     holds(&rt, "what came out", taken.as_slice() == front);
-    let said = "applystream: line 3 is longer than 67108864 bytes\n";
-    holds(&rt, "said", faults.as_slice() == said.as_bytes());
+    let message = "applystream: line 3 is longer than 67108864 bytes\n";
+    holds(&rt, "said", faults.as_slice() == message.as_bytes());
 }
 
-/// What a reader with a buffer has not shown yet is read too, where the output fails.
+/// Where the output fails, the buffer is read to its end too.
 #[test]
 fn rest_of_a_reader_with_a_buffer(rt: HostRuntime) {
     let alloc = rt.alloc();
@@ -105,8 +105,8 @@ fn rest_of_a_reader_with_a_buffer(rt: HostRuntime) {
     holds(&rt, "all that there is", reader.get_ref().bytes.is_empty());
 }
 
-/// Fails where the word ends otherwise than with that status and a text that begins so, or leaves another number of bytes of the
-/// input, which is a terminal or not.
+/// Runs `play` with one argument. Fails where the status, the start of the message, or the rest of
+/// the input differs.
 fn word_leaves(
     rt: &(impl Abort + Files),
     alloc: Global,
@@ -117,7 +117,7 @@ fn word_leaves(
     left: usize,
 ) {
     let word = String::from_str(alloc, word).expect(rt, "memory");
-    let word = &*kept(rt, alloc, word);
+    let word = &*leaked(rt, alloc, word);
     let world = new_world(rt, alloc, "");
     let mut input: &[u8] = b"a\n";
     let out = no_bytes(rt, alloc);
@@ -133,22 +133,22 @@ fn word_leaves(
         faults,
     );
     holds(rt, wanted, found.status == status);
-    let said = if status == 0 {
+    let message = if status == 0 {
         out.as_slice()
     } else {
         faults.as_slice()
     };
-    holds(rt, wanted, said.starts_with(wanted.as_bytes()));
+    holds(rt, wanted, message.starts_with(wanted.as_bytes()));
     holds(rt, wanted, input.len() == left);
 }
 
-/// What stands before the first mark, and behind it.
+/// The text before the first mark, and the text after it.
 fn parted<'a>(rt: &impl Abort, row: &'a str) -> (&'a str, &'a str) {
     row.split_once('|').expect(rt, "a mark")
 }
 
-/// Fails where a row is answered otherwise than with status 2 and its text, or leaves another number of bytes of the input. Each
-/// row has a word and the text, each with a mark behind it.
+/// Runs each row. Fails where its status is not 2, or its message or the rest of the input differs.
+/// A row has an argument and the start of a message, each with a mark after it.
 fn words_are_refused(
     rt: &(impl Abort + Files),
     alloc: Global,
@@ -163,14 +163,14 @@ fn words_are_refused(
     }
 }
 
-/// Words that are refused, and files that are not there.
+/// Refused arguments, and files that do not exist.
 const REFUSED: &str = "--speed=0|error: |
 --speed=86401|error: |
 --fast|error: unexpected argument '--fast' found|
 no such file|applystream: the file no such file could not be opened: |
  no such file |applystream: the file  no such file  could not be opened: |";
 
-/// The input is played, or read to its end, but for help.
+/// The input is played or read to its end, but not for help.
 #[test]
 fn words(rt: HostRuntime) {
     let alloc = rt.alloc();
@@ -181,11 +181,11 @@ fn words(rt: HostRuntime) {
     words_are_refused(&rt, alloc, false, REFUSED, 0);
 }
 
-/// At a terminal, at which nobody writes, refused words and a file that can't be opened.
+/// Refused arguments and a file that can't be opened, at a terminal.
 const AT_A_TERMINAL: &str = "--fast|error: |
 no|applystream: |";
 
-/// They leave the input as it is; so does a file that can't be read, as a folder, which is what was to be read.
+/// Such arguments leave the input as it is. So does a file that can't be read, such as a folder.
 #[test]
 fn input_that_is_left_alone(rt: HostRuntime) {
     let alloc = rt.alloc();
@@ -194,7 +194,7 @@ fn input_that_is_left_alone(rt: HostRuntime) {
     word_leaves(&rt, alloc, ".", false, 2, folder, 2);
 }
 
-/// Where a file was opened, nothing of the input is read, also behind a file that is played to its end.
+/// Where a file was opened, the input stays unread.
 #[test]
 fn file_alone_is_read(rt: HostRuntime) {
     let alloc = rt.alloc();

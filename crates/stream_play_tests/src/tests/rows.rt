@@ -1,9 +1,9 @@
-//! Streams and when their lines come.
+//! Streams, and when their lines are written.
 
 use super::*;
 
-/// Fails where the stream, read and taken in pieces of at most so many bytes, comes out otherwise than it went in, or the
-/// world sees other sleeps than were to come, or bytes that were held back.
+/// Plays the stream in pieces of at most `most` bytes. Fails where the bytes differ, the sleeps
+/// differ, or bytes are held back before a sleep or a read.
 fn is_played(
     rt: &impl Abort,
     alloc: Global,
@@ -27,7 +27,7 @@ fn is_played(
     holds(rt, "sleeps, and bytes sent on", world.is_as_wanted());
 }
 
-/// The same of a clock that can be read and sleeps as long as it is asked to: for these times, in microseconds.
+/// Plays the stream with a clock that works. Fails where the sleeps differ, in microseconds.
 fn comes_after(
     rt: &impl Abort,
     alloc: Global,
@@ -40,7 +40,7 @@ fn comes_after(
     is_played(rt, alloc, world, speed, stream, most);
 }
 
-/// What was asked for and none other, however the bytes come and go.
+/// The sleeps do not depend on the pieces.
 #[test]
 fn update_of_25_seconds(rt: HostRuntime) {
     let alloc = rt.alloc();
@@ -50,7 +50,7 @@ fn update_of_25_seconds(rt: HostRuntime) {
     }
 }
 
-/// Moments of 0, 5, 3, 5 and 9 seconds.
+/// Timestamps of 0, 5, 3, 5 and 9 seconds.
 const BACK: &str = r#"{"@timestamp":"2024-05-01T12:00:00Z","type":"a"}
 {"@timestamp":"2024-05-01T12:00:05Z","type":"a"}
 {"@timestamp":"2024-05-01T12:00:03Z","type":"a"}
@@ -58,18 +58,18 @@ const BACK: &str = r#"{"@timestamp":"2024-05-01T12:00:00Z","type":"a"}
 {"@timestamp":"2024-05-01T12:00:09Z","type":"a"}
 "#;
 
-/// A moment that goes back waits for nothing.
+/// A timestamp that goes back causes no sleep.
 #[test]
 fn moments_that_go_back(rt: HostRuntime) {
     comes_after(&rt, rt.alloc(), 1, BACK, 65_536, "5000000 4000000 ");
 }
 
-/// Lines that are no messages, or tell no moment: of another program, an empty one, one without a type, one whose moment is
-/// none; and carriage returns and a last line without a line feed.
+/// Lines that are no messages or state no timestamp: of another program, empty, without a type, or
+/// with a wrong timestamp. Some have a carriage return, and the last line has no line feed.
 const NO_MESSAGES: &str =
     "module.a: Creating...\r\n{\"@timestamp\":\"2024-05-01T12:00:00Z\",\"type\":\"a\"}\r\n\n{\"@timestamp\":\"2030-05-01T12:00:00Z\"}\n{\"@timestamp\":\"soon\",\"type\":\"a\"}\n{\"@timestamp\":7,\"type\":\"a\"}\n{\"@timestamp\":\"2024-05-01T12:00:01Z\",\"type\":\"a\"}\r\nlast";
 
-/// They wait for nothing.
+/// Such lines cause no sleep.
 #[test]
 fn lines_that_are_no_messages(rt: HostRuntime) {
     let alloc = rt.alloc();
@@ -78,11 +78,11 @@ fn lines_that_are_no_messages(rt: HostRuntime) {
     comes_after(&rt, alloc, 1, "a", 65_536, "");
 }
 
-/// Eleven sleeps until the first wait is over, of which ten return at once, and one for each wait behind it.
+/// Eleven sleeps for the first wait, of which ten return at once, and one for each later wait.
 const BEGUN_AGAIN: &str =
     "10000000 10000000 10000000 10000000 10000000 10000000 10000000 10000000 10000000 10000000 10000000 10000000 5000000 ";
 
-/// A sleep that returns at once ten times is begun again each time.
+/// A sleep that returns at once is repeated.
 #[test]
 fn sleeps_that_end_early(rt: HostRuntime) {
     let alloc = rt.alloc();
@@ -92,7 +92,7 @@ fn sleeps_that_end_early(rt: HostRuntime) {
     holds(&rt, "the time", world.now.get() == 25_000_000);
 }
 
-/// Waits do not add up: what reading takes, a second a line, is taken off the next one.
+/// Waits do not add up: each read takes a second, and the next sleep is shorter by that time.
 #[test]
 fn reader_that_takes_its_time(rt: HostRuntime) {
     let alloc = rt.alloc();
@@ -101,7 +101,7 @@ fn reader_that_takes_its_time(rt: HostRuntime) {
     is_played(&rt, alloc, world, 1, UPDATE, 65_536);
 }
 
-/// Where the clock can't be read, or no more, nothing is waited for.
+/// Where the clock can't be read, at the start or later, no line waits.
 #[test]
 fn clock_that_cannot_be_read(rt: HostRuntime) {
     let alloc = rt.alloc();

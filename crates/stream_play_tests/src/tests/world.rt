@@ -1,27 +1,27 @@
-//! A clock, a reader and a writer that know of one another.
+//! A clock, a reader and a writer that share a state.
 
 use super::*;
 
-/// A clock that counts and adds what it is asked to sleep, and what was seen of it and of the output.
+/// A clock that counts its sleeps. It also records whether sleeps and flushes come as expected.
 #[derive(Drop)]
 pub(super) struct World {
-    /// Its time, in microseconds.
+    /// The time of the clock, in microseconds.
     pub now: Cell<u64>,
-    /// The sleeps that are to be asked for yet, in microseconds, each with a blank behind it.
+    /// The sleeps that are still expected, in microseconds, each with a blank after it.
     sleeps: Cell<&'static str>,
-    /// How many sleeps more return at once.
+    /// How many more sleeps return at once.
     pub lazy: Cell<u64>,
-    /// How many times more it can be read.
+    /// How many more times the clock can be read.
     pub readings: Cell<u64>,
     /// How long each read of the input takes, in microseconds.
     pub read_time: Cell<u64>,
-    /// Whether bytes were written and not sent on.
+    /// Whether bytes were written and not flushed.
     is_pending: Cell<bool>,
-    /// Whether a sleep or a read came while bytes were, or another sleep than the next one.
+    /// Whether a sleep or a read came before a flush, or another sleep than expected.
     is_wrong: Cell<bool>,
 }
 
-/// A clock at 0 that is to be asked for these sleeps.
+/// A clock at 0 that expects these sleeps.
 pub(super) fn new_world(rt: &impl Abort, alloc: Global, sleeps: &'static str) -> &'static World {
     let world = World {
         now: Cell::new(0),
@@ -32,29 +32,28 @@ pub(super) fn new_world(rt: &impl Abort, alloc: Global, sleeps: &'static str) ->
         is_pending: Cell::new(false),
         is_wrong: Cell::new(false),
     };
-    &*kept(rt, alloc, world)
+    &*leaked(rt, alloc, world)
 }
 
 impl World {
-    /// Whether the sleeps that were to come came and none other, nothing was held back before one and before a read, and all
-    /// that was written was sent on.
+    /// Whether exactly the expected sleeps came, and all bytes were flushed in time.
     pub fn is_as_wanted(&self) -> bool {
         !self.is_wrong.get() && !self.is_pending.get() && self.sleeps.get().is_empty()
     }
 
-    /// Lets so many microseconds go by.
+    /// Moves the clock by that many microseconds.
     fn pass(&self, micros: u64) {
         self.now.set(self.now.get().saturating_add(micros));
     }
 
-    /// Notes that somebody may have to wait now.
+    /// Records that a sleep or a read may block now.
     fn waits(&self) {
         if self.is_pending.get() {
             self.is_wrong.set(true);
         }
     }
 
-    /// Notes one sleep.
+    /// Records one sleep.
     fn note(&self, micros: u64) {
         match self.sleeps.get().split_once(' ') {
             Some((next, rest)) if next.parse::<u64>().ok() == Some(micros) => self.sleeps.set(rest),
@@ -90,13 +89,13 @@ impl Clock for World {
     }
 }
 
-/// A reader that gives at most so many bytes at once, and no more than to the end of a line.
+/// A reader that gives at most `most` bytes at once, and never more than one line.
 #[derive(Clone, Copy)]
 pub(super) struct Pieces {
     pub world: &'static World,
     pub bytes: &'static [u8],
     pub most: usize,
-    /// Whether it fails at the end.
+    /// Whether a read fails at the end.
     pub is_broken: bool,
 }
 
@@ -117,7 +116,7 @@ impl Read for Pieces {
     }
 }
 
-/// A reader with a buffer, which gives the text in pieces of at most so many bytes.
+/// A buffered reader that gives the text in pieces of at most `most` bytes.
 pub(super) fn new_reader(
     rt: &impl Abort,
     alloc: Global,
@@ -132,25 +131,25 @@ pub(super) fn new_reader(
         is_broken: false,
     };
     let reader = BufReader::new(alloc, pieces);
-    kept(rt, alloc, reader.expect(rt, "memory"))
+    leaked(rt, alloc, reader.expect(rt, "memory"))
 }
 
-/// A writer that takes at most so many bytes at once, and fails so behind so many, in a write as in a flush.
+/// A writer that accepts at most `most` bytes at once. Writes and flushes fail after `room` bytes.
 #[derive(Clone, Copy)]
 pub(super) struct Taker {
     pub world: &'static World,
-    /// The bytes that are to come yet.
+    /// The bytes that are still expected.
     pub wanted: &'static [u8],
-    /// Whether others came.
+    /// Whether other bytes came.
     pub is_other: bool,
     pub most: usize,
-    /// How many more it takes.
+    /// How many more bytes are accepted.
     pub room: usize,
     pub kind: ErrorKind,
 }
 
 impl Taker {
-    /// Whether the bytes that were to come came and none other.
+    /// Whether exactly the expected bytes came.
     pub fn has_all(&self) -> bool {
         !self.is_other && self.wanted.is_empty()
     }

@@ -1,20 +1,22 @@
-//! Which halves of the cells of a row a bar covers.
+//! The halves of cells that a bar covers.
 
 ghost use Rattle.std.specs.Prelude.{◌≡◌, ◌<◌, ◌≤◌, ◌*◌, ◌^◌, ◌+◌, ◌&&◌, nat_le, nat_lt};
 ghost use Rattle.stream_timeline.specs.Bars.{end_half, first_half};
 
 use crate::bars::scale::{place_above, place_on};
 
-/// Which halves of the cells of a row a bar covers: from `first` on, before `end`.
+/// The halves of cells that a bar covers: from `first`, up to but not including `end`.
 #[derive(Clone, Copy, Debug, PartialEq, Eq)]
 pub struct Halves {
     pub first: u128,
     pub end: u128,
 }
 
-/// The halves that the bar of a step covers in a row of so many cells, for a stream as long as `span`: from where it
-/// begins on, before where it ends, at least one, and the last one where it would lie beyond. Moments are microseconds
-/// since the first of the stream.
+/// The halves that the bar of a step covers in a row of `cells` cells. `span`, `begin` and `end`
+/// are microseconds; `begin` and `end` count from the start of the stream.
+///
+/// A bar covers at least one half. A bar that would begin beyond the last half covers the last
+/// half.
 pub fn halves_of(cells: u32, span: u64, begin: u64, end: u64) -> Halves
     requires { 1 ≤ cells }
     ensures first { result.first ≡ first_half cells span begin }
@@ -29,7 +31,7 @@ pub fn halves_of(cells: u32, span: u64, begin: u64, end: u64) -> Halves
 }
 
 impl Halves {
-    /// Whether that half is covered.
+    /// Whether the bar covers the half with this number, counted from 0.
     pub fn covers(self, half: u32) -> bool
         ensures { result ≡ (nat_le self.first half && nat_lt half self.end) }
     {

@@ -1,4 +1,4 @@
-//! The numbers of a stream.
+//! The figures of a stream.
 
 ghost use Rattle.std.specs.Prelude.{◌≡◌, ◌<◌, ◌+◌, ◌^◌, ℕ, IfOk, codes, get_or, if◌then◌else◌, length};
 ghost use Rattle.std.specs.List.{sum_by};
@@ -8,35 +8,39 @@ ghost use Rattle.stream_timeline.specs.Numbers.{IsNumbersOf, alone_in, busy_in, 
 use crate::numbers::interval::{Interval, intervals_of};
 use crate::numbers::stretch::Stretch;
 use crate::numbers::sweep::stretches_of;
-use crate::told::moments::Moments;
-use crate::told::step::Step;
+use crate::reading::step::Step;
+use crate::reading::time_range::TimeRange;
 use std::alloc::{AllocError, Global};
 
-/// How much was done, and how much of it beside one another. Times are microseconds. Steps that failed and whose end is
-/// not told are left out, since nobody knows when they failed.
+/// The figures of a stream. Times are in microseconds. A step that failed and has no end is left
+/// out, because nobody knows when it failed.
 #[derive(Drop)]
 pub struct Numbers {
-    /// How long some step was under way.
+    /// For how long at least one step ran.
     pub busy: u64,
-    /// How many were under way at once, at most.
+    /// The greatest number of steps that ran at once.
     pub peak: usize,
-    /// The sum of the lengths of the steps.
+    /// The sum of the lengths of all steps.
     pub work: u128,
-    /// How long the step at each place was the only one under way.
+    /// For each step, how long it was the only one that ran.
     pub alone: Vec<u64>,
-    /// How many creates, updates and deletes ended well.
+    /// How many creates, updates and deletes completed.
     pub created: usize,
     pub updated: usize,
     pub deleted: usize,
-    /// The stretches between the moments at which steps begin and end, in order.
+    /// The stretches between neighbouring begins and ends, in order.
     pub stretches: Vec<Stretch>,
 }
 
-/// The numbers of steps of a stream with these moments. `Err` where memory is refused.
-pub fn numbers_of(alloc: Global, moments: Moments, steps: &[Step]) -> Result<Numbers, AllocError>
-    ensures { IfOk result (λ numbers. IsNumbersOf moments steps.now numbers) }
+/// Computes the figures of the steps of a stream. `Err` means that memory was refused.
+pub fn numbers_of(
+    alloc: Global,
+    time_range: TimeRange,
+    steps: &[Step],
+) -> Result<Numbers, AllocError>
+    ensures { IfOk result (λ numbers. IsNumbersOf time_range steps.now numbers) }
 {
-    let intervals = intervals_of(alloc, moments, steps)?;
+    let intervals = intervals_of(alloc, time_range, steps)?;
     let stretches = stretches_of(alloc, &intervals)?;
     Ok(Numbers {
         busy: busy_in(&stretches),
@@ -50,7 +54,7 @@ pub fn numbers_of(alloc: Global, moments: Moments, steps: &[Step]) -> Result<Num
     })
 }
 
-/// How long some step was under way.
+/// For how long at least one step ran.
 fn busy_in(stretches: &[Stretch]) -> u64
     requires { sum_by stretch_length stretches.now < 2 ^ 64 }
     ensures { result ≡ busy_in stretches.now }
@@ -64,7 +68,7 @@ fn busy_in(stretches: &[Stretch]) -> u64
     busy
 }
 
-/// The greatest number that was under way.
+/// The greatest number of steps that ran at once.
 fn peak_in(stretches: &[Stretch]) -> usize
     ensures { result ≡ peak_in stretches.now }
 {
@@ -75,7 +79,7 @@ fn peak_in(stretches: &[Stretch]) -> usize
     peak
 }
 
-/// The sum of the lengths.
+/// The sum of the lengths of the intervals.
 fn work_of(intervals: &[Interval]) -> u128
     ensures { result ≡ work_of intervals.now }
 {
@@ -86,7 +90,8 @@ fn work_of(intervals: &[Interval]) -> u128
     work
 }
 
-/// How long the step at each place was the only one under way.
+/// For each of `count` steps, how long it was the only one that ran. `Err` means that memory was
+/// refused.
 fn alone_in(alloc: Global, count: usize, stretches: &[Stretch]) -> Result<Vec<u64>, AllocError>
     requires { sum_by stretch_length stretches.now < 2 ^ 64 }
     ensures len { IfOk result (λ alone. length alone.items ≡ count) }
@@ -100,7 +105,8 @@ fn alone_in(alloc: Global, count: usize, stretches: &[Stretch]) -> Result<Vec<u6
     Ok(alone)
 }
 
-/// Adds the length of a stretch to that of the only step that is under way in it.
+/// Where only one step runs in the stretch, adds the length of the stretch to the figure of that
+/// step.
 fn add_alone(alone: &mut [u64], stretch: Stretch)
     requires { (place : ℕ) → get_or alone.old place 0 + stretch_length stretch < 2 ^ 64 }
     ensures { (place : ℕ) → place < length alone.old
@@ -114,7 +120,7 @@ fn add_alone(alone: &mut [u64], stretch: Stretch)
     }
 }
 
-/// How many steps of that action ended well.
+/// How many steps with this action completed.
 fn completed_of(action: &str, steps: &[Step]) -> usize
     ensures { result ≡ completed_of action.now steps.now }
 {

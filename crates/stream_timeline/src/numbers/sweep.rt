@@ -1,4 +1,4 @@
-//! The stretches between the begins and ends, in one sweep over them.
+//! The stretches of a stream, computed in one sweep over begins and ends.
 
 ghost use Rattle.std.specs.Prelude.{◌≡◌, All, IfOk};
 ghost use Rattle.stream_timeline.specs.Stretches.{IsOrdered, IsSmallInterval, stretches_of};
@@ -9,7 +9,8 @@ use crate::numbers::running::Sweep;
 use crate::numbers::stretch::Stretch;
 use std::alloc::{AllocError, Global};
 
-/// The stretches between the moments at which the intervals begin and end, in order.
+/// The stretches between neighbouring begins and ends of the intervals, in order. `Err` means that
+/// memory was refused.
 pub fn stretches_of(alloc: Global, intervals: &[Interval]) -> Result<Vec<Stretch>, AllocError>
     requires ordered { All IsOrdered intervals.now }
     requires small { All IsSmallInterval intervals.now }

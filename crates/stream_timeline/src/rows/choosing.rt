@@ -4,66 +4,80 @@ ghost use Rattle.std.specs.Prelude.{◌≡◌, ◌<◌, ◌≤◌, ◌==◌, ℕ
 ghost use Rattle.std.specs.List.{AllPairs, count_by};
 ghost use Rattle.std.specs.List.Sorted.{IsPermutation};
 ghost use Rattle.std.specs.Ordering.{is_lt};
-ghost use Rattle.stream_timeline.specs.Rows.{AreRanked, AreRowsOf, IsPrintedBefore, candidates_of, comes_before, gets_row, gets_row_within, longest, together};
-ghost use Rattle.stream_timeline.specs.declared.rows.candidate.Candidate.{Candidate as candidate};
+ghost use Rattle.stream_timeline.specs.Rows.{AreRanked, AreRowsOf, IsPrintedBefore, candidates_of, comes_before, gets_row, gets_row_within, longest, total_length};
+ghost use Rattle.stream_timeline.specs.declared.rows.choosing.Candidate.{Candidate as candidate};
 
-use crate::rows::candidate::Candidate;
-use crate::told::moments::Moments;
-use crate::told::step::Step;
+use crate::reading::step::Step;
+use crate::reading::time_range::TimeRange;
 use std::alloc::{AllocError, Global};
 use std::cmp::Ordering;
 
-/// How many rows no step is too short for.
-const SURE_ROWS: usize = 10;
-
-/// Behind them a step gets a row that takes as many parts of the span.
-const SPAN_PARTS: u128 = 200;
-
-/// Which steps get a row, and what is left out.
-#[derive(Drop)]
-pub struct Rows {
-    /// The places of those that get one, in the order in which they began; of two that began at once, that of the
-    /// earlier line first.
-    pub places: Vec<usize>,
-    /// How many get none.
-    pub left_out: usize,
-    /// The greatest length of those, in microseconds.
-    pub longest: u64,
-    /// The sum of their lengths, in microseconds.
-    pub together: u128,
+/// What decides whether a step gets a row. `place` is the index of the step. `marked` says that the
+/// step failed or has no end. `length` is in microseconds.
+#[derive(Clone, Copy)]
+pub struct Candidate {
+    pub marked: bool,
+    pub length: u64,
+    pub place: usize,
 }
 
-/// The rows of steps of a stream with these moments: of those that are marked, then longer, then of an earlier line,
-/// the first `limit`; but behind the tenth only those that are marked, or whose length is at least a 200th of the span.
-/// All of them where there is no limit. `Err` where memory is refused.
+/// This many rows are given to steps of any length.
+const SURE_ROWS: usize = 10;
+
+/// After the first ten rows, a step gets one if it takes at least this fraction of the span.
+const SPAN_PARTS: u128 = 200;
+
+/// The steps that get a row, and figures of the steps that get none.
+#[derive(Drop)]
+pub struct Rows {
+    /// The indexes of the steps with a row, in the order in which the steps began. Steps that began
+    /// at the same time stand in the order of their lines.
+    pub places: Vec<usize>,
+    /// How many steps get no row.
+    pub left_out: usize,
+    /// The greatest length of a step without a row, in microseconds.
+    pub longest: u64,
+    /// The sum of the lengths of the steps without a row, in microseconds.
+    pub total_length: u128,
+}
+
+/// Chooses the steps that get a row. Marked steps come first, then longer ones, then those of
+/// earlier lines; the first `limit` of this order get a row. After the tenth row, only marked steps
+/// and steps of at least a 200th of the span get one.
+///
+/// Without a limit all steps get a row. `Err` means that memory was refused.
 pub fn rows_of(
     alloc: Global,
-    moments: Moments,
+    time_range: TimeRange,
     steps: &[Step],
     limit: Option<usize>,
 ) -> Result<Rows, AllocError>
-    ensures { IfOk result (λ rows. AreRowsOf moments steps.now limit rows) }
+    ensures { IfOk result (λ rows. AreRowsOf time_range steps.now limit rows) }
 {
-    let ranked = ranked(alloc, moments, steps)?;
-    let count = chosen_count(&ranked, moments.span(), limit);
+    let ranked = ranked(alloc, time_range, steps)?;
+    let count = chosen_count(&ranked, time_range.span(), limit);
     Ok(Rows {
         places: in_order_of_begin(alloc, steps, &ranked[..count])?,
         left_out: ranked.len() - count,
         longest: longest(&ranked[count..]),
-        together: together(&ranked[count..]),
+        total_length: total_length(&ranked[count..]),
     })
 }
 
-/// All steps in the order in which they get rows.
-fn ranked(alloc: Global, moments: Moments, steps: &[Step]) -> Result<Vec<Candidate>, AllocError>
-    ensures all { IfOk result (λ ranked. IsPermutation (candidates_of moments steps.now) ranked.items) }
+/// All steps in the order in which they get rows. `Err` means that memory was refused.
+fn ranked(
+    alloc: Global,
+    time_range: TimeRange,
+    steps: &[Step],
+) -> Result<Vec<Candidate>, AllocError>
+    ensures all { IfOk result (λ ranked. IsPermutation (candidates_of time_range steps.now) ranked.items) }
     ensures ordered { IfOk result (λ ranked. AreRanked ranked.items) }
 {
     let mut candidates = Vec::new(alloc);
     for (place, step) in steps.iter().enumerate() {
         candidates.push(Candidate {
             marked: step.is_marked(),
-            length: step.length(moments),
+            length: step.length(time_range),
             place,
         })?;
     }
@@ -71,7 +85,7 @@ fn ranked(alloc: Global, moments: Moments, steps: &[Step]) -> Result<Vec<Candida
     Ok(candidates)
 }
 
-/// Marked ones come first, then longer ones, then those of earlier lines.
+/// Marked steps come first, then longer ones, then those of earlier lines.
 fn order_of(first: Candidate, second: Candidate) -> Ordering
     ensures { is_lt result ≡ comes_before first second }
 {
@@ -87,12 +101,12 @@ fn order_of(first: Candidate, second: Candidate) -> Ordering
     }
 }
 
-/// How many of the first get a row.
+/// How many of the ranked steps get a row.
 fn chosen_count(ranked: &[Candidate], span: u64, limit: Option<usize>) -> usize
     ensures bound { result ≤ length ranked.now }
     ensures before { (rank : ℕ) (d : candidate) → rank < result
         → gets_row limit span rank (get_or ranked.now rank d) ≡ true }
-    ensures behind { (d : candidate) → result < length ranked.now
+    ensures after { (d : candidate) → result < length ranked.now
         → gets_row limit span result (get_or ranked.now result d) ≡ false }
 {
     let Some(limit) = limit else {
@@ -105,7 +119,7 @@ fn chosen_count(ranked: &[Candidate], span: u64, limit: Option<usize>) -> usize
     count
 }
 
-/// Whether a step gets a row behind so many others, where so many may have one.
+/// Whether the step at this rank, counted from 0, gets a row.
 fn gets_row(candidate: Candidate, rank: usize, span: u64, limit: usize) -> bool
     ensures { result ≡ gets_row_within limit span rank candidate }
 {
@@ -115,7 +129,8 @@ fn gets_row(candidate: Candidate, rank: usize, span: u64, limit: usize) -> bool
             || span as u128 <= candidate.length as u128 * SPAN_PARTS)
 }
 
-/// Their places, in the order in which they began.
+/// The indexes of the chosen steps, in the order in which the steps began. `Err` means that memory
+/// was refused.
 fn in_order_of_begin(
     alloc: Global,
     steps: &[Step],
@@ -150,12 +165,12 @@ fn longest(candidates: &[Candidate]) -> u64
 }
 
 /// The sum of the lengths.
-fn together(candidates: &[Candidate]) -> u128
-    ensures { result ≡ together candidates.now }
+fn total_length(candidates: &[Candidate]) -> u128
+    ensures { result ≡ total_length candidates.now }
 {
-    let mut together = 0;
+    let mut total_length = 0;
     for candidate in candidates {
-        together += candidate.length as u128;
+        total_length += candidate.length as u128;
     }
-    together
+    total_length
 }

@@ -1,31 +1,30 @@
-//! The words of the command line.
+//! The arguments of the command line.
 
 ghost use Rattle.std.specs.Prelude.{◌≡◌, None, Some, false, true, IfErr, IfOk, IfSome, codes, map, string_bytes};
 ghost use Rattle.clap.specs.Matches.{found_of};
 ghost use Rattle.clap.specs.Simple.{app_of};
-ghost use Rattle.clap.specs.Walk.{one_of, rows_of as found_rows, rule_of};
-ghost use Rattle.stream_view.specs.CommandLine.{AreRowsSaid, AreSaid, HaveSaid, IsNumber, IsTextSaid, SayNoSettings, TakesColours, are_beside, colour_of_word, colour_rule, colour_said, command_line, is_given, number_named, option_named, rows_of_form, width_rule};
+ghost use Rattle.clap.specs.Walk.{one_of, rows_of as matched_rows, rule_of};
+ghost use Rattle.stream_view.specs.CommandLine.{AreRowsStated, AreStated, StateSettings, IsNumber, IsTextStated, StateNoSettings, TakesColours, are_conflicting, colour_of_word, colour_rule, stated_colour, command_line, is_given, number_named, option_named, rows_of_form, width_rule};
 ghost use Rattle.stream_view.specs.Usages.{IsWordsOrMemory};
 ghost use Rattle.stream_tool.specs.Words.{flag_rule};
-ghost use Rattle.stream_view.specs.declared.command.form.Form.TheVariants as form;
+ghost use Rattle.stream_view.specs.declared.command.settings.Form.TheVariants as form;
 
 use crate::command::colour::Colour;
-use crate::command::form::Form;
-use crate::command::settings::Settings;
+use crate::command::settings::{Form, Settings};
 use clap::parser::ValueSource;
 use clap::{Arg, ArgMatches, Command, value_parser};
 use std::alloc::{AllocError, Global};
 use stream_tool::{Usage, file, file_of, flag, is_given, matches_of, with_option};
 
-/// When there are colours, as words.
+/// The values of `--color`.
 static COLOURS: [&str; 3] = ["auto", "always", "never"];
 
-/// How many steps get a row where nothing else is said: in a text, and in an SVG.
+/// How many steps get a row by default, in a text and in an SVG.
 const TEXT_ROWS: u32 = 40;
 
 const SVG_ROWS: u32 = 200;
 
-/// How wide a text is where nothing else is said.
+/// The default width of a text.
 const WIDTH: u32 = 120;
 
 const ABOUT: &str =
@@ -46,17 +45,17 @@ Exit status:
   2  wrong options, a file or a stream that can't be read, or a stream without a message
   3  out of memory, or the output could not be written"#;
 
-/// The settings that the words behind `view` say. `Err` with `Usage::Help` where they ask for help, with `Usage::Words` where
-/// they are none of this command, and with `Usage::Memory` where memory is refused.
+/// Reads the arguments after `view` into settings. `Usage::Help` if they ask for help,
+/// `Usage::Words` if they are wrong, and `Usage::Memory` if memory is refused.
 pub fn read_words(alloc: Global, words: &[String]) -> Result<Settings, Usage>
-    ensures said { IfOk result (HaveSaid (map string_bytes words.now)) }
-    ensures refused { IfErr result (SayNoSettings (map string_bytes words.now)) }
+    ensures stated { IfOk result (StateSettings (map string_bytes words.now)) }
+    ensures refused { IfErr result (StateNoSettings (map string_bytes words.now)) }
 {
     let command = command(alloc)?;
     match matches_of(alloc, command, words) {
         Ok(matches) => {
-            if are_beside(&matches) {
-                return Err(usage_beside(alloc, words));
+            if are_conflicting(&matches) {
+                return Err(conflict_usage(alloc, words));
             }
             Ok(settings_of(alloc, &matches)?)
         }
@@ -64,9 +63,10 @@ pub fn read_words(alloc: Global, words: &[String]) -> Result<Settings, Usage>
     }
 }
 
-/// Why options are refused that may not stand beside one another: the words are taken once more, by a command that has those
-/// rules. What `clap` makes of words it states only for commands without any, so that the words were taken by such a one first.
-fn usage_beside(alloc: Global, words: &[String]) -> Usage
+/// The message about options that exclude each other. A second parser, with rules for such
+/// conflicts, makes it. `clap` states the result of parsing only for commands without such rules,
+/// so the first parser has none.
+fn conflict_usage(alloc: Global, words: &[String]) -> Usage
     ensures { IsWordsOrMemory result }
 {
     let Ok(command) = strict_command(alloc) else {
@@ -78,21 +78,21 @@ fn usage_beside(alloc: Global, words: &[String]) -> Usage
     }
 }
 
-/// The options, and their help.
+/// The command with its options and help. `Err` means that memory was refused.
 fn command<'a>(alloc: Global) -> Result<Command<'a>, AllocError>
     ensures { (colours : _) × TakesColours colours × IfOk result (λ command. app_of command ≡ command_line colours) }
 {
     command_of(alloc, svg(alloc), all(alloc))
 }
 
-/// The same, with the rules which of them may not stand beside one another.
+/// The command with rules for options that exclude each other. `Err` means that memory was refused.
 fn strict_command<'a>(alloc: Global) -> Result<Command<'a>, AllocError> {
     let svg = svg(alloc).conflicts_with("width")?.conflicts_with("color")?;
     let all = all(alloc).conflicts_with("rows")?;
     command_of(alloc, svg, all)
 }
 
-/// That of these two options and the others.
+/// The command with these two options and the others. `Err` means that memory was refused.
 fn command_of<'a>(alloc: Global, svg: Arg<'a>, all: Arg<'a>) -> Result<Command<'a>, AllocError>
     ensures { rule_of svg.entry ≡ flag_rule (codes "svg") → svg.entry.global ≡ false
         → rule_of all.entry ≡ flag_rule (codes "all") → all.entry.global ≡ false
@@ -112,7 +112,7 @@ fn command_of<'a>(alloc: Global, svg: Arg<'a>, all: Arg<'a>) -> Result<Command<'
     with_option(line, file(alloc))
 }
 
-/// `--NAME VALUE`, and what is said of it.
+/// The option `--NAME VALUE` with its help.
 fn option<'a>(alloc: Global, name: &'a str, value: &'a str, help: &'a str) -> Arg<'a>
     ensures { (rule_of result ≡ option_named name.entry.now) × (result.global ≡ false) }
 {
@@ -159,17 +159,17 @@ fn color<'a>(alloc: Global) -> Arg<'a>
         .default_value("auto")
 }
 
-/// Whether options stand beside one another that may not.
-fn are_beside(matches: &ArgMatches<'_>) -> bool
-    ensures { result ≡ are_beside (found_rows (found_of matches.now)) }
+/// Whether options were given that exclude each other.
+fn are_conflicting(matches: &ArgMatches<'_>) -> bool
+    ensures { result ≡ are_conflicting (matched_rows (found_of matches.now)) }
 {
     stands(matches, "svg") && (stands(matches, "width") || stands(matches, "color"))
         || stands(matches, "all") && stands(matches, "rows")
 }
 
-/// Whether the option stands among the words.
+/// Whether the option was given on the command line.
 fn stands(matches: &ArgMatches<'_>, option: &str) -> bool
-    ensures { result ≡ is_given option.now (found_rows (found_of matches.now)) }
+    ensures { result ≡ is_given option.now (matched_rows (found_of matches.now)) }
 {
     match matches.value_source(option) {
         Some(ValueSource::CommandLine) => true,
@@ -178,9 +178,9 @@ fn stands(matches: &ArgMatches<'_>, option: &str) -> bool
     }
 }
 
-/// What the matches say.
+/// The settings for the parsed arguments. `Err` means that memory was refused.
 fn settings_of(alloc: Global, matches: &ArgMatches<'_>) -> Result<Settings, AllocError>
-    ensures { IfOk result (AreSaid (found_rows (found_of matches.now))) }
+    ensures { IfOk result (AreStated (matched_rows (found_of matches.now))) }
 {
     let file = file_of(alloc, matches)?;
     let form = form_of(matches);
@@ -191,11 +191,11 @@ fn settings_of(alloc: Global, matches: &ArgMatches<'_>) -> Result<Settings, Allo
     })
 }
 
-/// What is drawn.
+/// The output: a text or an SVG.
 fn form_of(matches: &ArgMatches<'_>) -> Form
-    ensures svg { one_of (codes "svg") (found_rows (found_of matches.now)) ≡ Some (codes "true") → result ≡ form.Svg }
-    ensures text { one_of (codes "svg") (found_rows (found_of matches.now)) ≡ Some (codes "false")
-        → IsTextSaid (found_rows (found_of matches.now)) result }
+    ensures svg { one_of (codes "svg") (matched_rows (found_of matches.now)) ≡ Some (codes "true") → result ≡ form.Svg }
+    ensures text { one_of (codes "svg") (matched_rows (found_of matches.now)) ≡ Some (codes "false")
+        → IsTextStated (matched_rows (found_of matches.now)) result }
 {
     if is_given(matches, "svg") {
         Form::Svg
@@ -207,9 +207,9 @@ fn form_of(matches: &ArgMatches<'_>) -> Form
     }
 }
 
-/// How wide a text is. The parser has tested the number, so that the bounds here do not change it.
+/// The width of the text. The parser has checked the number, so the bounds here don't change it.
 fn width_of(matches: &ArgMatches<'_>) -> u32
-    ensures { IfSome (one_of (codes "width") (found_rows (found_of matches.now))) (λ text. IsNumber 60 400 text result) }
+    ensures { IfSome (one_of (codes "width") (matched_rows (found_of matches.now))) (λ text. IsNumber 60 400 text result) }
 {
     matches
         .get_one::<u32>("width")
@@ -217,32 +217,32 @@ fn width_of(matches: &ArgMatches<'_>) -> u32
         .clamp(60, 400)
 }
 
-/// When there are colours.
+/// When the text has colours.
 fn colour_of(matches: &ArgMatches<'_>) -> Colour
-    ensures { result ≡ colour_said (found_rows (found_of matches.now)) }
+    ensures { result ≡ stated_colour (matched_rows (found_of matches.now)) }
 {
     match matches.get_str("color") {
-        Some(word) => colour_named(word),
+        Some(choice) => colour_named(choice),
         None => Colour::Auto,
     }
 }
 
-/// What a word says of colours. The parser takes three words.
-fn colour_named(word: &str) -> Colour
-    ensures { result ≡ colour_of_word word.now }
+/// The meaning of a value of `--color`. The parser accepts only three values.
+fn colour_named(choice: &str) -> Colour
+    ensures { result ≡ colour_of_word choice.now }
 {
-    match word {
+    match choice {
         "always" => Colour::Always,
         "never" => Colour::Never,
         _ => Colour::Auto,
     }
 }
 
-/// How many rows there may be.
+/// The greatest number of rows; `None` if all steps get one.
 fn rows_of(matches: &ArgMatches<'_>, form: Form) -> Option<usize>
-    ensures all { one_of (codes "all") (found_rows (found_of matches.now)) ≡ Some (codes "true") → result ≡ None }
-    ensures limit { one_of (codes "all") (found_rows (found_of matches.now)) ≡ Some (codes "false")
-        → AreRowsSaid (found_rows (found_of matches.now)) form result }
+    ensures all { one_of (codes "all") (matched_rows (found_of matches.now)) ≡ Some (codes "true") → result ≡ None }
+    ensures limit { one_of (codes "all") (matched_rows (found_of matches.now)) ≡ Some (codes "false")
+        → AreRowsStated (matched_rows (found_of matches.now)) form result }
 {
     if is_given(matches, "all") {
         None
@@ -251,11 +251,11 @@ fn rows_of(matches: &ArgMatches<'_>, form: Form) -> Option<usize>
     }
 }
 
-/// How many rows there may be, where there is a limit. The parser has tested the number, so that the bounds here do not change
-/// it.
+/// The greatest number of rows, given or by default. The parser has checked the number, so the
+/// bounds here don't change it.
 fn count_of(matches: &ArgMatches<'_>, form: Form) -> u32
-    ensures said { IfSome (one_of (codes "rows") (found_rows (found_of matches.now))) (λ text. IsNumber 1 100000 text result) }
-    ensures none { one_of (codes "rows") (found_rows (found_of matches.now)) ≡ None → result ≡ rows_of_form form }
+    ensures stated { IfSome (one_of (codes "rows") (matched_rows (found_of matches.now))) (λ text. IsNumber 1 100000 text result) }
+    ensures none { one_of (codes "rows") (matched_rows (found_of matches.now)) ≡ None → result ≡ rows_of_form form }
 {
     matches
         .get_one::<u32>("rows")
@@ -263,7 +263,7 @@ fn count_of(matches: &ArgMatches<'_>, form: Form) -> u32
         .clamp(1, 100_000)
 }
 
-/// How many rows there may be where nothing is said.
+/// The greatest number of rows by default.
 fn rows_in(form: Form) -> u32
     ensures { result ≡ rows_of_form form }
 {

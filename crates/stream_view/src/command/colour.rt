@@ -5,7 +5,7 @@ ghost use Rattle.std.specs.Prelude.{◌≡◌};
 /// When a text has colours.
 #[derive(Clone, Copy, Debug, PartialEq, Eq)]
 pub enum Colour {
-    /// Where somebody sees it on a terminal, and wants them.
+    /// If standard output is a terminal, and `NO_COLOR` is absent or empty.
     Auto,
     Always,
     Never,
@@ -14,7 +14,7 @@ pub enum Colour {
 impl Colour {
     ghost use Rattle.stream_view.specs.Viewed.{is_on};
 
-    /// Whether a text has colours; `is_wanted` says whether somebody sees it on a terminal, and wants them.
+    /// Whether the text has colours. `is_wanted` is the answer for `Auto`.
     pub fn is_on(self, is_wanted: bool) -> bool
         ensures { result ≡ is_on is_wanted self }
     {

@@ -1,20 +1,20 @@
-//! The command `view`, from its arguments to its exit status, over any files and streams.
+//! The command `view`, from its arguments to its exit status. It is generic over files and streams,
+//! so that tests can replace them.
 
 ghost use Rattle.std.specs.Prelude.{◌≡◌, ◌≢◌, ◌≤◌, Err, IfErr, IfSome, None, OnOk, Some, false, map, string_bytes};
 ghost use Rattle.std.specs.Io.KnownBytes.{IsAtEnd, Keeps};
-ghost use Rattle.stream_timeline.specs.Lines.{IsToldOf};
-ghost use Rattle.stream_timeline.specs.declared.told.view_fault.ViewFault.{ViewFault as view_fault};
+ghost use Rattle.stream_timeline.specs.Lines.{IsReadOf};
+ghost use Rattle.stream_timeline.specs.declared.reading.timeline_fault.TimelineFault.{TimelineFault as timeline_fault};
 ghost use Rattle.stream_view.specs.CommandLine.{WasNotViewed};
 ghost use Rattle.stream_view.specs.Viewed.{IsDrawnOf, IsOfStream, IsStatusOf, WasDrawn, WasViewed};
-ghost use Rattle.stream_view.specs.declared.command.picture_fault.PictureFault.TheVariants.{Undrawn, Untold};
+ghost use Rattle.stream_view.specs.declared.command.picture_fault.PictureFault.TheVariants.{Undrawn, NoTimeline};
 ghost use Rattle.stream_view.specs.declared.draw_fault.DrawFault.TheVariants.{Gone};
 
 use crate::command::arguments::read_words;
-use crate::command::followed::Followed;
-use crate::command::form::Form;
-use crate::command::outcome::Outcome;
+use crate::command::followed::{Followed, Outcome};
 use crate::command::picture_fault::PictureFault;
 use crate::command::refusals::refuse;
+use crate::command::settings::Form;
 use crate::draw_fault::DrawFault;
 use crate::picture::Picture;
 use crate::svg::drawing::draw_svg;
@@ -23,19 +23,27 @@ use std::alloc::Global;
 use std::fs;
 use std::io::{BufReader, Read, Write};
 use std::rt::Files;
-use stream_timeline::{Told, ViewFault, read};
-use stream_tool::{answer_usage, read_on, refuse_file};
+use stream_timeline::{Timeline, TimelineFault, read};
+use stream_tool::{answer_usage, flush_and_drain, refuse_file};
 
-/// How many bytes are asked for at once.
+/// The size of the input buffer, in bytes.
 const BUFFER_LEN: usize = 65_536;
 
-/// Does what the words behind `view` say, and answers the exit status: 0 where the picture was written, or help was asked for,
-/// 2 where the words are none of the command, the file could not be opened, a read failed, the stream has no message, a line
-/// is too long or there are too many steps, and 3 where memory was refused or `out` could not be written, which is said unless
-/// its reader is gone. Everything is read before anything is written. Whatever ends it early, the input or the file is read to
-/// its end then; behind words that are refused, and a file that can't be opened, the input, unless it is a terminal, at which
-/// nobody waits. Where a file was opened, the input is left as it is. `is_colour_wanted` says whether `out` is a terminal on
-/// which colours are wanted.
+/// Runs `view` with the arguments `words`. `is_colour_wanted` states whether `out` is a terminal
+/// that should show colours.
+///
+/// The exit status:
+/// - 0: the picture was written, or help was asked for.
+/// - 2: the arguments are wrong, or the file could not be opened. A read failed, the stream has no
+///   message, a line is too long, or there are too many steps.
+/// - 3: memory was refused, or `out` could not be written.
+///
+/// The reason of a status above 0 is written to `faults`, unless the reader of `out` is gone. The
+/// whole stream is read before anything is written.
+///
+/// After an error, the file or the input is read to its end. After wrong arguments, or when the
+/// file can't be opened, the input is drained too, unless it is a terminal. Once a file is opened,
+/// the input is left as it is.
 pub fn follow<F: Files, R: Read, W: Write, E: Write>(
     files: &F,
     alloc: Global,
@@ -50,7 +58,7 @@ pub fn follow<F: Files, R: Read, W: Write, E: Write>(
         (R.remaining input.new) is_colour_wanted (W.contents out.old) (W.contents out.new) result) }
     ensures unviewed { result.answer ≡ None
         → WasNotViewed (map string_bytes words.now) (W.contents out.old) (W.contents out.new) result.status }
-    ensures kept { result.answer ≡ None → 1 ≤ result.status → Keeps (W.contents out.old) (W.contents out.new) }
+    ensures untouched { result.answer ≡ None → 1 ≤ result.status → Keeps (W.contents out.old) (W.contents out.new) }
     ensures quiet { result.status ≡ 0 → Keeps (E.contents faults.old) (E.contents faults.new) }
     ensures gone { result.answer ≡ Some (Err (Undrawn Gone)) → Keeps (E.contents faults.old) (E.contents faults.new) }
     ensures statuses { result.status ≤ 3 }
@@ -61,7 +69,7 @@ pub fn follow<F: Files, R: Read, W: Write, E: Write>(
         Err(usage) => {
             let status = answer_usage(&usage, out, faults);
             let is_awaited = status > 0 && !is_terminal;
-            return Followed::without_answer(status, read_on(is_awaited, input, faults));
+            return Followed::without_answer(status, flush_and_drain(is_awaited, input, faults));
         }
     };
     let form = settings.form;
@@ -89,15 +97,17 @@ pub fn follow<F: Files, R: Read, W: Write, E: Write>(
         }
         Err(error) => {
             let status = refuse_file(alloc, faults, name, "opened", Some(&error));
-            Followed::without_answer(status, read_on(!is_terminal, input, faults))
+            Followed::without_answer(status, flush_and_drain(!is_terminal, input, faults))
         }
     }
 }
 
-/// Reads the stream that the input gives to its end, draws it, and answers the exit status. What goes wrong is said at once on
-/// `faults`, of the file of that name where one is given, and then the rest is read and dropped: a reader that stops would end
-/// whoever writes the stream. Nothing is said where the reader of `out` is gone. A text for `faults` that cannot be written is
-/// dropped.
+/// Reads the stream from `input`, draws it, and returns the exit status. An error is written to
+/// `faults` at once, with the file name `name` if there is one. Then the rest of the input is
+/// drained, because a reader that stops would end the writer of the stream.
+///
+/// Nothing is written to `faults` if the reader of `out` is gone. If `faults` can't be written, its
+/// text is dropped.
 pub fn view_input<R: Read, W: Write, E: Write>(
     alloc: Global,
     form: Form,
@@ -127,12 +137,13 @@ pub fn view_input<R: Read, W: Write, E: Write>(
         Err(fault) => Outcome {
             status: refuse(alloc, faults, name, fault),
             answer,
-            rest: read_on(true, input, faults),
+            rest: flush_and_drain(true, input, faults),
         },
     }
 }
 
-/// Draws the stream that the input gives.
+/// Reads and draws the stream from `input`. `PictureFault::NoTimeline` if it can't be read,
+/// `PictureFault::Undrawn` if it can't be drawn.
 fn draw_input<R: Read, W: Write>(
     alloc: Global,
     form: Form,
@@ -145,36 +156,36 @@ fn draw_input<R: Read, W: Write>(
     ensures stream { IfSome (R.remaining input.old) (λ bytes. IsOfStream bytes rows form is_colour_wanted
         (W.contents out.old) (W.contents out.new) result) }
 {
-    match told_of(alloc, input) {
-        Ok(told) => draw(alloc, form, rows, is_colour_wanted, &told, out),
-        Err(fault) => Err(PictureFault::Untold(fault)),
+    match timeline_of(alloc, input) {
+        Ok(timeline) => draw(alloc, form, rows, is_colour_wanted, &timeline, out),
+        Err(fault) => Err(PictureFault::NoTimeline(fault)),
     }
 }
 
-/// What the stream tells.
-fn told_of<R: Read>(alloc: Global, input: &mut R) -> Result<Told, ViewFault>
-    ensures { IfSome (R.remaining input.old) (λ bytes. IsToldOf bytes result) }
+/// Reads the time line of the stream from `input`. The errors are those of `stream_timeline::read`.
+fn timeline_of<R: Read>(alloc: Global, input: &mut R) -> Result<Timeline, TimelineFault>
+    ensures { IfSome (R.remaining input.old) (λ bytes. IsReadOf bytes result) }
 {
     let Ok(mut reader) = BufReader::with_capacity(alloc, BUFFER_LEN, &mut *input) else {
-        return Err(ViewFault::Memory);
+        return Err(TimelineFault::Memory);
     };
     read(alloc, &mut reader)
 }
 
-/// Draws what a stream tells.
+/// Draws a time line. `PictureFault::Undrawn` if memory is refused or `out` can't be written.
 fn draw<W: Write>(
     alloc: Global,
     form: Form,
     rows: Option<usize>,
     is_colour_wanted: bool,
-    told: &Told,
+    timeline: &Timeline,
     out: &mut W,
 ) -> Result<(), PictureFault>
     ensures drawn { WasDrawn form is_colour_wanted (W.contents out.old) (W.contents out.new) result }
-    ensures rows { OnOk result (IsDrawnOf told.now rows form is_colour_wanted (W.contents out.old) (W.contents out.new)) }
-    ensures told { (why : view_fault) → result ≢ Err (Untold why) }
+    ensures rows { OnOk result (IsDrawnOf timeline.now rows form is_colour_wanted (W.contents out.old) (W.contents out.new)) }
+    ensures read { (why : timeline_fault) → result ≢ Err (NoTimeline why) }
 {
-    let Ok(picture) = Picture::of(alloc, told, rows) else {
+    let Ok(picture) = Picture::of(alloc, timeline, rows) else {
         return Err(PictureFault::Undrawn(DrawFault::Memory));
     };
     let drawn = match form {

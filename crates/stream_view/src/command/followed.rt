@@ -1,24 +1,34 @@
-//! What became of the words behind `view`.
+//! The results of viewing a stream and of the whole command.
 
 ghost use Rattle.std.specs.Prelude.{◌≡◌, None, Some};
 
-use crate::command::outcome::Outcome;
 use crate::command::picture_fault::PictureFault;
 use stream_lines::FailedRead;
 
-/// What became of the words behind `view`.
+/// The result of viewing a stream.
+#[derive(Clone, Copy)]
+pub struct Outcome {
+    /// The exit status.
+    pub status: u8,
+    /// Whether the picture was written, or why not.
+    pub answer: Result<(), PictureFault>,
+    /// Whether the input was read to its end, or the read that failed.
+    pub rest: Result<(), FailedRead>,
+}
+
+/// The result of the command `view`.
 #[derive(Clone, Copy)]
 pub struct Followed {
     /// The exit status.
     pub status: u8,
-    /// That the picture was written, or why not, where a stream was viewed.
+    /// If a stream was viewed: whether the picture was written, or why not.
     pub answer: Option<Result<(), PictureFault>>,
-    /// That the input was read to its end where it had to be, or that a read failed.
+    /// Whether the input was read to its end where that was needed, or the read that failed.
     pub rest: Result<(), FailedRead>,
 }
 
 impl Followed {
-    /// No stream was viewed.
+    /// The result if no stream was viewed.
     pub(crate) fn without_answer(status: u8, rest: Result<(), FailedRead>) -> Followed
         ensures { result ≡ record { status = status; answer = None; rest = rest } }
     {
@@ -29,7 +39,7 @@ impl Followed {
         }
     }
 
-    /// A stream was viewed.
+    /// The result of viewing a stream.
     pub(crate) fn with_answer(outcome: Outcome) -> Followed
         ensures { result ≡ record { status = outcome.status; answer = Some outcome.answer; rest = outcome.rest } }
     {

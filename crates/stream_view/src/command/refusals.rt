@@ -1,4 +1,4 @@
-//! Why a stream was not viewed.
+//! Reports why a stream was not viewed.
 
 ghost use Rattle.std.specs.Prelude.{◌≡◌, ◌⊎◌};
 ghost use Rattle.std.specs.Io.KnownBytes.{Keeps};
@@ -10,11 +10,12 @@ use crate::command::picture_fault::PictureFault;
 use crate::draw_fault::DrawFault;
 use std::alloc::Global;
 use std::io::Write;
-use stream_timeline::ViewFault;
+use stream_timeline::TimelineFault;
 use stream_tool::{FAILED, REFUSED, refuse_unread, report};
 
-/// Says why there is no picture, of a file where it has a name, and answers the exit status. Nothing is said where the reader
-/// of the output is gone: whoever ended it, as `head` ends, knows that.
+/// Writes the reason to `faults`, with the file name `name` if there is one, and returns the exit
+/// status. Nothing is written if the reader of the output is gone, because whoever ended it, as
+/// with `head`, knows that.
 pub fn refuse<E: Write>(
     alloc: Global,
     faults: &mut E,
@@ -26,7 +27,7 @@ pub fn refuse<E: Write>(
 {
     match (fault, name) {
         (PictureFault::Undrawn(DrawFault::Gone), _) => FAILED,
-        (PictureFault::Untold(ViewFault::Unread(failed)), Some(name)) => {
+        (PictureFault::NoTimeline(TimelineFault::Unread(failed)), Some(name)) => {
             refuse_unread(alloc, faults, name, failed)
         }
         _ => {
@@ -41,7 +42,7 @@ fn fault_status(fault: PictureFault) -> u8
     ensures { result ≡ fault_status_of fault }
 {
     match fault {
-        PictureFault::Untold(ViewFault::Memory) | PictureFault::Undrawn(_) => FAILED,
-        PictureFault::Untold(_) => REFUSED,
+        PictureFault::NoTimeline(TimelineFault::Memory) | PictureFault::Undrawn(_) => FAILED,
+        PictureFault::NoTimeline(_) => REFUSED,
     }
 }

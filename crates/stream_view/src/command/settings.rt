@@ -1,13 +1,22 @@
-//! What the words of the command line say.
+//! The settings of the command line.
 
-use crate::command::form::Form;
+use crate::command::colour::Colour;
 
-/// What the words behind `view` say.
+/// What is drawn.
+#[derive(Clone, Copy, Debug, PartialEq, Eq)]
+pub enum Form {
+    /// A text, in lines of at most `width` columns.
+    Text { width: u32, colour: Colour },
+    /// An SVG.
+    Svg,
+}
+
+/// The settings that the arguments after `view` give.
 #[derive(Debug, Drop)]
 pub struct Settings {
     pub form: Form,
-    /// How many steps get a row at most; all where there is none.
+    /// The greatest number of rows. `None`: each step gets one.
     pub rows: Option<usize>,
-    /// The file with the stream; standard input where there is none, or it is `-`.
+    /// The file with the stream. `None`: standard input, which `-` names too.
     pub file: Option<String>,
 }

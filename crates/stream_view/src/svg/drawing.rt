@@ -1,31 +1,33 @@
-//! The whole SVG.
+//! Draws the whole SVG.
 
 ghost use Rattle.std.specs.Prelude.{◌≡◌, List, OnOk, true};
 ghost use Rattle.stream_view.specs.Axes.{axis_in};
 ghost use Rattle.stream_view.specs.Growth.{HasParts};
-ghost use Rattle.stream_view.specs.LeftOut.{left_out_said};
+ghost use Rattle.stream_view.specs.LeftOut.{left_out_shown};
 ghost use Rattle.stream_view.specs.Markup.{HeadWritten, IsLeftOutIn, MarkupWritten, SomeSvgWritten, SvgWritten, axis_of, whole_title};
-ghost use Rattle.stream_view.specs.declared.svg.part.Part.{Part as part};
+ghost use Rattle.stream_view.specs.declared.svg.markup_part.MarkupPart.{MarkupPart as markup_part};
 
+use crate::captions::heading::heading;
 use crate::draw_fault::DrawFault;
 use crate::picture::Picture;
-use crate::svg::back::Back;
-use crate::svg::front::{push_front, push_grid};
+use crate::svg::dimensions::{EDGE, ROW, WIDTH};
+use crate::svg::footer::Footer;
+use crate::svg::fragment::Fragment;
+use crate::svg::header::{push_grid, push_header};
 use crate::svg::markup::Markup;
-use crate::svg::part::Part;
+use crate::svg::markup_part::MarkupPart;
 use crate::svg::rows::draw_rows;
 use crate::svg::scale::Scale;
-use crate::svg::sheet::{EDGE, ROW, WIDTH};
-use crate::svg::word::Word;
-use crate::telling::heading::heading;
 use crate::writing::{flush, write_text};
 use std::alloc::Global;
 use std::io::Write;
 use term_text::ShownText;
 
-/// Writes the picture as one SVG, without scripts or other files; memory is taken for one row. `Err` with `DrawFault::Memory`
-/// where memory is refused, and with `DrawFault::Gone` or `DrawFault::Unwritten` where a write or a flush fails: then some of
-/// its first bytes were written.
+/// Writes the picture as one SVG without scripts and outside files. Memory is needed for one row at
+/// a time.
+///
+/// `DrawFault::Memory` if memory is refused. `DrawFault::Gone` or `DrawFault::Unwritten` if a write
+/// or a flush fails. After an `Err`, `out` may have the first bytes of the SVG.
 pub fn draw_svg<W: Write>(
     alloc: Global,
     picture: &Picture<'_>,
@@ -36,9 +38,9 @@ pub fn draw_svg<W: Write>(
 {
     let scale = Scale::of(alloc, picture)?;
     let mut front = Markup::new(alloc);
-    let top = push_front(&mut front, picture, scale);
+    let top = push_header(&mut front, picture, scale);
     let bottom = y_of(top, picture.rows.places.len() as u64);
-    let mut back = Back::of(alloc, picture, scale, bottom);
+    let mut back = Footer::of(alloc, picture, scale, bottom);
     let heights = Heights {
         top,
         bottom,
@@ -47,18 +49,18 @@ pub fn draw_svg<W: Write>(
     draw_parts(alloc, picture, scale, heights, &mut front, &mut back, out)
 }
 
-/// Writes all of it, with what stands above the rows and below them.
+/// Writes the SVG with the markup above and below the rows. The errors are those of `draw_svg`.
 fn draw_parts<W: Write>(
     alloc: Global,
     picture: &Picture<'_>,
     scale: Scale,
     heights: Heights,
     front: &mut Markup,
-    back: &mut Back,
+    back: &mut Footer,
     out: &mut W,
 ) -> Result<(), DrawFault>
     requires axis { axis_in scale ≡ axis_of picture.now }
-    requires left_out { back.old.left_out.is_whole ≡ true → IsLeftOutIn (left_out_said picture.now.rows) back.old.left_out.parts.items }
+    requires left_out { back.old.left_out.is_whole ≡ true → IsLeftOutIn (left_out_shown picture.now.rows) back.old.left_out.parts.items }
     ensures { OnOk result (SvgWritten picture.now (W.contents out.old) (W.contents out.new)) }
 {
     draw_head(alloc, picture, heights.height, out)?;
@@ -71,7 +73,7 @@ fn draw_parts<W: Write>(
     Ok(())
 }
 
-/// Where the rows begin and end, and how high the whole is.
+/// Where the rows begin and end, and the height of the SVG, in pixels.
 #[derive(Clone, Copy)]
 struct Heights {
     top: u64,
@@ -79,7 +81,7 @@ struct Heights {
     height: u64,
 }
 
-/// Writes what an SVG begins with, of that height.
+/// Writes the begin of an SVG of the height `height`.
 fn draw_head<W: Write>(
     alloc: Global,
     picture: &Picture<'_>,
@@ -96,48 +98,48 @@ fn draw_head<W: Write>(
     markup.send(out)
 }
 
-/// Adds what stands before the title.
+/// Adds the markup before the title.
 fn push_opening(markup: &mut Markup, title: &ShownText, height: u64)
-    ensures { (parts : List part) × HasParts markup.old markup.new parts }
+    ensures { (parts : List markup_part) × HasParts markup.old markup.new parts }
 {
     markup.add(&[
-        Part::Own(Word::SvgBegin),
-        Part::Number(WIDTH),
-        Part::Own(Word::Height),
-        Part::Number(height),
-        Part::Own(Word::ViewBox),
-        Part::Number(WIDTH),
-        Part::Own(Word::Space),
-        Part::Number(height),
-        Part::Own(Word::AriaLabel),
+        MarkupPart::Fixed(Fragment::SvgBegin),
+        MarkupPart::Number(WIDTH),
+        MarkupPart::Fixed(Fragment::Height),
+        MarkupPart::Number(height),
+        MarkupPart::Fixed(Fragment::ViewBox),
+        MarkupPart::Number(WIDTH),
+        MarkupPart::Fixed(Fragment::Space),
+        MarkupPart::Number(height),
+        MarkupPart::Fixed(Fragment::AriaLabel),
     ]);
     markup.text(title);
-    markup.own(Word::SvgTagEnd);
+    markup.fixed(Fragment::SvgTagEnd);
 }
 
-/// Adds the title of the whole.
+/// Adds the title of the SVG.
 fn push_title(markup: &mut Markup, title: &ShownText)
     ensures { HasParts markup.old markup.new (whole_title title.now) }
 {
-    markup.own(Word::TitleBegin);
+    markup.fixed(Fragment::TitleBegin);
     markup.text(title);
-    markup.own(Word::TitleEnd);
+    markup.fixed(Fragment::TitleEnd);
 }
 
-/// Adds how it looks.
+/// Adds the styles.
 fn push_style(markup: &mut Markup, height: u64)
-    ensures { (parts : List part) × HasParts markup.old markup.new parts }
+    ensures { (parts : List markup_part) × HasParts markup.old markup.new parts }
 {
     markup.add(&[
-        Part::Own(Word::Style),
-        Part::Number(WIDTH),
-        Part::Own(Word::Height),
-        Part::Number(height),
-        Part::Own(Word::GroundEnd),
+        MarkupPart::Fixed(Fragment::Style),
+        MarkupPart::Number(WIDTH),
+        MarkupPart::Fixed(Fragment::Height),
+        MarkupPart::Number(height),
+        MarkupPart::Fixed(Fragment::GroundEnd),
     ]);
 }
 
-/// Writes what stands behind the rows, between those heights, where there are any.
+/// Writes the background of the rows between the heights `top` and `bottom`, if there are rows.
 fn draw_grid<W: Write>(
     alloc: Global,
     picture: &Picture<'_>,
@@ -157,7 +159,7 @@ fn draw_grid<W: Write>(
     markup.send(out)
 }
 
-/// Writes what stands behind every second of so many rows.
+/// Writes a band behind every second row.
 fn draw_bands<W: Write>(alloc: Global, count: usize, top: u64, out: &mut W) -> Result<(), DrawFault>
     ensures { OnOk result (MarkupWritten (W.contents out.old) (W.contents out.new)) }
 {
@@ -169,13 +171,13 @@ fn draw_bands<W: Write>(alloc: Global, count: usize, top: u64, out: &mut W) -> R
     Ok(())
 }
 
-/// At which height a row stands.
+/// The height at which a row begins, in pixels from the top.
 fn y_of(top: u64, row: u64) -> u64 {
     top.saturating_add(row.saturating_mul(ROW))
 }
 
-/// Adds what stands behind every second row.
+/// Adds the band behind a row.
 fn push_band(markup: &mut Markup, y: u64) {
     markup.begin_box((EDGE - 6) * 10, y, (WIDTH - 2 * EDGE + 12) * 10, ROW);
-    markup.own(Word::BandEnd);
+    markup.fixed(Fragment::BandEnd);
 }

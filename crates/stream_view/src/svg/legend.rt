@@ -1,15 +1,15 @@
-//! What the colours mean.
+//! The legend: what the colours mean.
 
 use crate::kind::Kind;
 use crate::picture::Picture;
+use crate::svg::dimensions::{BAR, EDGE};
+use crate::svg::fragment::Fragment;
 use crate::svg::markup::Markup;
-use crate::svg::part::Part;
-use crate::svg::sheet::{BAR, EDGE};
-use crate::svg::word::Word;
+use crate::svg::markup_part::MarkupPart;
 use std::alloc::{AllocError, Global};
 use stream_timeline::Step;
 
-/// What the legend explains.
+/// An entry of the legend.
 #[derive(Clone, Copy)]
 enum Entry {
     Kind(Kind),
@@ -19,7 +19,7 @@ enum Entry {
 }
 
 impl Entry {
-    /// All entries, in the order in which they stand.
+    /// All entries, in order.
     const ALL: [Entry; 9] = [
         Entry::Kind(Kind::Create),
         Entry::Kind(Kind::Update),
@@ -32,7 +32,7 @@ impl Entry {
         Entry::Open,
     ];
 
-    /// Whether the row of such a step shows it.
+    /// Whether the row of this step shows what the entry explains.
     fn is_of(self, step: &Step) -> bool {
         match self {
             Entry::Kind(kind) => Kind::of(step.action()) == kind,
@@ -42,7 +42,7 @@ impl Entry {
         }
     }
 
-    /// How many characters its words have.
+    /// How many characters the words of the entry have.
     fn len(self) -> u64 {
         match self {
             Entry::Kind(kind) => kind.name().text().len() as u64 + 2,
@@ -53,18 +53,18 @@ impl Entry {
     }
 }
 
-/// Adds the legend at that height, where it has two entries at least; answers how high it is.
+/// Adds the legend at the height `y`, if it has at least two entries. Returns its height.
 pub fn push_legend(markup: &mut Markup, picture: &Picture<'_>, y: u64) -> u64 {
     match entries(markup.alloc(), picture) {
         Ok(entries) => push_entries(markup, &entries, y),
         Err(_) => {
-            markup.keep(false);
+            markup.merge_whole(false);
             0
         }
     }
 }
 
-/// Adds the entries, where there are two at least; answers how high they are.
+/// Adds the entries, if there are at least two. Returns the height of the legend.
 fn push_entries(markup: &mut Markup, entries: &[Entry], y: u64) -> u64 {
     let (Some(Entry::Kind(first)), true) = (entries.first().copied(), entries.len() > 1) else {
         return 0;
@@ -77,7 +77,7 @@ fn push_entries(markup: &mut Markup, entries: &[Entry], y: u64) -> u64 {
     22
 }
 
-/// What is to be explained of the steps that have a row.
+/// The entries for the steps that have a row. `Err` means that memory was refused.
 fn entries(alloc: Global, picture: &Picture<'_>) -> Result<Vec<Entry>, AllocError> {
     let mut entries = Vec::new(alloc);
     for entry in Entry::ALL {
@@ -88,9 +88,9 @@ fn entries(alloc: Global, picture: &Picture<'_>) -> Result<Vec<Entry>, AllocErro
     Ok(entries)
 }
 
-/// Whether a step has a row that shows the entry.
+/// Whether a step with a row shows what the entry explains.
 fn has_row(picture: &Picture<'_>, entry: Entry) -> bool {
-    let steps = picture.told.steps();
+    let steps = picture.timeline.steps();
     for place in &picture.rows.places {
         if let Some(step) = steps.get(*place) {
             if entry.is_of(step) {
@@ -101,55 +101,59 @@ fn has_row(picture: &Picture<'_>, entry: Entry) -> bool {
     false
 }
 
-/// Adds an entry; `first` is the kind that stands for any.
+/// Adds an entry. Where an entry is of no kind, its sample bar has the kind `first`.
 fn push_entry(markup: &mut Markup, entry: Entry, first: Kind, x: u64, y: u64) {
     push_sign(markup, entry, first, x, y);
-    markup.begin_text(x.saturating_add(190), y.saturating_add(13), Word::SmallSoft);
+    markup.begin_text(
+        x.saturating_add(190),
+        y.saturating_add(13),
+        Fragment::SmallSoft,
+    );
     push_words(markup, entry);
-    markup.own(Word::TextLineEnd);
+    markup.fixed(Fragment::TextLineEnd);
 }
 
-/// Adds what an entry explains; `first` is the kind that stands for any.
+/// Adds the sample bar of an entry. Where an entry is of no kind, the bar has the kind `first`.
 fn push_sign(markup: &mut Markup, entry: Entry, first: Kind, x: u64, y: u64) {
     let (kind, end) = match entry {
-        Entry::Kind(kind) => (kind, Word::WholeEnd),
-        Entry::Provisioner => (first, Word::WholeEnd),
-        Entry::Failed | Entry::Open => (first, Word::OpenEnd),
+        Entry::Kind(kind) => (kind, Fragment::WholeEnd),
+        Entry::Provisioner => (first, Fragment::WholeEnd),
+        Entry::Failed | Entry::Open => (first, Fragment::OpenEnd),
     };
-    push_box(markup, x, y, Word::RoundedClass);
-    markup.add(&[Part::Own(kind.name()), Part::Own(end)]);
+    push_box(markup, x, y, Fragment::RoundedClass);
+    markup.add(&[MarkupPart::Fixed(kind.name()), MarkupPart::Fixed(end)]);
     push_over(markup, entry, x, y);
-    markup.own(Word::NewLine);
+    markup.fixed(Fragment::NewLine);
 }
 
-/// Adds what is drawn over the small bar of an entry.
+/// Adds what is drawn over the sample bar: an inner strip, or stripes and an edge.
 fn push_over(markup: &mut Markup, entry: Entry, x: u64, y: u64) {
     match entry {
         Entry::Provisioner => markup.add(&[
-            Part::Own(Word::RectX),
-            Part::Tenths(x),
-            Part::Own(Word::Y),
-            Part::Number(y.saturating_add(7)),
-            Part::Own(Word::SmallInnerEnd),
+            MarkupPart::Fixed(Fragment::RectX),
+            MarkupPart::Tenths(x),
+            MarkupPart::Fixed(Fragment::Y),
+            MarkupPart::Number(y.saturating_add(7)),
+            MarkupPart::Fixed(Fragment::SmallInnerEnd),
         ]),
         Entry::Failed => {
-            push_box(markup, x, y, Word::StripesEnd);
-            push_box(markup, x, y, Word::EdgeEnd);
+            push_box(markup, x, y, Fragment::StripesEnd);
+            push_box(markup, x, y, Fragment::EdgeEnd);
         }
         Entry::Kind(_) | Entry::Open => {}
     }
 }
 
-/// Adds a small bar, which ends so.
-fn push_box(markup: &mut Markup, x: u64, y: u64, end: Word) {
+/// Adds a sample bar with the closing markup `end`.
+fn push_box(markup: &mut Markup, x: u64, y: u64, end: Fragment) {
     markup.add(&[
-        Part::Own(Word::RectX),
-        Part::Tenths(x),
-        Part::Own(Word::Y),
-        Part::Number(y.saturating_add(4)),
-        Part::Own(Word::SmallWidth),
-        Part::Number(BAR - 2),
-        Part::Own(end),
+        MarkupPart::Fixed(Fragment::RectX),
+        MarkupPart::Tenths(x),
+        MarkupPart::Fixed(Fragment::Y),
+        MarkupPart::Number(y.saturating_add(4)),
+        MarkupPart::Fixed(Fragment::SmallWidth),
+        MarkupPart::Number(BAR - 2),
+        MarkupPart::Fixed(end),
     ]);
 }
 
@@ -157,12 +161,12 @@ fn push_box(markup: &mut Markup, x: u64, y: u64, end: Word) {
 fn push_words(markup: &mut Markup, entry: Entry) {
     match entry {
         Entry::Kind(kind) => markup.add(&[
-            Part::Character(kind.sign()),
-            Part::Own(Word::Space),
-            Part::Own(kind.name()),
+            MarkupPart::Character(kind.sign()),
+            MarkupPart::Fixed(Fragment::Space),
+            MarkupPart::Fixed(kind.name()),
         ]),
-        Entry::Provisioner => markup.own(Word::ProvisionerBar),
-        Entry::Failed => markup.own(Word::FailedBar),
-        Entry::Open => markup.own(Word::NotEndedBar),
+        Entry::Provisioner => markup.fixed(Fragment::ProvisionerBar),
+        Entry::Failed => markup.fixed(Fragment::FailedBar),
+        Entry::Open => markup.fixed(Fragment::NotEndedBar),
     }
 }

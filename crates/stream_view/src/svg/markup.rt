@@ -1,34 +1,34 @@
-//! Parts of the SVG that go out.
+//! Markup that is collected before it is written.
 
 ghost use Rattle.std.specs.Prelude.{◌≡◌, ◌∷◌, [], IfOk, OnOk, string_bytes, true};
 ghost use Rattle.std.specs.List.{flat_map};
 ghost use Rattle.term_text.specs.Fitted.{shown_characters};
 ghost use Rattle.stream_view.specs.Growth.{HasParts, box_begin};
-ghost use Rattle.stream_view.specs.Markup.{PartsWritten, line_begin, line_parts, part_bytes, shown_parts, text_parts};
-ghost use Rattle.stream_view.specs.Sayings.{Says};
-ghost use Rattle.stream_view.specs.declared.svg.part.Part.TheVariants as part;
+ghost use Rattle.stream_view.specs.Markup.{PartsWritten, line_begin, line_parts, markup_part_bytes, shown_parts, text_parts};
+ghost use Rattle.stream_view.specs.MessageTexts.{HasText};
+ghost use Rattle.stream_view.specs.declared.svg.markup_part.MarkupPart.TheVariants as markup_part;
 
 use crate::draw_fault::DrawFault;
-use crate::svg::part::Part;
-use crate::svg::word::Word;
-use crate::words::saying::Saying;
+use crate::svg::fragment::Fragment;
+use crate::svg::markup_part::MarkupPart;
+use crate::words::message_text::MessageText;
 use crate::writing::write_text;
 use std::alloc::{AllocError, Global};
 use std::io::Write;
 use term_text::ShownText;
 
-/// Parts of the SVG that have not gone out yet. That memory was refused for some of them is kept in mind until they go out, so
-/// that who adds parts has no fault to hand on.
+/// Parts of the SVG that have not been written yet. If memory is refused, `is_whole` records that
+/// until they are written, so that adding a part can't fail.
 #[derive(Drop)]
 pub struct Markup {
     alloc: Global,
-    parts: Vec<Part>,
-    /// Whether memory was there for all of them.
+    parts: Vec<MarkupPart>,
+    /// Whether nothing was lost for want of memory.
     is_whole: bool,
 }
 
 impl Markup {
-    /// None.
+    /// No markup.
     pub fn new(alloc: Global) -> Markup
         ensures { result.parts.items ≡ [] }
     {
@@ -39,25 +39,25 @@ impl Markup {
         }
     }
 
-    /// What memory is taken from.
+    /// The allocator of the parts.
     pub fn alloc(&self) -> Global {
         self.alloc
     }
 
-    /// Keeps in mind that memory was refused, unless it was there.
-    pub fn keep(&mut self, is_whole: bool) {
+    /// Records that memory was refused, if `is_whole` is false.
+    pub fn merge_whole(&mut self, is_whole: bool) {
         self.is_whole &= is_whole;
     }
 
-    /// Adds a word of ours.
-    pub fn own(&mut self, word: Word)
-        ensures { HasParts self.old self.new (part.Own word ∷ []) }
+    /// Adds a fixed text.
+    pub fn fixed(&mut self, fragment: Fragment)
+        ensures { HasParts self.old self.new (markup_part.Fixed fragment ∷ []) }
     {
-        self.is_whole &= self.parts.push(Part::Own(word)).is_ok();
+        self.is_whole &= self.parts.push(MarkupPart::Fixed(fragment)).is_ok();
     }
 
     /// Adds parts.
-    pub fn add(&mut self, parts: &[Part])
+    pub fn add(&mut self, parts: &[MarkupPart])
         ensures { HasParts self.old self.new parts.now }
     {
         self.is_whole &= self.parts.extend_from_slice(parts).is_ok();
@@ -68,11 +68,11 @@ impl Markup {
         ensures { HasParts self.old self.new (text_parts text.now) }
     {
         for character in text.characters() {
-            self.is_whole &= self.parts.push(Part::Character(*character)).is_ok();
+            self.is_whole &= self.parts.push(MarkupPart::Character(*character)).is_ok();
         }
     }
 
-    /// The same, unless memory was refused for the text.
+    /// Adds a text, or records that memory was refused for it.
     pub fn text_if_any(&mut self, text: &Result<ShownText, AllocError>)
         ensures { (characters : _) → IfOk text.now (λ shown. shown ≡ characters) → HasParts self.old self.new (text_parts characters) }
     {
@@ -82,68 +82,70 @@ impl Markup {
         }
     }
 
-    /// Adds the bytes as they are shown.
+    /// Adds bytes as they are shown.
     pub fn shown(&mut self, bytes: &[u8])
         ensures { HasParts self.old self.new (shown_parts bytes.now) }
     {
         self.text_if_any(&ShownText::of(self.alloc, bytes));
     }
 
-    /// Adds words.
-    pub fn said(&mut self, saying: &Saying)
-        ensures { (words : _) → Says saying.now words → HasParts self.old self.new (shown_parts words) }
+    /// Adds a message.
+    pub fn message(&mut self, message: &MessageText)
+        ensures { (words : _) → HasText message.now words → HasParts self.old self.new (shown_parts words) }
     {
-        self.text_if_any(&saying.shown());
+        self.text_if_any(&message.shown());
     }
 
-    /// Adds what begins a line of text: where it stands, and of which class it is.
-    pub fn begin_text(&mut self, x: u64, y: u64, class: Word)
+    /// Adds the begin of a line of text: its place and its class.
+    pub fn begin_text(&mut self, x: u64, y: u64, class: Fragment)
         ensures { HasParts self.old self.new (line_begin x y class) }
     {
         self.add(&[
-            Part::Own(Word::TextX),
-            Part::Tenths(x),
-            Part::Own(Word::Y),
-            Part::Number(y),
-            Part::Own(Word::Class),
-            Part::Own(class),
-            Part::Own(Word::TagEnd),
+            MarkupPart::Fixed(Fragment::TextX),
+            MarkupPart::Tenths(x),
+            MarkupPart::Fixed(Fragment::Y),
+            MarkupPart::Number(y),
+            MarkupPart::Fixed(Fragment::Class),
+            MarkupPart::Fixed(class),
+            MarkupPart::Fixed(Fragment::TagEnd),
         ]);
     }
 
     /// Adds a line of text.
-    pub fn line(&mut self, x: u64, y: u64, class: Word, text: &ShownText) {
+    pub fn line(&mut self, x: u64, y: u64, class: Fragment, text: &ShownText) {
         self.begin_text(x, y, class);
         self.text(text);
-        self.own(Word::TextLineEnd);
+        self.fixed(Fragment::TextLineEnd);
     }
 
-    /// Adds a line of words.
-    pub fn line_of(&mut self, x: u64, y: u64, class: Word, saying: &Saying)
-        ensures { (words : _) → Says saying.now words → HasParts self.old self.new (line_parts x y class (shown_characters words)) }
+    /// Adds a line with a message.
+    pub fn line_of(&mut self, x: u64, y: u64, class: Fragment, message: &MessageText)
+        ensures { (words : _) → HasText message.now words → HasParts self.old self.new (line_parts x y class (shown_characters words)) }
     {
         self.begin_text(x, y, class);
-        self.said(saying);
-        self.own(Word::TextLineEnd);
+        self.message(message);
+        self.fixed(Fragment::TextLineEnd);
     }
 
-    /// Adds what a box begins with: where it stands, and how wide and high it is.
+    /// Adds the begin of a box: its place, width and height. `x` and `width` are in tenths of a
+    /// pixel, `y` and `height` in pixels.
     pub fn begin_box(&mut self, x: u64, y: u64, width: u64, height: u64)
         ensures { HasParts self.old self.new (box_begin x y width height) }
     {
         self.add(&[
-            Part::Own(Word::RectX),
-            Part::Tenths(x),
-            Part::Own(Word::Y),
-            Part::Number(y),
-            Part::Own(Word::Width),
-            Part::Tenths(width),
-            Part::Own(Word::Height),
-            Part::Number(height),
+            MarkupPart::Fixed(Fragment::RectX),
+            MarkupPart::Tenths(x),
+            MarkupPart::Fixed(Fragment::Y),
+            MarkupPart::Number(y),
+            MarkupPart::Fixed(Fragment::Width),
+            MarkupPart::Tenths(width),
+            MarkupPart::Fixed(Fragment::Height),
+            MarkupPart::Number(height),
         ]);
     }
 
-    /// Writes the parts, and forgets them. `Err` with `DrawFault::Memory` where memory is refused, or was.
+    /// Writes the parts, and clears them. `DrawFault::Memory` if memory is refused, or was while
+    /// parts were added. `DrawFault::Gone` or `DrawFault::Unwritten` if a write fails.
     pub fn send<W: Write>(&mut self, out: &mut W) -> Result<(), DrawFault>
         ensures { OnOk result ((self.old.is_whole ≡ true) × PartsWritten self.old.parts.items (W.contents out.old) (W.contents out.new)) }
     {
@@ -156,13 +158,13 @@ impl Markup {
     }
 }
 
-/// The text that the parts are.
-fn text_of(alloc: Global, parts: &[Part]) -> Result<String, AllocError>
-    ensures { IfOk result (λ text. string_bytes text ≡ flat_map part_bytes parts.now) }
+/// The text of the parts. `Err` means that memory was refused.
+fn text_of(alloc: Global, parts: &[MarkupPart]) -> Result<String, AllocError>
+    ensures { IfOk result (λ text. string_bytes text ≡ flat_map markup_part_bytes parts.now) }
 {
     let mut text = String::new(alloc);
-    for part in parts {
-        part.push_to(&mut text)?;
+    for markup_part in parts {
+        markup_part.push_to(&mut text)?;
     }
     Ok(text)
 }

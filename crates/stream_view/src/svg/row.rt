@@ -8,15 +8,15 @@ ghost use Rattle.stream_view.specs.Markup.{bar_end, bar_left, bar_parts, bar_wid
 use crate::column::label_of;
 use crate::kind::Kind;
 use crate::picture::Picture;
+use crate::svg::dimensions::{BAR, EDGE, LEAST_BAR, ROW};
+use crate::svg::fragment::Fragment;
 use crate::svg::markup::Markup;
-use crate::svg::part::Part;
+use crate::svg::markup_part::MarkupPart;
 use crate::svg::scale::Scale;
-use crate::svg::sheet::{BAR, EDGE, LEAST_BAR, ROW};
-use crate::svg::word::Word;
-use crate::words::saying::Saying;
+use crate::words::message_text::MessageText;
 use stream_timeline::{Provisioner, Step};
 
-/// Where the bar of a step stands: its left and its width in tenths of a pixel, and its top in pixels.
+/// Where the bar of a step stands. `left` and `width` are in tenths of a pixel, `top` is in pixels.
 #[derive(Clone, Copy)]
 pub struct Place {
     left: u64,
@@ -24,10 +24,10 @@ pub struct Place {
     top: u64,
 }
 
-/// Where the bar of a step stands in a row at that height: from where it begins to where it ends.
+/// Where the bar of a step stands in a row at the height `y`.
 pub fn place_of(picture: &Picture<'_>, scale: Scale, step: &Step, y: u64) -> Place
-    ensures left { result.left ≡ bar_left (axis_in scale) picture.now.moments step.now }
-    ensures width { result.width ≡ bar_width (axis_in scale) picture.now.moments step.now }
+    ensures left { result.left ≡ bar_left (axis_in scale) picture.now.time_range step.now }
+    ensures width { result.width ≡ bar_width (axis_in scale) picture.now.time_range step.now }
 {
     let left = scale.x_in(picture.span(), picture.begin_of(step));
     let right = scale.x_in(picture.span(), picture.until_of(step));
@@ -38,17 +38,22 @@ pub fn place_of(picture: &Picture<'_>, scale: Scale, step: &Step, y: u64) -> Pla
     }
 }
 
-/// Adds what a row begins with: the address and the action of its step, as its title.
+/// Adds the begin of a row: its group, and the address and action of the step as the begin of its
+/// title.
 pub fn begin_row(markup: &mut Markup, step: &Step)
     ensures { HasParts markup.old markup.new (title_parts step.now) }
 {
-    markup.add(&[Part::Own(Word::GroupBegin), Part::Own(Word::TitleBegin)]);
+    markup.add(&[
+        MarkupPart::Fixed(Fragment::GroupBegin),
+        MarkupPart::Fixed(Fragment::TitleBegin),
+    ]);
     markup.shown(step.address().as_bytes());
-    markup.own(Word::NewLine);
+    markup.fixed(Fragment::NewLine);
     markup.shown(step.action().as_bytes());
 }
 
-/// Adds what stands before the bar of the step at that place: what its title goes on with, and its label.
+/// Adds the markup before the bar: the rest of the title, and the label. `place` is the index of
+/// the step.
 pub fn push_before_bar(
     markup: &mut Markup,
     picture: &Picture<'_>,
@@ -60,8 +65,8 @@ pub fn push_before_bar(
     push_label(markup, step, y);
 }
 
-/// Adds what stands behind it: what is drawn over it, and its length.
-pub fn push_behind_bar(
+/// Adds the markup after the bar: what is drawn over the bar, and the length.
+pub fn push_after_bar(
     markup: &mut Markup,
     picture: &Picture<'_>,
     scale: Scale,
@@ -73,45 +78,46 @@ pub fn push_behind_bar(
     push_length(markup, picture, step, bar, y);
 }
 
-/// Adds what is told of a step besides, and ends the title.
+/// Adds the length, begin and end of a step to its title, how long it ran alone, and its
+/// provisioners. Then ends the title.
 fn push_title(markup: &mut Markup, picture: &Picture<'_>, place: usize, step: &Step) {
-    push_duration(markup, before_length(step), step.length(picture.moments));
-    push_duration(markup, Word::From, picture.begin_of(step));
-    push_duration(markup, Word::To, picture.until_of(step));
+    push_duration(markup, before_length(step), step.length(picture.time_range));
+    push_duration(markup, Fragment::From, picture.begin_of(step));
+    push_duration(markup, Fragment::To, picture.until_of(step));
     push_alone(markup, picture, place);
     for provisioner in step.provisioners() {
         push_provisioner(markup, picture, step, provisioner);
     }
-    markup.own(title_end(step));
+    markup.fixed(title_end(step));
 }
 
-/// Whether the length of a step is a bound, as its title says it.
-fn before_length(step: &Step) -> Word {
+/// The words before the length of a step: `at most` or `at least` if the step has no end.
+fn before_length(step: &Step) -> Fragment {
     match (step.has_failed(), step.end()) {
-        (_, Some(_)) => Word::Comma,
-        (true, None) => Word::AtMost,
-        (false, None) => Word::AtLeast,
+        (_, Some(_)) => Fragment::Comma,
+        (true, None) => Fragment::AtMost,
+        (false, None) => Fragment::AtLeast,
     }
 }
 
-/// What became of a step, and the end of its title.
-fn title_end(step: &Step) -> Word {
+/// The end of the title, with words if the step failed or has no end.
+fn title_end(step: &Step) -> Fragment {
     match (step.has_failed(), step.end()) {
-        (true, _) => Word::FailedTitleEnd,
-        (false, Some(_)) => Word::TitleEnd,
-        (false, None) => Word::NotEndedTitleEnd,
+        (true, _) => Fragment::FailedTitleEnd,
+        (false, Some(_)) => Fragment::TitleEnd,
+        (false, None) => Fragment::NotEndedTitleEnd,
     }
 }
 
-/// Adds for how long the step at that place was alone under way, where it was.
+/// Adds how long the step at index `place` ran alone, if it did.
 fn push_alone(markup: &mut Markup, picture: &Picture<'_>, place: usize) {
     let alone = picture.alone_of(place);
     if alone > 0 {
-        push_duration(markup, Word::AloneFor, alone);
+        push_duration(markup, Fragment::AloneFor, alone);
     }
 }
 
-/// Adds what is told of a provisioner of a step.
+/// Adds a provisioner to the title of its step.
 fn push_provisioner(
     markup: &mut Markup,
     picture: &Picture<'_>,
@@ -119,20 +125,20 @@ fn push_provisioner(
     provisioner: &Provisioner,
 ) {
     let (begin, end) = interval_of(picture, step, provisioner);
-    markup.own(Word::Provisioner);
+    markup.fixed(Fragment::Provisioner);
     markup.shown(provisioner.name().as_bytes());
-    push_duration(markup, Word::Colon, end.saturating_sub(begin));
+    push_duration(markup, Fragment::Colon, end.saturating_sub(begin));
     if provisioner.has_failed() {
-        markup.own(Word::HasFailed);
+        markup.fixed(Fragment::HasFailed);
     }
 }
 
-/// When a provisioner of a step began and ended, in microseconds since the first moment; where no end is told it ended with
-/// its step.
+/// The begin and end of a provisioner, in microseconds since the start of the stream. A provisioner
+/// without an end runs as long as its step.
 fn interval_of(picture: &Picture<'_>, step: &Step, provisioner: &Provisioner) -> (u64, u64) {
-    let begin = picture.moments.offset(provisioner.begin());
+    let begin = picture.time_range.offset(provisioner.begin());
     let end = match provisioner.end() {
-        Some(end) => picture.moments.offset(end),
+        Some(end) => picture.time_range.offset(end),
         None => picture.until_of(step),
     };
     (begin, end)
@@ -141,15 +147,18 @@ fn interval_of(picture: &Picture<'_>, step: &Step, provisioner: &Provisioner) ->
 /// Adds the sign and the address of a step.
 fn push_label(markup: &mut Markup, step: &Step, y: u64) {
     let class = if step.has_failed() {
-        Word::Fail
+        Fragment::Fail
     } else {
-        Word::Ink
+        Fragment::Ink
     };
     let sign = Kind::of(step.action()).sign();
     markup.begin_text(EDGE * 10, y.saturating_add(14), class);
-    markup.add(&[Part::Character(sign), Part::Own(Word::Space)]);
+    markup.add(&[
+        MarkupPart::Character(sign),
+        MarkupPart::Fixed(Fragment::Space),
+    ]);
     markup.text_if_any(&label_of(markup.alloc(), step));
-    markup.own(Word::TextEnd);
+    markup.fixed(Fragment::TextEnd);
 }
 
 /// Adds the bar of a step.
@@ -159,40 +168,41 @@ pub fn push_bar(markup: &mut Markup, step: &Step, bar: Place)
     let kind = Kind::of(step.action()).name();
     markup.begin_box(bar.left, bar.top, bar.width, BAR);
     markup.add(&[
-        Part::Own(Word::RoundedClass),
-        Part::Own(kind),
-        Part::Own(end_of(step)),
+        MarkupPart::Fixed(Fragment::RoundedClass),
+        MarkupPart::Fixed(kind),
+        MarkupPart::Fixed(end_of(step)),
     ]);
 }
 
-/// What the bar of a step ends with: it is paler where the step failed or has no end.
-fn end_of(step: &Step) -> Word
+/// The closing markup of a bar. The bar is paler if the step failed or has no end.
+fn end_of(step: &Step) -> Fragment
     ensures { result ≡ bar_end step.now }
 {
     if step.is_marked() {
-        Word::OpenEnd
+        Fragment::OpenEnd
     } else {
-        Word::WholeEnd
+        Fragment::WholeEnd
     }
 }
 
-/// Adds what is drawn over the bar of a step: stripes and an edge where it failed, else the bars of its provisioners.
+/// Adds what is drawn over the bar of a step: stripes and an edge if the step failed, else strips
+/// for its provisioners.
 fn push_over(markup: &mut Markup, picture: &Picture<'_>, scale: Scale, step: &Step, bar: Place) {
     if step.has_failed() {
-        push_box(markup, bar, Word::StripesEnd);
-        push_box(markup, bar, Word::EdgeEnd);
+        push_box(markup, bar, Fragment::StripesEnd);
+        push_box(markup, bar, Fragment::EdgeEnd);
     } else {
         push_inner_bars(markup, picture, scale, step, bar.top.saturating_add(4));
     }
 }
 
-/// Adds a box where the bar stands, which ends so.
-fn push_box(markup: &mut Markup, bar: Place, end: Word) {
+/// Adds a box over the bar with the closing markup `end`.
+fn push_box(markup: &mut Markup, bar: Place, end: Fragment) {
     markup.begin_box(bar.left, bar.top, bar.width, BAR);
-    markup.own(end);
+    markup.fixed(end);
 }
 
-/// Adds the bars of the provisioners of a step at that height.
+/// Adds the strips of the provisioners of a step at the height `y`.
 fn push_inner_bars(markup: &mut Markup, picture: &Picture<'_>, scale: Scale, step: &Step, y: u64) {
     for provisioner in step.provisioners() {
         let (begin, end) = interval_of(picture, step, provisioner);
@@ -200,54 +210,60 @@ fn push_inner_bars(markup: &mut Markup, picture: &Picture<'_>, scale: Scale, ste
     }
 }
 
-/// Adds the bar of a provisioner, which has no width of its own.
+/// Adds the strip of a provisioner, unless its width is 0.
 fn push_inner(markup: &mut Markup, left: u64, right: u64, y: u64) {
     if right > left {
         markup.begin_box(left, y, right - left, BAR - 8);
-        markup.own(Word::InnerEnd);
+        markup.fixed(Fragment::InnerEnd);
     }
 }
 
-/// Adds how long a step took, behind its bar.
+/// Adds the length of a step, right of its bar.
 fn push_length(markup: &mut Markup, picture: &Picture<'_>, step: &Step, bar: Place, y: u64) {
     let x = bar.left.saturating_add(bar.width).saturating_add(50);
     let class = if step.has_failed() {
-        Word::SmallFail
+        Fragment::SmallFail
     } else {
-        Word::SmallSoft
+        Fragment::SmallSoft
     };
     markup.begin_text(x, y.saturating_add(14), class);
     push_bound(markup, step);
-    push_time(markup, step.length(picture.moments));
+    push_time(markup, step.length(picture.time_range));
     push_mark(markup, step);
-    markup.own(Word::TextEnd);
+    markup.fixed(Fragment::TextEnd);
 }
 
-/// Adds whether the length of a step is a bound, as a sign.
+/// Adds the sign of a bound if the step has no end.
 fn push_bound(markup: &mut Markup, step: &Step) {
     if step.end().is_none() {
         let sign = if step.has_failed() { '≤' } else { '≥' };
-        markup.add(&[Part::Character(sign), Part::Own(Word::Space)]);
+        markup.add(&[
+            MarkupPart::Character(sign),
+            MarkupPart::Fixed(Fragment::Space),
+        ]);
     }
 }
 
-/// Adds whether a step failed or has no end, as a mark.
+/// Adds a mark if the step failed or has no end.
 fn push_mark(markup: &mut Markup, step: &Step) {
     if step.is_marked() {
         let mark = if step.has_failed() { '✗' } else { '…' };
-        markup.add(&[Part::Own(Word::Space), Part::Character(mark)]);
+        markup.add(&[
+            MarkupPart::Fixed(Fragment::Space),
+            MarkupPart::Character(mark),
+        ]);
     }
 }
 
-/// Adds a duration behind a word.
-fn push_duration(markup: &mut Markup, before: Word, microseconds: u64) {
-    markup.own(before);
+/// Adds words and a duration.
+fn push_duration(markup: &mut Markup, before: Fragment, microseconds: u64) {
+    markup.fixed(before);
     push_time(markup, microseconds);
 }
 
 /// Adds a duration.
 fn push_time(markup: &mut Markup, microseconds: u64) {
-    let mut time = Saying::new(markup.alloc());
+    let mut time = MessageText::new(markup.alloc());
     time.duration(microseconds as u128);
-    markup.said(&time);
+    markup.message(&time);
 }

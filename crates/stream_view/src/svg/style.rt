@@ -1,10 +1,10 @@
-//! How the parts of the SVG look.
+//! The styles of the SVG.
 
 ghost use Rattle.std.specs.Prelude.{◌≡◌};
 ghost use Rattle.stream_view.specs.Vocabulary.{style_bytes};
 
-/// The rules (CSS), in light and in dark: the colours of the kinds differ with each form of colour blindness, and in print; and
-/// the stripes of what failed.
+/// The rules (CSS) for light and dark, and the pattern of stripes for failed steps. The colours of
+/// the kinds can be told apart with each form of colour blindness, and in print.
 pub fn style() -> &'static str
     ensures { result.now ≡ style_bytes }
 {

@@ -7,29 +7,30 @@ ghost use Rattle.stream_view.specs.Rows.{IsTick};
 use crate::picture::Picture;
 use crate::text::chart::Chart;
 use crate::text::line::Line;
-use crate::text::page::Page;
-use crate::words::saying::Saying;
+use crate::text::line_buffer::LineBuffer;
+use crate::words::message_text::MessageText;
 use std::alloc::{AllocError, Global};
 use term_text::without_blanks;
 
 /// How many ticks an axis has at most.
 const MOST_TICKS: u64 = 1_000;
 
-/// Adds an empty line and the axis, the text of each tick, where it fits; none where no step has a row.
-pub fn push_axis(page: &mut Page, picture: &Picture<'_>, chart: &Chart)
-    ensures style { page.new.style ≡ page.old.style }
-    ensures more { HasMoreLines page.old page.new }
+/// Adds an empty line and the axis with the text of each tick that has room. Adds nothing if no
+/// step has a row.
+pub fn push_axis(line_buffer: &mut LineBuffer, picture: &Picture<'_>, chart: &Chart)
+    ensures style { line_buffer.new.style ≡ line_buffer.old.style }
+    ensures more { HasMoreLines line_buffer.old line_buffer.new }
 {
     if picture.rows.places.is_empty() {
         return;
     }
-    let mut line = page.line();
-    push_cells(page.alloc(), &mut line, chart);
-    page.push_empty();
-    page.push(line);
+    let mut line = line_buffer.line();
+    push_cells(line_buffer.alloc(), &mut line, chart);
+    line_buffer.push_empty();
+    line_buffer.push(line);
 }
 
-/// Adds the characters above the bars, without the blanks at their end.
+/// Adds the characters of the axis, without the blanks at their end.
 fn push_cells(alloc: Global, line: &mut Line, chart: &Chart)
     ensures { line.new.width ≡ line.old.width }
 {
@@ -40,7 +41,7 @@ fn push_cells(alloc: Global, line: &mut Line, chart: &Chart)
     }
 }
 
-/// The characters above the bars.
+/// The characters of the axis. `Err` means that memory was refused.
 fn axis_cells(alloc: Global, chart: &Chart) -> Result<Vec<char>, AllocError> {
     let mut cells = vec![in alloc; ' '; chart.cells as usize]?;
     for count in 0..MOST_TICKS {
@@ -48,14 +49,14 @@ fn axis_cells(alloc: Global, chart: &Chart) -> Result<Vec<char>, AllocError> {
         let Some(cell) = chart.cell_of(offset) else {
             break;
         };
-        let mut tick = Saying::new(alloc);
+        let mut tick = MessageText::new(alloc);
         tick.tick(offset / 1_000);
         put(&mut cells, cell, tick.shown()?.characters());
     }
     Ok(cells)
 }
 
-/// Writes a text from a cell on, where all of it fits.
+/// Writes a text into the cells from `from` on, if all of it has room.
 fn put(cells: &mut [char], from: usize, text: &[char]) {
     if from > cells.len() || text.len() > cells.len() - from {
         return;
@@ -65,7 +66,8 @@ fn put(cells: &mut [char], from: usize, text: &[char]) {
     }
 }
 
-/// What stands in the cells that no bar covers: a sign where a tick is, else a blank.
+/// The background of the rows: `┊` in a cell with a tick, else a blank. `Err` means that memory was
+/// refused.
 pub fn tick_cells(alloc: Global, chart: &Chart) -> Result<Vec<char>, AllocError>
     ensures cells { IfOk result (λ ticks. length ticks.items ≡ chart.now.cells) }
     ensures each { IfOk result (λ ticks. All IsTick ticks.items) }

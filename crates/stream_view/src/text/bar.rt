@@ -2,7 +2,7 @@
 
 ghost use Rattle.std.specs.Prelude.{◌≡◌, ◌<◌, ◌≤◌, ◌+◌, ◌-◌, ◌/◌, map, min};
 ghost use Rattle.std.specs.List.{range_with_len};
-ghost use Rattle.stream_view.specs.Growth.{CameTo};
+ghost use Rattle.stream_view.specs.Growth.{GrewTo};
 ghost use Rattle.stream_view.specs.Lines.{with_characters};
 ghost use Rattle.stream_view.specs.Rows.{bar_character};
 
@@ -14,19 +14,19 @@ use stream_timeline::Halves;
 pub struct Bar {
     pub halves: Halves,
     pub has_failed: bool,
-    /// Whether its end is told.
+    /// Whether the step has an end.
     pub has_ended: bool,
 }
 
 impl Bar {
-    /// The first of so many cells of which it covers a half.
+    /// The first cell that the bar covers at least half of.
     pub fn first_cell(self, cells: u32) -> u32
         ensures { result ≡ min cells (self.halves.first / 2) }
     {
         (self.halves.first / 2).min(cells as u128) as u32
     }
 
-    /// The cell behind the last of them.
+    /// The cell after the last that the bar covers at least half of.
     pub fn end_cell(self, cells: u32) -> u32
         ensures { result ≡ min cells ((self.halves.end + 1) / 2) }
     {
@@ -34,11 +34,11 @@ impl Bar {
         end.min(cells as u128) as u32
     }
 
-    /// Adds its characters in the cells from one on, before another.
+    /// Adds the characters of the bar in the cells from `first`, up to but not including `end`.
     pub fn push_to(self, line: &mut Line, first: u32, end: u32)
         requires { end ≤ 400 }
         ensures width { line.new.width ≡ line.old.width }
-        ensures pieces { CameTo line.old line.new (with_characters line.old.width line.old.pieces.items
+        ensures pieces { GrewTo line.old line.new (with_characters line.old.width line.old.pieces.items
             (map (bar_character self.has_failed self.has_ended self.halves.first self.halves.end) (range_with_len first (end - first)))) }
     {
         for cell in first..end {
@@ -46,7 +46,7 @@ impl Bar {
         }
     }
 
-    /// Its character in a cell of which it covers a half.
+    /// The character in a cell that the bar covers at least half of.
     fn character(self, cell: u32) -> char
         requires { cell < 400 }
         ensures { result ≡ bar_character self.has_failed self.has_ended self.halves.first self.halves.end cell }

@@ -1,40 +1,40 @@
-//! The whole text.
+//! Draws the whole text.
 
 ghost use Rattle.std.specs.Prelude.{◌≡◌, ◌+◌, [], ℕ, List, OnOk, true};
 ghost use Rattle.stream_view.specs.Charts.{layout_in};
-ghost use Rattle.stream_view.specs.Growth.{HasMoreLines, IsOf, lines_in};
-ghost use Rattle.stream_view.specs.LeftOut.{IsLeftOutAs, left_out_said};
+ghost use Rattle.stream_view.specs.Growth.{HasMoreLines, HasPieces, lines_in};
+ghost use Rattle.stream_view.specs.LeftOut.{IsLeftOutAs, left_out_shown};
 ghost use Rattle.stream_view.specs.Lines.{LinesWritten};
 ghost use Rattle.stream_view.specs.Rows.{AreTicks, layout_of, row_at};
 ghost use Rattle.stream_view.specs.Texts.{HeadLinesWritten, IsHeadedBy, LeftOutWritten, RowsWritten, TextWritten, heading_characters};
 
+use crate::captions::diagnostic_lines::{DiagnosticLine, DiagnosticLines, LineKind};
+use crate::captions::heading::heading;
+use crate::captions::left_out::left_out;
+use crate::captions::overlap::overlap;
+use crate::captions::passed_over::passed_over;
+use crate::captions::running_alone::{alone_line, longest_alone};
 use crate::draw_fault::DrawFault;
 use crate::picture::Picture;
-use crate::telling::alone::{alone_line, long_alone};
-use crate::telling::heading::heading;
-use crate::telling::left_out::left_out;
-use crate::telling::note::{Note, Voice};
-use crate::telling::notes::Notes;
-use crate::telling::overlap::overlap;
-use crate::telling::passed::passed;
-use crate::text::at_once::push_at_once;
 use crate::text::axis::{push_axis, tick_cells};
 use crate::text::chart::Chart;
+use crate::text::concurrency::push_concurrency;
 use crate::text::line::Line;
-use crate::text::page::Page;
-use crate::text::paint::Paint;
+use crate::text::line_buffer::{LineBuffer, Style};
+use crate::text::rendition::Rendition;
 use crate::text::row::row_of;
-use crate::text::style::Style;
 use crate::text::writing::write_line;
-use crate::words::saying::Saying;
+use crate::words::message_text::MessageText;
 use crate::writing::flush;
 use std::alloc::Global;
 use std::cmp::Reverse;
 use std::io::Write;
 
-/// Writes the picture as a text in lines of at most `width` columns, which is 60 at least, with the sequences of colours or
-/// without; memory is taken for one row. `Err` with `DrawFault::Memory` where memory is refused, and with `DrawFault::Gone` or
-/// `DrawFault::Unwritten` where a write or a flush fails: then some of its first bytes were written.
+/// Writes the picture as a text in lines of at most `width` columns, at least 60. With
+/// `has_colour`, the text has the sequences of colours. Memory is needed for one row at a time.
+///
+/// `DrawFault::Memory` if memory is refused. `DrawFault::Gone` or `DrawFault::Unwritten` if a write
+/// or a flush fails. After an `Err`, `out` may have the first bytes of the text.
 pub fn draw_text<W: Write>(
     alloc: Global,
     picture: &Picture<'_>,
@@ -58,7 +58,7 @@ pub fn draw_text<W: Write>(
     Ok(())
 }
 
-/// Writes what stands above the rows.
+/// Writes the lines above the rows.
 fn draw_head<W: Write>(
     alloc: Global,
     picture: &Picture<'_>,
@@ -68,13 +68,13 @@ fn draw_head<W: Write>(
 ) -> Result<(), DrawFault>
     ensures { OnOk result (HeadLinesWritten style.width style.has_colour picture.now (W.contents out.old) (W.contents out.new)) }
 {
-    let mut page = Page::new(alloc, style);
-    push_head(&mut page, picture);
-    push_axis(&mut page, picture, chart);
-    page.send(out)
+    let mut line_buffer = LineBuffer::new(alloc, style);
+    push_head(&mut line_buffer, picture);
+    push_axis(&mut line_buffer, picture, chart);
+    line_buffer.send(out)
 }
 
-/// Writes what has no row.
+/// Writes the line about the steps without a row.
 fn draw_left_out<W: Write>(
     alloc: Global,
     picture: &Picture<'_>,
@@ -84,12 +84,12 @@ fn draw_left_out<W: Write>(
 ) -> Result<(), DrawFault>
     ensures { OnOk result (LeftOutWritten style.width style.has_colour (chart.now.action + 1) picture.now.rows (W.contents out.old) (W.contents out.new)) }
 {
-    let mut page = Page::new(alloc, style);
-    push_left_out(&mut page, picture, chart);
-    page.send(out)
+    let mut line_buffer = LineBuffer::new(alloc, style);
+    push_left_out(&mut line_buffer, picture, chart);
+    line_buffer.send(out)
 }
 
-/// Writes what stands below them.
+/// Writes the lines below the rows.
 fn draw_tail<W: Write>(
     alloc: Global,
     picture: &Picture<'_>,
@@ -99,36 +99,36 @@ fn draw_tail<W: Write>(
 ) -> Result<(), DrawFault>
     ensures { OnOk result (LinesWritten style.width style.has_colour (W.contents out.old) (W.contents out.new)) }
 {
-    let mut page = Page::new(alloc, style);
-    push_at_once(&mut page, picture, chart);
-    push_alone(&mut page, picture);
-    push_notes(&mut page, picture);
-    push_passed(&mut page, picture);
-    page.send(out)
+    let mut line_buffer = LineBuffer::new(alloc, style);
+    push_concurrency(&mut line_buffer, picture, chart);
+    push_alone(&mut line_buffer, picture);
+    push_diagnostics(&mut line_buffer, picture);
+    push_passed(&mut line_buffer, picture);
+    line_buffer.send(out)
 }
 
-/// Adds what was done, and what ran beside what.
-fn push_head(page: &mut Page, picture: &Picture<'_>)
-    ensures style { page.new.style ≡ page.old.style }
-    ensures headed { page.old.lines.items ≡ [] → page.new.is_whole ≡ true
-        → IsHeadedBy page.old.style.width (heading_characters picture.now) (lines_in page.new) }
+/// Adds the heading, and how many steps ran at once.
+fn push_head(line_buffer: &mut LineBuffer, picture: &Picture<'_>)
+    ensures style { line_buffer.new.style ≡ line_buffer.old.style }
+    ensures headed { line_buffer.old.lines.items ≡ [] → line_buffer.new.is_whole ≡ true
+        → IsHeadedBy line_buffer.old.style.width (heading_characters picture.now) (lines_in line_buffer.new) }
 {
-    let what = heading(page.alloc(), picture);
-    page.push_said(0, &what, Some(Paint::Bold));
-    push_overlap(page, picture);
+    let what = heading(line_buffer.alloc(), picture);
+    line_buffer.push_message(0, &what, Some(Rendition::Bold));
+    push_overlap(line_buffer, picture);
 }
 
-/// Adds what ran beside what.
-fn push_overlap(page: &mut Page, picture: &Picture<'_>)
-    ensures style { page.new.style ≡ page.old.style }
-    ensures more { HasMoreLines page.old page.new }
+/// Adds how many steps ran at once.
+fn push_overlap(line_buffer: &mut LineBuffer, picture: &Picture<'_>)
+    ensures style { line_buffer.new.style ≡ line_buffer.old.style }
+    ensures more { HasMoreLines line_buffer.old line_buffer.new }
 {
-    if let Some(text) = overlap(page.alloc(), picture) {
-        page.push_said(0, &text, None);
+    if let Some(text) = overlap(line_buffer.alloc(), picture) {
+        line_buffer.push_message(0, &text, None);
     }
 }
 
-/// Writes the rows, a line for each.
+/// Writes the rows, one line each.
 fn draw_rows<W: Write>(
     alloc: Global,
     picture: &Picture<'_>,
@@ -148,7 +148,7 @@ fn draw_rows<W: Write>(
     Ok(())
 }
 
-/// The row of the step at that place; an empty line where none is.
+/// The row of the step at index `place`; an empty line if there is no such step.
 fn line_of(
     alloc: Global,
     picture: &Picture<'_>,
@@ -159,99 +159,103 @@ fn line_of(
 ) -> Line
     requires { layout_in chart.now ≡ layout_of width picture.now }
     ensures width { result.width ≡ width }
-    ensures row { IsOf result (row_at width picture.now ticks.now place) }
+    ensures row { HasPieces result (row_at width picture.now ticks.now place) }
 {
-    match picture.told.steps().get(place) {
+    match picture.timeline.steps().get(place) {
         Some(step) => row_of(alloc, picture, chart, ticks, step, width),
         None => Line::new(alloc, width),
     }
 }
 
-/// Adds what has no row.
-fn push_left_out(page: &mut Page, picture: &Picture<'_>, chart: &Chart)
-    ensures style { page.new.style ≡ page.old.style }
-    ensures told { page.old.lines.items ≡ [] → page.new.is_whole ≡ true
-        → IsLeftOutAs page.old.style.width (chart.now.action + 1) (left_out_said picture.now.rows) (lines_in page.new) }
+/// Adds the line about the steps without a row, if there are any.
+fn push_left_out(line_buffer: &mut LineBuffer, picture: &Picture<'_>, chart: &Chart)
+    ensures style { line_buffer.new.style ≡ line_buffer.old.style }
+    ensures listed { line_buffer.old.lines.items ≡ [] → line_buffer.new.is_whole ≡ true
+        → IsLeftOutAs line_buffer.old.style.width (chart.now.action + 1) (left_out_shown picture.now.rows) (lines_in line_buffer.new) }
 {
     if picture.rows.left_out == 0 {
         return;
     }
-    let text = left_out(page.alloc(), picture);
-    page.push_said(chart.indent(), &text, Some(Paint::Dim));
+    let text = left_out(line_buffer.alloc(), picture);
+    line_buffer.push_message(chart.indent(), &text, Some(Rendition::Dim));
 }
 
-/// Adds the steps that everything else waited for.
-fn push_alone(page: &mut Page, picture: &Picture<'_>)
-    ensures { page.new.style ≡ page.old.style }
+/// Adds the steps that ran alone.
+fn push_alone(line_buffer: &mut LineBuffer, picture: &Picture<'_>)
+    ensures { line_buffer.new.style ≡ line_buffer.old.style }
 {
-    match long_alone(page.alloc(), picture) {
-        Ok(found) => push_alone_lines(page, picture, &found),
-        Err(_) => page.keep(false),
+    match longest_alone(line_buffer.alloc(), picture) {
+        Ok(listed) => push_alone_lines(line_buffer, picture, &listed),
+        Err(_) => line_buffer.merge_whole(false),
     }
 }
 
-/// Adds the lines of the steps at those places, with what stands above them, where there are any.
-fn push_alone_lines(page: &mut Page, picture: &Picture<'_>, found: &[(Reverse<u64>, usize)])
-    ensures { page.new.style ≡ page.old.style }
+/// Adds the title and the lines of the steps that ran alone, if there are any.
+fn push_alone_lines(
+    line_buffer: &mut LineBuffer,
+    picture: &Picture<'_>,
+    listed: &[(Reverse<u64>, usize)],
+)
+    ensures { line_buffer.new.style ≡ line_buffer.old.style }
 {
-    if found.is_empty() {
+    if listed.is_empty() {
         return;
     }
-    let mut title = Saying::new(page.alloc());
+    let mut title = MessageText::new(line_buffer.alloc());
     title.text("Alone under way");
-    page.push_empty();
-    page.push_said(0, &title, Some(Paint::Bold));
-    for (_, place) in found {
-        push_alone_line(page, picture, *place);
+    line_buffer.push_empty();
+    line_buffer.push_message(0, &title, Some(Rendition::Bold));
+    for (_, place) in listed {
+        push_alone_line(line_buffer, picture, *place);
     }
 }
 
-/// Adds the line of the step at that place.
-fn push_alone_line(page: &mut Page, picture: &Picture<'_>, place: usize)
-    ensures { page.new.style ≡ page.old.style }
+/// Adds the line of the step at index `place`, which ran alone.
+fn push_alone_line(line_buffer: &mut LineBuffer, picture: &Picture<'_>, place: usize)
+    ensures { line_buffer.new.style ≡ line_buffer.old.style }
 {
-    let Some(step) = picture.told.steps().get(place) else {
+    let Some(step) = picture.timeline.steps().get(place) else {
         return;
     };
-    match alone_line(page.alloc(), picture, place, step).within(page.width()) {
-        Ok(line) => page.push_text(0, &line, None),
-        Err(_) => page.keep(false),
+    match alone_line(line_buffer.alloc(), picture, place, step).within(line_buffer.width()) {
+        Ok(line) => line_buffer.push_text(0, &line, None),
+        Err(_) => line_buffer.merge_whole(false),
     }
 }
 
 /// Adds the diagnostics.
-fn push_notes(page: &mut Page, picture: &Picture<'_>)
-    ensures { page.new.style ≡ page.old.style }
+fn push_diagnostics(line_buffer: &mut LineBuffer, picture: &Picture<'_>)
+    ensures { line_buffer.new.style ≡ line_buffer.old.style }
 {
-    let notes = Notes::of(page.alloc(), picture);
-    page.keep(notes.is_whole());
-    for note in notes.list() {
-        push_note(page, note);
+    let diagnostic_lines = DiagnosticLines::of(line_buffer.alloc(), picture);
+    line_buffer.merge_whole(diagnostic_lines.is_whole());
+    for diagnostic_line in diagnostic_lines.list() {
+        push_diagnostic_line(line_buffer, diagnostic_line);
     }
 }
 
-/// Adds a line of the diagnostics, and an empty one before it, unless it is a detail.
-fn push_note(page: &mut Page, note: &Note)
-    ensures { page.new.style ≡ page.old.style }
+/// Adds a line of the diagnostics, and an empty line before it, unless it is a detail.
+fn push_diagnostic_line(line_buffer: &mut LineBuffer, diagnostic_line: &DiagnosticLine)
+    ensures { line_buffer.new.style ≡ line_buffer.old.style }
 {
-    let (indent, paint) = match note.voice {
-        Voice::Detail => (2, None),
-        Voice::Error => (0, Some(Paint::Red)),
-        Voice::Warning => (0, Some(Paint::Yellow)),
-        Voice::Rest => (0, None),
+    let (indent, rendition) = match diagnostic_line.kind {
+        LineKind::Detail => (2, None),
+        LineKind::Error => (0, Some(Rendition::Red)),
+        LineKind::Warning => (0, Some(Rendition::Yellow)),
+        LineKind::Remaining => (0, None),
     };
     if indent == 0 {
-        page.push_empty();
+        line_buffer.push_empty();
     }
-    page.push_wrapped(indent, &note.text, paint);
+    line_buffer.push_wrapped(indent, &diagnostic_line.text, rendition);
 }
 
-/// Adds how many lines were passed over.
-fn push_passed(page: &mut Page, picture: &Picture<'_>)
-    ensures { page.new.style ≡ page.old.style }
+/// Adds how many lines were passed over, if any.
+fn push_passed(line_buffer: &mut LineBuffer, picture: &Picture<'_>)
+    ensures { line_buffer.new.style ≡ line_buffer.old.style }
 {
-    if let Some(text) = passed(page.alloc(), picture) {
-        page.push_empty();
-        page.push_said(0, &text, None);
+    if let Some(text) = passed_over(line_buffer.alloc(), picture) {
+        line_buffer.push_empty();
+        line_buffer.push_message(0, &text, None);
     }
 }

@@ -1,4 +1,4 @@
-//! Lines that are written.
+//! Writes lines of the text.
 
 ghost use Rattle.std.specs.Prelude.{◌≡◌, ◌++◌, IfOk, OnOk, map, string_bytes, true};
 ghost use Rattle.std.specs.Io.KnownBytes.{Appends};
@@ -10,7 +10,7 @@ use crate::writing::write_text;
 use std::alloc::{AllocError, Global};
 use std::io::Write;
 
-/// Writes the lines, with the sequences of colours or without.
+/// Writes the lines. The errors are those of `write_line`.
 pub fn write_lines<W: Write>(
     alloc: Global,
     lines: &[Line],
@@ -26,7 +26,8 @@ pub fn write_lines<W: Write>(
     Ok(())
 }
 
-/// Writes a line, with the sequences of colours or without. `Err` with `DrawFault::Memory` where memory is refused, or was.
+/// Writes a line and its line feed. `DrawFault::Memory` if memory is refused, or was while the line
+/// was made. `DrawFault::Gone` or `DrawFault::Unwritten` if a write fails.
 pub fn write_line<W: Write>(
     alloc: Global,
     line: &Line,
@@ -43,13 +44,13 @@ pub fn write_line<W: Write>(
     write_text(text.as_str(), out)
 }
 
-/// The text of a line, and its line feed.
+/// The line as text, with its line feed. `Err` means that memory was refused.
 fn line_text(alloc: Global, line: &Line, has_colour: bool) -> Result<String, AllocError>
     ensures { IfOk result (λ text. string_bytes text ≡ line_bytes has_colour line.now.pieces.items) }
 {
     let mut text = String::new(alloc);
-    for piece in line.pieces() {
-        piece.push_to(&mut text, has_colour)?;
+    for line_piece in line.pieces() {
+        line_piece.push_to(&mut text, has_colour)?;
     }
     text.push_str("\n")?;
     Ok(text)

@@ -1,4 +1,4 @@
-//! Texts that are shown in so many columns.
+//! Fits texts to columns.
 
 ghost use Rattle.std.specs.Prelude.{◌≡◌, IfOk};
 ghost use Rattle.term_text.specs.Fitting.{fitted};
@@ -7,7 +7,7 @@ ghost use Rattle.term_text.specs.Fitted.{shown_characters};
 use std::alloc::{AllocError, Global};
 use term_text::{ShownText, fitted};
 
-/// The bytes as they are shown, fitted to so many columns. `Err` where memory is refused.
+/// The bytes as they are shown, fitted to `columns` columns. `Err` means that memory was refused.
 pub fn shown_within(alloc: Global, bytes: &[u8], columns: usize) -> Result<ShownText, AllocError>
     ensures { IfOk result (λ text. text ≡ fitted columns (shown_characters bytes.now)) }
 {

@@ -6,7 +6,7 @@ use std::fs::{Metadata, OpenFile, OpenOptions};
 use std::io::{Seek, SeekFrom};
 use std::rt::Files;
 
-/// Files, all of the same bytes, of which each fails at its end where it is broken.
+/// Files with the same bytes. Each fails at its end if it is broken.
 #[derive(Drop)]
 pub(super) struct Disk<'a> {
     pub bytes: &'a [u8],
@@ -97,7 +97,7 @@ impl OpenFile for Given<'_> {
     }
 }
 
-/// No command makes such a call.
+/// The command makes no such call.
 fn no_such_call() -> io::Error {
     io::Error::from(ErrorKind::Unsupported)
 }

@@ -2,7 +2,7 @@
 
 use super::*;
 
-/// A reader that gives those bytes, and fails at the end where it is broken.
+/// A reader that gives these bytes, and fails at the end if it is broken.
 #[derive(Drop)]
 pub(super) struct Given<'a> {
     pub bytes: &'a [u8],
@@ -21,18 +21,19 @@ impl Read for Given<'_> {
     }
 }
 
-/// A writer that takes one byte at once, and fails so behind so many, in a write as in a flush.
+/// A writer that accepts one byte at a time. After `room` bytes it fails with `kind`, in a write as
+/// in a flush.
 #[derive(Drop)]
-pub(super) struct Taken {
+pub(super) struct WrittenOutput {
     pub bytes: Vec<u8>,
     room: usize,
     kind: ErrorKind,
 }
 
-impl Taken {
-    /// One that has taken nothing.
-    pub fn new(alloc: Global, room: usize, kind: ErrorKind) -> Taken {
-        Taken {
+impl WrittenOutput {
+    /// A writer that has accepted nothing.
+    pub fn new(alloc: Global, room: usize, kind: ErrorKind) -> WrittenOutput {
+        WrittenOutput {
             bytes: Vec::new(alloc),
             room,
             kind,
@@ -40,7 +41,7 @@ impl Taken {
     }
 }
 
-impl Write for Taken {
+impl Write for WrittenOutput {
     fn write(&mut self, buf: &[u8]) -> io::Result<usize> {
         let left = self.room.saturating_sub(self.bytes.len());
         let count = left.min(buf.len()).min(1);

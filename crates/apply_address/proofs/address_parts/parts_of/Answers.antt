@@ -1,8 +1,8 @@
-use Rattle.apply_address.proofs.Readings.{all_found, only_found}
+use Rattle.apply_address.proofs.Readings.{all_located, only_located}
 use Rattle.apply_address.proofs.address_parts.parts_of.Goals as goal
 
-pub returns-clause-found : goal.returns-clause-found
-returns-clause-found c = all_found c.args.text.now c.read.result c.utf8.text c.read.ensures
+pub returns-clause-answer : goal.returns-clause-answer
+returns-clause-answer c = all_located c.args.text.now c.read.result c.utf8.text c.read.ensures
 
 pub returns-clause-only : goal.returns-clause-only
-returns-clause-only c = only_found c.args.text.now c.read.result c.read.ensures
+returns-clause-only c = only_located c.args.text.now c.read.result c.read.ensures

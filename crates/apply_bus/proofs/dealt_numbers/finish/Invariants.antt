@@ -6,5 +6,5 @@ abbrev pub invariant-loop-drawer : goal.invariant-loop-drawer
 invariant-loop-drawer l = record {
   left : l.yielded ++ into_iter_items l.drawer-iterator ≡ into_iter_items l.initial.drawer-iterator;
   count : into_iter_len l.drawer-iterator ≡ length (into_iter_items l.drawer-iterator);
-  joined : l.gathering ≡ record { claims = l.fn.claims; drawings = l.yielded };
+  joined : l.drawer_join ≡ record { claims = l.fn.claims; drawings = l.yielded };
 }

@@ -6,7 +6,7 @@ use Rattle.apply_hooks.specs.declared.hook_error.HookError.TheVariants.{Full, Me
 use Rattle.apply_cli.specs.Status.{hook_status_of}
 use Rattle.apply_cli.proofs.program.follow_invocation.Goals as goal
 
--- a hook that is refused is told by 2 or 3
+-- a refused hook gives status 2 or 3
 few_statuses : (refused : HookError) → (2 ≤ hook_status_of refused) × (hook_status_of refused ≤ 3)
 few_statuses Full = (omega arith, omega arith)
 few_statuses Memory = (omega arith, omega arith)
@@ -51,7 +51,7 @@ returns-in-Err g c =
       statuses = omega (arith, is, few.1);
     }
 
--- the run's own clauses, since nothing was said before
+-- the run's own clauses, since nothing was reported before
 pub returns : goal.returns
 returns g c =
     let run = c.run_with_hooks.ensures in

@@ -1,7 +1,7 @@
 use Rattle.std.specs.Option.{option_copied}
 use Rattle.std.specs.Io.KnownBytes.{Keeps}
 use Rattle.apply_hooks.specs.Registry.{rules_of}
-use Rattle.apply_cli.specs.Command.{sight_of}
+use Rattle.apply_cli.specs.Command.{sink_state}
 use Rattle.apply_cli.specs.CommandInForm.{HasAppliedInForm, HasBegunInForm}
 use Rattle.apply_cli.specs.Options.{options_of}
 use Rattle.apply_cli.proofs.InForm.{plan_of_applied, plan_of_begun}
@@ -11,13 +11,13 @@ use Rattle.apply_cli.proofs.run.run_command_in_form.Goals as goal
 pub returns-clause-applied : goal.returns-clause-applied
 returns-clause-applied g c =
     of_input c.read_input-plan.result.0 (g.R.Read.remaining c.args.input) c.run_input-output.result.1
-    (λ bytes. HasAppliedInForm c.args.form (record { plan = bytes; script = option_copied c.args.script; hooks = rules_of c.args.registry.now }) (options_of c.args.settings.now) (sight_of g.W.Write.contents c.args.output) (sight_of g.W.Write.contents c.run_input-output.result.0) c.run_input-output.result.1)
-    (λ bytes h. plan_of_applied (record { plan = bytes; script = option_copied c.args.script; hooks = rules_of c.args.registry.now }) (options_of c.args.settings.now) c.args.form (sight_of g.W.Write.contents c.args.output) (sight_of g.W.Write.contents c.run_input-output.result.0) c.run_input-output.result.1 h)
+    (λ bytes. HasAppliedInForm c.args.form (record { plan = bytes; script = option_copied c.args.script; hooks = rules_of c.args.registry.now }) (options_of c.args.settings.now) (sink_state g.W.Write.contents c.args.output) (sink_state g.W.Write.contents c.run_input-output.result.0) c.run_input-output.result.1)
+    (λ bytes h. plan_of_applied (record { plan = bytes; script = option_copied c.args.script; hooks = rules_of c.args.registry.now }) (options_of c.args.settings.now) c.args.form (sink_state g.W.Write.contents c.args.output) (sink_state g.W.Write.contents c.run_input-output.result.0) c.run_input-output.result.1 h)
     c.read_input-plan.ensures.bytes c.run_input-output.ensures.applied c.run_input-output.ensures.unread
 
 pub returns-clause-cut_off : goal.returns-clause-cut_off
 returns-clause-cut_off g c =
     of_input_in_part c.read_input-plan.result.0 (g.R.Read.remaining c.args.input) c.run_input-output.result.1 (Keeps (g.W.Write.contents c.args.output.writer) (g.W.Write.contents c.run_input-output.result.0.writer))
-    (λ bytes. HasBegunInForm c.args.form (record { plan = bytes; script = option_copied c.args.script; hooks = rules_of c.args.registry.now }) (options_of c.args.settings.now) (sight_of g.W.Write.contents c.args.output) (sight_of g.W.Write.contents c.run_input-output.result.0))
-    (λ bytes h. plan_of_begun (record { plan = bytes; script = option_copied c.args.script; hooks = rules_of c.args.registry.now }) (options_of c.args.settings.now) c.args.form (sight_of g.W.Write.contents c.args.output) (sight_of g.W.Write.contents c.run_input-output.result.0) h)
+    (λ bytes. HasBegunInForm c.args.form (record { plan = bytes; script = option_copied c.args.script; hooks = rules_of c.args.registry.now }) (options_of c.args.settings.now) (sink_state g.W.Write.contents c.args.output) (sink_state g.W.Write.contents c.run_input-output.result.0))
+    (λ bytes h. plan_of_begun (record { plan = bytes; script = option_copied c.args.script; hooks = rules_of c.args.registry.now }) (options_of c.args.settings.now) c.args.form (sink_state g.W.Write.contents c.args.output) (sink_state g.W.Write.contents c.run_input-output.result.0) h)
     c.read_input-plan.ensures.bytes c.run_input-output.ensures.cut_off c.run_input-output.ensures.untouched

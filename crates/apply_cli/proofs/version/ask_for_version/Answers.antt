@@ -21,12 +21,12 @@ either w a b false false first second =
 pub returns-in-len1 : goal.returns-in-len1
 returns-in-len1 c =
     let one = alone c.args.words.now c.word-item.result (search rules) (search rules) c.word-item.is in
-    let said : map string_bytes c.args.words.now ≡ c.as_str.result.now ∷ [] =
+    let stated : map string_bytes c.args.words.now ≡ c.as_str.result.now ∷ [] =
     ap (map string_bytes) one ∙ ap (λ t. t ∷ []) (sym c.as_str.ensures.value) in
     let w : Text = c.as_str.result.now in
     let test = either w (codes "--version") (codes "-V") (bytes_eq w (codes "--version")) (bytes_eq w (codes "-V")) refl refl in
     let word : (t : Text) → map string_bytes c.args.words.now ≡ t ∷ [] → w ≡ t =
-    λ t is. ap (λ (ts : List Text). get_or ts 0 []) (sym said ∙ is) in (
-      λ yes. ⊎_elim (λ e. inl (said ∙ ap (λ t. t ∷ []) e)) (λ e. inr (said ∙ ap (λ t. t ∷ []) e)) (test.0 (sym c.is_version.ensures ∙ yes)),
+    λ t is. ap (λ (ts : List Text). get_or ts 0 []) (sym stated ∙ is) in (
+      λ yes. ⊎_elim (λ e. inl (stated ∙ ap (λ t. t ∷ []) e)) (λ e. inr (stated ∙ ap (λ t. t ∷ []) e)) (test.0 (sym c.is_version.ensures ∙ yes)),
       λ asked. c.is_version.ensures ∙ test.1 (⊎_elim (λ e. inl (word _ e)) (λ e. inr (word _ e)) asked),
     )

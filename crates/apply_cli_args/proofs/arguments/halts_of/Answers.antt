@@ -9,9 +9,9 @@ use Rattle.apply_cli_args.proofs.arguments.halts_of.Goals as goal
 
 pub returns : goal.returns
 returns c =
-    let found = found_of c.args.matches.now in
-    let kinds = values_are found (codes "halt-before") c.get_strs.result _ c.unwrap_or-kind-items.result c.get_strs.ensures refl c.unwrap_or-kind-items.ensures in
-    let prefixes = values_are found (codes "halt-in") c.get_strs-2.result _ c.unwrap_or-prefix-items.result c.get_strs-2.ensures refl c.unwrap_or-prefix-items.ensures in
+    let matched = found_of c.args.matches.now in
+    let kinds = values_are matched (codes "halt-before") c.get_strs.result _ c.unwrap_or-kind-items.result c.get_strs.ensures refl c.unwrap_or-kind-items.ensures in
+    let prefixes = values_are matched (codes "halt-in") c.get_strs-2.result _ c.unwrap_or-prefix-items.result c.get_strs-2.ensures refl c.unwrap_or-prefix-items.ensures in
     let before =
     c.loop-kind.invariant
     ∙ ap (λ words. map (λ word. Before (kind_of_word word)) (texts words)) (take_all c.loop-kind.kind-index c.unwrap_or-kind-items.result.now c.loop-kind-test.false)

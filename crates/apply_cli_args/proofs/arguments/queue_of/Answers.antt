@@ -7,10 +7,10 @@ use Rattle.clap.proofs.WalkLemmas.{one_text-rows}
 use Rattle.apply_cli_args.proofs.Options.{number_is}
 use Rattle.apply_cli_args.proofs.arguments.queue_of.Goals as goal
 
-pub returns-clause-said : goal.returns-clause-said
-returns-clause-said c =
-    let found = found_of c.args.matches.now in
+pub returns-clause-stated : goal.returns-clause-stated
+returns-clause-stated c =
+    let matched = found_of c.args.matches.now in
     number_is _ (λ text read. ParsesUnsigned 16 10 text read × ExplainsUnsignedError 10 text read × HasUnsignedDigitsIfOk text read)
-    16 1024 64 c.get_one.result c.clamp.result (one_of (codes "queue") (rows_of found)) (λ text read gives. gives.0) (omega arith)
-    (λ text is. c.get_one.ensures.value text (one_text-rows found (codes "queue") ∙ is))
+    16 1024 64 c.get_one.result c.clamp.result (one_of (codes "queue") (rows_of matched)) (λ text read gives. gives.0) (omega arith)
+    (λ text is. c.get_one.ensures.value text (one_text-rows matched (codes "queue") ∙ is))
     (c.clamp.ensures ∙ ap (λ n. max 1 (min n 1024)) c.unwrap_or.ensures)

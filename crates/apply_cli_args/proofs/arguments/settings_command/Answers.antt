@@ -2,7 +2,8 @@ use Rattle.std.proofs.Common.{◌≡◌, ◌∙◌, ap, codes, true}
 use Rattle.clap.specs.Simple.{App, app_of, app_of_fields, new_app, on_top}
 use Rattle.apply_cli_args.proofs.arguments.settings_command.Goals as goal
 
--- the command before its options, whose words are those behind the program's name, and which has a version
+-- the command before its options: its arguments are those after the program's name, and it has a
+-- version
 abbrev no_options : App
 no_options = on_top (λ shape. record shape { no_binary_name = true; has_version = true }) (new_app (codes "applystream"))
 

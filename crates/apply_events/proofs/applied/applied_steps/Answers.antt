@@ -11,14 +11,14 @@ use Rattle.apply_events.proofs.applied.applied_steps.Goals as goal
 
 -- the steps that the plan has for the change
 planned_steps : (plan : SavedPlan) (c : ℕ) (change : ResourceChange) (kinds : List StepKind) → Some change ≡ slice_get plan.changes c → kinds ≡ change.steps → kinds ≡ kinds_of plan c
-planned_steps plan c change kinds found is = is ∙ ap (λ (o : Option ResourceChange). option_map_or (λ (r : ResourceChange). r.steps) o []) found
+planned_steps plan c change kinds answer is = is ∙ ap (λ (o : Option ResourceChange). option_map_or (λ (r : ResourceChange). r.steps) o []) answer
 
 -- those before the first that is skipped
 before_skipped : (kinds planned : List StepKind) (first : Option ℕ) (skipped end : ℕ) → kinds ≡ planned → Some skipped ≡ first → end ≡ min (length kinds) skipped
     → take end kinds ≡ option_map_or (λ k. take k planned) first planned
-before_skipped kinds planned first skipped end is found least =
+before_skipped kinds planned first skipped end is answer least =
     let same : end ≡ min skipped (length kinds) = omega arith in
-    ap (λ n. take n kinds) same ∙ take_min skipped kinds ∙ ap (take skipped) is ∙ ap (λ (o : Option ℕ). option_map_or (λ k. take k planned) o planned) found
+    ap (λ n. take n kinds) same ∙ take_min skipped kinds ∙ ap (take skipped) is ∙ ap (λ (o : Option ℕ). option_map_or (λ k. take k planned) o planned) answer
 
 pub returns-in-Some-clause-steps : goal.returns-in-Some-clause-steps
 returns-in-Some-clause-steps c =

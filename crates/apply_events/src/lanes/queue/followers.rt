@@ -1,33 +1,38 @@
 //! The turns that wait for each step.
+//!
+//! Every `Err` means that memory was refused, or that a list is full.
 
 ghost use Rattle.std.specs.Prelude.{◌≡◌, ◌+◌, ◌-◌, ◌*◌, ◌<◌, ◌≤◌, [], ◌∷◌, ℕ, IfNone, IfOk, IfSome, OnOk, length};
-ghost use Rattle.apply_events.specs.Waits.Queue.{Follow, HasPlace, also, follower_at, last_at, place_of, step_before, turn_waits};
+ghost use Rattle.apply_events.specs.Waits.Queue.{Follow, HasPlace, with_waits_of, follower_at, last_at, place_of, step_before, turn_waits};
 
 use crate::lanes::turn::Turn;
 use apply_model::{Script, Wait, Waits};
 use std::alloc::{AllocError, Global};
 
-/// A turn that waits for a step, by its number.
+/// A turn that waits for a step.
 #[derive(Clone, Copy, Debug)]
 pub struct Follower {
+    /// The number of the turn.
     pub turn: u32,
-    /// The place of the one before it that waits for the same step, 0 where there is none.
+    /// The place of the turn before it that waits for the same step. It is 0 where there is none.
     pub before: u32,
 }
 
-/// The turns that wait for each step. Their places count from 1, so that no more than 4,294,967,295 find room: one more is
-/// refused as if there were no memory for it. A script that was read has a million at most.
+/// For each step, a chain of the turns that wait for it. Places count from 1 and fit 32 bits. One
+/// more turn than fits is refused like refused memory. A script that was read states at most a
+/// million waits.
 #[derive(Drop)]
 pub struct Followers {
     all: Vec<Follower>,
-    /// Of each step, of which a change has two, the place of the last turn that waits for it, 0 where there is none.
+    /// For each step, the place of the last turn that waits for it, or 0. Each change has two
+    /// steps.
     last: Vec<u32>,
 }
 
 impl Followers {
     ghost use Rattle.apply_model.specs.declared.script.wait.Wait.{Wait};
 
-    /// No turn waits for a step of so many changes.
+    /// No turn waits for any step of so many changes. `Err` where memory is refused.
     pub(crate) fn new(alloc: Global, changes: u32) -> Result<Followers, AllocError>
         ensures { IfOk result (λ followers. Follow (2 * changes) (λ name number. 0) followers) }
     {
@@ -38,7 +43,7 @@ impl Followers {
         })
     }
 
-    /// The number of a step. `None` where no change has it.
+    /// The number of the step. `None` where no change has it.
     fn known_number(&self, step: Wait) -> Option<usize>
         ensures some { IfSome result (λ number. HasPlace step (length self.now.last.items) × (number ≡ place_of step)) }
         ensures none { IfNone result (HasPlace step (length self.now.last.items) → ⊥) }
@@ -51,9 +56,9 @@ impl Followers {
         }
     }
 
-    /// A turn waits for a step. Of a step that no change has nothing is kept.
+    /// Adds a turn that waits for a step. A step that no change has is ignored.
     fn add(&mut self, step: Wait, turn: u32) -> Result<(), AllocError>
-        ensures { OnOk result ((limit : ℕ) (count : Wait → ℕ → ℕ) → Follow limit count self.old → Follow limit (also count turn (step ∷ [])) self.new) }
+        ensures { OnOk result ((limit : ℕ) (count : Wait → ℕ → ℕ) → Follow limit count self.old → Follow limit (with_waits_of count turn (step ∷ [])) self.new) }
     {
         let Some(number) = self.known_number(step) else {
             return Ok(());
@@ -67,9 +72,9 @@ impl Followers {
         Ok(())
     }
 
-    /// A turn waits for some steps.
+    /// Adds a turn that waits for some steps.
     fn add_all(&mut self, steps: &Waits, turn: u32) -> Result<(), AllocError>
-        ensures { OnOk result ((limit : ℕ) (count : Wait → ℕ → ℕ) → Follow limit count self.old → Follow limit (also count turn steps.now) self.new) }
+        ensures { OnOk result ((limit : ℕ) (count : Wait → ℕ → ℕ) → Follow limit count self.old → Follow limit (with_waits_of count turn steps.now) self.new) }
     {
         for item in 0..steps.len() {
             self.add(steps.get(item), turn)?;
@@ -77,9 +82,10 @@ impl Followers {
         Ok(())
     }
 
-    /// A turn waits for the step of its change before its first, if there is one. How many steps that are.
+    /// Adds a turn that waits for the step before its first step, if its change has one. Returns
+    /// the number of such steps.
     fn add_before(&mut self, turn: Turn, number: u32) -> Result<u32, AllocError>
-        ensures follow { OnOk result ((limit : ℕ) (count : Wait → ℕ → ℕ) → Follow limit count self.old → Follow limit (also count number (step_before turn)) self.new) }
+        ensures follow { OnOk result ((limit : ℕ) (count : Wait → ℕ → ℕ) → Follow limit count self.old → Follow limit (with_waits_of count number (step_before turn)) self.new) }
         ensures count { IfOk result (λ count. count ≡ length (step_before turn)) }
     {
         if turn.first == 0 {
@@ -93,7 +99,8 @@ impl Followers {
         Ok(1)
     }
 
-    /// A turn of that number waits for what its first step waits for. How many steps are named, one perhaps several times.
+    /// Adds a turn with all that its first step waits for. Returns how many steps are named, where
+    /// repeated steps count each time.
     pub(crate) fn add_turn(
         &mut self,
         script: &Script,
@@ -101,7 +108,7 @@ impl Followers {
         number: u32,
     ) -> Result<u32, AllocError>
         ensures follow { OnOk result ((limit : ℕ) (count : Wait → ℕ → ℕ) → Follow limit count self.old
-            → Follow limit (also count number (turn_waits script.now turn)) self.new) }
+            → Follow limit (with_waits_of count number (turn_waits script.now turn)) self.new) }
         ensures count { IfOk result (λ count. count ≡ length (turn_waits script.now turn)) }
     {
         if turn.count == 0 {
@@ -117,7 +124,7 @@ impl Followers {
         }
     }
 
-    /// The place of the last turn that waits for a step, 0 where none does.
+    /// The place of the last turn that waits for the step. It is 0 where no turn does.
     pub(crate) fn last_of(&self, step: Wait) -> u32
         requires { HasPlace step (length self.now.last.items) }
         ensures { result ≡ last_at self.now step }
@@ -125,7 +132,7 @@ impl Followers {
         self.last[number_of(step)]
     }
 
-    /// The one at a place, which counts from 1.
+    /// The turn at that place, which counts from 1.
     pub(crate) fn get(&self, place: u32) -> Follower
         requires some { 0 < place }
         requires known { place ≤ length self.now.all.items }
@@ -135,7 +142,7 @@ impl Followers {
     }
 }
 
-/// The number of a step among all, of which each change has two.
+/// The number of the step among all steps: each change has two.
 fn number_of(step: Wait) -> usize
     ensures { result ≡ place_of step }
 {

@@ -19,7 +19,7 @@ items-preserved g c =
     let d = done.ok.0 in
     let r = c.take.new.reader in
     let less : length r < length l.reader = rw (← going.1) done.shorter in
-    let turn = item_behind g.C.Collector.kept p _ (before ds) n l.reader l.invariant.4 r d (omega (arith, l.invariant.1)) going.0 (rw (← going.1) done.ok.1) in (
+    let turn = item_behind g.C.Collector.is_verbatim p _ (before ds) n l.reader l.invariant.4 r d (omega (arith, l.invariant.1)) going.0 (rw (← going.1) done.ok.1) in (
       n - 1,
       omega (arith, l.invariant.1),
       ds ++ d ∷ [],
@@ -34,7 +34,7 @@ returns-in_err-take-clause-err g c refused =
     let l = c.items in
     let n = l.invariant.0 in
     let going : (after_end_array l.reader ≡ None) × (c.take_end_array.new.self ≡ l.reader) = c.items-test.ensures in
-    refused_behind g.C.Collector.kept p _ (before l.invariant.2) n l.reader l.invariant.4 going.0 (rw (← going.1) (c.take.ensures.err (grind arith)))
+    refused_behind g.C.Collector.is_verbatim p _ (before l.invariant.2) n l.reader l.invariant.4 going.0 (rw (← going.1) (c.take.ensures.err (grind arith)))
 
 pub take-requires : goal.take-requires
 take-requires g c = λ k. ((refl, tt), (c.args.collector.now, c.items.invariant.2, c.items.invariant.3))
@@ -46,6 +46,6 @@ returns-clause-ok g c =
     let n = l.invariant.0 in
     let r = c.take_end_array.new.self in (
       before l.invariant.2 no_items,
-      over_behind g.C.Collector.kept p _ (before l.invariant.2) n l.reader l.invariant.4 r l.invariant.1 c.items-test.ensures,
+      over_behind g.C.Collector.is_verbatim p _ (before l.invariant.2) n l.reader l.invariant.4 r l.invariant.1 c.items-test.ensures,
       subst (λ ds. g.C.Collector.holds c.args.collector.now l.collector ds) (sym (list_of-before l.invariant.2)) l.invariant.3,
     )

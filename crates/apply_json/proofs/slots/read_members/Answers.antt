@@ -12,7 +12,7 @@ members-init g c = (length c.args.reader.now, omega arith, no_members, c.require
 pub returns-in_err-name-clause-err : goal.returns-in_err-name-clause-err
 returns-in_err-name-clause-err g c refused =
     let l = c.members in
-    l.invariant.4 ∙ key_refused g.S.Slots.kept (value c.args.depth) l.invariant.2 l.invariant.0 l.reader c.in_err-name.ensures.value
+    l.invariant.4 ∙ key_refused g.S.Slots.is_verbatim (value c.args.depth) l.invariant.2 l.invariant.0 l.reader c.in_err-name.ensures.value
 
 pub take-requires : goal.take-requires
 take-requires g c = λ k. ((refl, tt), (c.args.slots.now, c.members.invariant.2, c.members.invariant.3))
@@ -22,7 +22,7 @@ returns-in_err-take-clause-err g c refused =
     let l = c.members in
     let s = c.next_key.new.self in
     let named = key_named l.reader s c.in_ok-name.field-0 c.in-Some.name c.in_ok-name.ensures.value c.in-Some.is in
-    l.invariant.4 ∙ member_refused g.S.Slots.kept (value c.args.depth) l.invariant.2 l.invariant.0 c.in-Some.name.now l.reader s named (c.take.ensures.err (grind arith))
+    l.invariant.4 ∙ member_refused g.S.Slots.is_verbatim (value c.args.depth) l.invariant.2 l.invariant.0 c.in-Some.name.now l.reader s named (c.take.ensures.err (grind arith))
 
 pub members-preserved : goal.members-preserved
 members-preserved g c =
@@ -42,11 +42,11 @@ members-preserved g c =
       omega (arith, l.invariant.1),
       put k d all,
       done.ok.2 c.args.slots.now all l.invariant.3,
-      l.invariant.4 ∙ member_read g.S.Slots.kept p all n k l.reader s r d (omega (arith, l.invariant.1)) named done.ok.1,
+      l.invariant.4 ∙ member_read g.S.Slots.is_verbatim p all n k l.reader s r d (omega (arith, l.invariant.1)) named done.ok.1,
       omega (arith, l.invariant.5),
     )
 
 pub returns-clause-ok : goal.returns-clause-ok
 returns-clause-ok g c =
     let l = c.members in
-    (l.invariant.2, l.invariant.4 ∙ members_over g.S.Slots.kept (value c.args.depth) l.invariant.2 l.invariant.0 l.reader c.next_key.new.self l.invariant.1 (grind arith), l.invariant.3)
+    (l.invariant.2, l.invariant.4 ∙ members_over g.S.Slots.is_verbatim (value c.args.depth) l.invariant.2 l.invariant.0 l.reader c.next_key.new.self l.invariant.1 (grind arith), l.invariant.3)

@@ -7,8 +7,8 @@ use Rattle.apply_json_tree.proofs.parsing.parse_trimmed.Goals as goal
 pub returns-in-Ok-clause-ok : goal.returns-in-Ok-clause-ok
 returns-in-Ok-clause-ok g c =
     let text = c.in_ok-text.ensures.ok in
-    let found = c.in-Ok.ensures.ok in
-    (text.1, (found.0, tree_is c.args.bytes.now found.0 text.2 (ap read (sym text.0) ∙ found.1), found.2))
+    let stored = c.in-Ok.ensures.ok in
+    (text.1, (stored.0, tree_is c.args.bytes.now stored.0 text.2 (ap read (sym text.0) ∙ stored.1), stored.2))
 
 pub returns-in-Err-clause-err : goal.returns-in-Err-clause-err
 returns-in-Err-clause-err g c =

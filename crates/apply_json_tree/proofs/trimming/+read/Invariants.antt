@@ -22,7 +22,7 @@ invariant-read_items-items g l =
     (n : ℕ) × (length l.reader ≤ n) × (front : Items → Items)
     × (converted of_items (items (value l.depth) (length l.initial.reader) l.initial.reader) ≡ parse_map front (converted of_items (items (value l.depth) n l.reader)))
     × ((ds : Items) → trimmed_items g.S.Shape.selection (g.S.Shape.selection.item_shape l.shape) (g.S.Shape.selection.item_limit l.shape) (front ds)
-    ≡ items_before l.found.items (trimmed_items g.S.Shape.selection (g.S.Shape.selection.item_shape l.shape) (left (g.S.Shape.selection.item_limit l.shape) (length l.found.items)) ds))
+    ≡ items_before l.stored.items (trimmed_items g.S.Shape.selection (g.S.Shape.selection.item_shape l.shape) (left (g.S.Shape.selection.item_limit l.shape) (length l.stored.items)) ds))
     × (length l.reader ≤ length l.initial.reader)
 
 abbrev pub decreases-read_items-items : goal.decreases-read_items-items
@@ -30,7 +30,7 @@ decreases-read_items-items g l = length l.reader
 
 abbrev pub invariant-read_members-members : goal.invariant-read_members-members
 invariant-read_members-members g l =
-    (n : ℕ) × (length l.reader ≤ n) × (all : Members) × AreInOrder all × (members_view l.found.entries ≡ trimmed_members g.S.Shape.selection l.shape all)
+    (n : ℕ) × (length l.reader ≤ n) × (all : Members) × AreInOrder all × (members_view l.stored.entries ≡ trimmed_members g.S.Shape.selection l.shape all)
     × (converted (λ ms. of_members ms no_members) (members (value l.depth) (length l.initial.reader) l.initial.reader) ≡ converted (λ ms. of_members ms all) (members (value l.depth) n l.reader))
     × (length l.reader ≤ length l.initial.reader)
 

@@ -3,7 +3,7 @@ use Rattle.std.proofs.lemmas.Map.Text.{btree_map_updates_str}
 use Rattle.std.proofs.lemmas.List.{take_all, take_more}
 use Rattle.serde_json.specs.Data.{no_members}
 use Rattle.serde_json.specs.Find.{get_member}
-use Rattle.apply_plan_terraform.specs.Kept.{put_all, view}
+use Rattle.apply_plan_terraform.specs.StoredOutputs.{put_all, view}
 use Rattle.apply_plan_terraform.specs.Outputs.{is_typed}
 use Rattle.apply_plan_terraform.proofs.Names.{named_last}
 use Rattle.apply_plan_terraform.proofs.plan_outputs.names_of.Goals as goal

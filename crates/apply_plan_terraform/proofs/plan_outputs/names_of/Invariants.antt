@@ -3,7 +3,7 @@ use Rattle.std.specs.BTreeMap.{get_by}
 use Rattle.std.specs.Cmp.Lexicographic.{slice_cmp}
 use Rattle.serde_json.specs.Data.{no_members}
 use Rattle.serde_json.specs.Find.{get_member}
-use Rattle.apply_plan_terraform.specs.Kept.{put_all}
+use Rattle.apply_plan_terraform.specs.StoredOutputs.{put_all}
 use Rattle.apply_plan_terraform.specs.Outputs.{is_typed}
 use Rattle.apply_plan_terraform.proofs.plan_outputs.names_of.Given as goal
 

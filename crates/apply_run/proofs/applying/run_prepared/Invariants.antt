@@ -1,4 +1,4 @@
-use Rattle.apply_run.specs.Worker.Job.{work_of}
+use Rattle.apply_run.specs.Worker.WorkerJob.{work_of}
 use Rattle.apply_run.proofs.applying.run_prepared.Given as goal
 
 -- the run is named for what it applies, and for its claims and its bus

@@ -3,8 +3,8 @@ use Rattle.std.proofs.lemmas.Bool.{ltb-false}
 use Rattle.apply_bus.specs.Bus.{Account, NamesWorkersBelow}
 use Rattle.apply_bus.specs.Items.{closes, events}
 use Rattle.apply_events.specs.Fits.{IsOfPlan}
-use Rattle.apply_writer.specs.Stream.Telling.{HasTold, telling_of}
-use Rattle.apply_run.proofs.Collecting.{count_more, fewer_to_lose, fewer_to_take, room_to_tell, told_more_items, told_no_items}
+use Rattle.apply_writer.specs.Stream.WriterState.{HasAccepted, writer_state}
+use Rattle.apply_run.proofs.Collecting.{count_more, fewer_to_lose, fewer_to_take, room_to_accept, accepted_more_items, accepted_no_items}
 use Rattle.apply_run.proofs.collector.collect.Goals as goal
 use Rattle.apply_run.proofs.collector.collect.Goals.{then-loop-rx-test+else-lost_takes-lt-MAX_LOST, else-loop-rx-test}
 
@@ -17,12 +17,12 @@ loop-rx-init g c =
       form = w.same;
       counts_fit = w.counts_fit;
       few = let none = w.none in omega (arith, none);
-      told = told_no_items _ _ _ c.args.rx.taken (telling_of g.S.Sink.bytes g.S.Sink.failed c.write_head.new.self) c.requires.none w.told;
+      accepted = accepted_no_items _ _ _ c.args.rx.taken (writer_state g.S.Sink.bytes g.S.Sink.failed c.write_head.new.self) c.requires.none w.accepted;
       lost = omega arith;
     }
 
 pub note-requires-clause-few : goal.note-requires-clause-few
-note-requires-clause-few g c = room_to_tell _ c.loop-rx.rx.taken c.take.new.self.taken c.in-Ok.item (ap (λ rx. rx.taken) c.in-Ok.ensures.ok) c.take.ensures.few c.loop-rx.invariant.few
+note-requires-clause-few g c = room_to_accept _ c.loop-rx.rx.taken c.take.new.self.taken c.in-Ok.item (ap (λ rx. rx.taken) c.in-Ok.ensures.ok) c.take.ensures.few c.loop-rx.invariant.few
 
 pub loop-rx-smaller-in-Ok : goal.loop-rx-smaller-in-Ok
 loop-rx-smaller-in-Ok g c = fewer_to_take _ c.loop-rx.rx.taken c.take.new.self.taken c.in-Ok.item (ap (λ rx. rx.taken) c.in-Ok.ensures.ok) c.take.ensures.few
@@ -39,8 +39,8 @@ loop-rx-preserved-in-Ok g c =
       workers = ap (λ rx. rx.workers) c.in-Ok.ensures.ok ∙ i.workers;
       form = n.same ∙ i.form;
       counts_fit = n.counts_fit;
-      few = count_more _ _ taken new c.in-Ok.item is n.one_more i.few;
-      told = told_more_items _ _ _ _ taken new c.in-Ok.item (telling_of g.S.Sink.bytes g.S.Sink.failed c.loop-rx.stream) _ i.form is i.told (n.told _ _ _);
+      few = count_more _ _ taken new c.in-Ok.item is n.one_event i.few;
+      accepted = accepted_more_items _ _ _ _ taken new c.in-Ok.item (writer_state g.S.Sink.bytes g.S.Sink.failed c.loop-rx.stream) _ i.form is i.accepted (n.accepted _ _ _);
       lost = i.lost;
     }
 
@@ -59,7 +59,7 @@ loop-rx-preserved g c =
       form = i.form;
       counts_fit = i.counts_fit;
       few = subst (λ items. c.loop-rx.stream.taken ≤ length items) is i.few;
-      told = subst (λ items. All (IsOfPlan (g.F.FormLines.form s.lines).plan) (events items) → HasTold (g.F.FormLines.form s.lines) (g.S.Sink.bytes s.output.sink) (g.S.Sink.failed s.output.sink) (events items) (telling_of g.S.Sink.bytes g.S.Sink.failed c.loop-rx.stream)) is i.told;
+      accepted = subst (λ items. All (IsOfPlan (g.F.FormLines.form s.lines).plan) (events items) → HasAccepted (g.F.FormLines.form s.lines) (g.S.Sink.bytes s.output.sink) (g.S.Sink.failed s.output.sink) (events items) (writer_state g.S.Sink.bytes g.S.Sink.failed c.loop-rx.stream)) is i.accepted;
       lost = let low = c.if-lost_takes-lt-MAX_LOST.true in omega (arith, low);
     }
 
@@ -75,10 +75,10 @@ returns-clause-named g c = subst₂ NamesWorkersBelow c.loop-rx.invariant.worker
 pub returns-clause-same : goal.returns-clause-same
 returns-clause-same g c = c.loop-rx.invariant.form
 
-pub returns-clause-told : goal.returns-clause-told
-returns-clause-told g c =
+pub returns-clause-accepted : goal.returns-clause-accepted
+returns-clause-accepted g c =
     let s = c.args.stream in
-    subst (λ items. All (IsOfPlan (g.F.FormLines.form s.lines).plan) (events items) → HasTold (g.F.FormLines.form s.lines) (g.S.Sink.bytes s.output.sink) (g.S.Sink.failed s.output.sink) (events items) (telling_of g.S.Sink.bytes g.S.Sink.failed c.loop-rx.stream)) (sym (ap (λ (a : Account). a.taken) c.give_up.ensures.taken)) c.loop-rx.invariant.told
+    subst (λ items. All (IsOfPlan (g.F.FormLines.form s.lines).plan) (events items) → HasAccepted (g.F.FormLines.form s.lines) (g.S.Sink.bytes s.output.sink) (g.S.Sink.failed s.output.sink) (events items) (writer_state g.S.Sink.bytes g.S.Sink.failed c.loop-rx.stream)) (sym (ap (λ (a : Account). a.taken) c.give_up.ensures.taken)) c.loop-rx.invariant.accepted
 
 pub returns-clause-counts_fit : goal.returns-clause-counts_fit
 returns-clause-counts_fit g c = c.loop-rx.invariant.counts_fit

@@ -31,5 +31,5 @@ returns-after-whole-clause-finished g c =
       ];
       same = joined.same;
       counts_fit = joined.counts_fit;
-      told = joined.told (subst (λ p. All (IsOfPlan p) (events_of taken)) (sym (c.requires.plan ∙ ap (λ (work : Work). work.plan) c.requires.run.work_is)) reconciled.fits);
+      accepted = joined.accepted (subst (λ p. All (IsOfPlan p) (events_of taken)) (sym (c.requires.plan ∙ ap (λ (work : Work). work.plan) c.requires.run.work_is)) reconciled.fits);
     }

@@ -7,7 +7,7 @@ use Rattle.apply_events.specs.WorkerEvents.{worker_events}
 use Rattle.apply_bus.specs.Claims.{Drawing}
 use Rattle.apply_events.specs.Fits.{IsOfPlan}
 use Rattle.apply_run.specs.Worker.Drawn.{IsDrawn}
-use Rattle.apply_run.specs.Worker.Job.{work_of}
+use Rattle.apply_run.specs.Worker.WorkerJob.{work_of}
 use Rattle.apply_run.proofs.Workers.Drawing.{drawn_on, none_drawn, room_left}
 use Rattle.apply_writer.proofs.Prefixes.{prefix_behind}
 use Rattle.apply_run.proofs.worker.apply_all.Goals as goal
@@ -62,7 +62,7 @@ loop-change-preserved g c =
       drawer = ap (λ (d : Drawing). d.worker) c.in-Some.ensures.some ∙ i.drawer;
       drawn = numbers;
       sent = whole.2 ∙ ap (λ l. l ++ change_events work c.loop-change.tx.worker change c.loop-change.at) i.sent ∙ ap (λ v. worker_events work w before ++ change_events work v change c.loop-change.at) i.sender
-          ∙ ap (λ at. worker_events work w before ++ change_events work w change at) i.time ∙ sym (c.a_further_change_comes_behind.ensures work w change before) ∙ ap (worker_events work w) (sym drawn);
+          ∙ ap (λ at. worker_events work w before ++ change_events work w change at) i.time ∙ sym (c.a_further_change_comes_after.ensures work w change before) ∙ ap (worker_events work w) (sym drawn);
       fits = subst (All (IsOfPlan c.args.job.now.plan.now)) (sym part.1) (All-append (IsOfPlan c.args.job.now.plan.now) c.loop-change.tx.sent part.0 i.fits part.3);
       time = whole.0 ∙ ap (λ n. n + span_of work change) i.time ∙ sym (sum_by_push (span_of work) before change) ∙ ap (sum_by (span_of work)) (sym drawn);
       soon = omega (arith, whole.1, i.soon);
@@ -85,10 +85,10 @@ returns-in-None-clause-part g c =
     let drawn = ap (λ (d : Drawing). d.drawn) c.in-Some.ensures.some in
     subst₂ IsPrefix (ap (λ l. l ++ part.0) (sym i.sent) ∙ sym part.1)
     (ap (λ v. sent ++ change_events work v change at) i.sender ∙ ap (λ n. sent ++ change_events work w change n) i.time
-    ∙ sym (c.a_further_change_comes_behind.ensures work w change before) ∙ ap (worker_events work w) (sym drawn))
+    ∙ sym (c.a_further_change_comes_after.ensures work w change before) ∙ ap (worker_events work w) (sym drawn))
     (prefix_behind sent part.0 (change_events work c.loop-change.tx.worker change at) part.2)
 
 pub returns-in-None-clause-sender : goal.returns-in-None-clause-sender
 returns-in-None-clause-sender g c =
-    let i = c.loop-change.invariant in let kept = c.apply_change.ensures.sender in
-    (kept.0 ∙ i.bus, kept.1 ∙ i.sender)
+    let i = c.loop-change.invariant in let unchanged = c.apply_change.ensures.sender in
+    (unchanged.0 ∙ i.bus, unchanged.1 ∙ i.sender)

@@ -3,10 +3,11 @@ use Rattle.apply_events.specs.ChangeEvents.{span_of}
 use Rattle.apply_events.specs.WorkerEvents.{worker_events}
 use Rattle.apply_run.specs.Worker.Drawn.{IsDrawn}
 use Rattle.apply_events.specs.Fits.{IsOfPlan}
-use Rattle.apply_run.specs.Worker.Job.{work_of}
+use Rattle.apply_run.specs.Worker.WorkerJob.{work_of}
 use Rattle.apply_run.proofs.worker.apply_all.Given as goal
 
--- the events of all changes that were drawn were sent, and each of the changes took two days at most
+-- the events of all changes that were drawn were sent, and each of the changes took two days at
+-- most
 abbrev pub invariant-loop-change : goal.invariant-loop-change
 invariant-loop-change g l = record {
   bus : l.tx.bus ≡ l.fn.tx.bus;

@@ -4,7 +4,7 @@ use Rattle.apply_events.specs.Course.{Course}
 use Rattle.apply_events.specs.Fits.{HasStep}
 use Rattle.apply_events.specs.Runner.{to_come}
 use Rattle.apply_bus.specs.Bus.{Sender}
-use Rattle.apply_run.specs.Worker.Job.{work_of}
+use Rattle.apply_run.specs.Worker.WorkerJob.{work_of}
 use Rattle.apply_run.proofs.Workers.Sent.{nothing_sent, sent_next, IsSentBefore}
 use Rattle.apply_run.proofs.worker.apply_change.Goals as goal
 

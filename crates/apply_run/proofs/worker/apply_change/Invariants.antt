@@ -1,7 +1,7 @@
 use Rattle.std.proofs.Common.{◌≡◌, length}
 use Rattle.apply_events.specs.ChangeEvents.{change_events}
 use Rattle.apply_events.specs.Runner.{course_of, to_come}
-use Rattle.apply_run.specs.Worker.Job.{work_of}
+use Rattle.apply_run.specs.Worker.WorkerJob.{work_of}
 use Rattle.apply_run.proofs.Workers.Sent.{IsSentBefore}
 use Rattle.apply_run.proofs.worker.apply_change.Given as goal
 

@@ -7,13 +7,13 @@ use Rattle.apply_text_terraform.proofs.escaping.escaped_text.Goals as goal
 
 pub unwrap-requires : goal.unwrap-requires
 unwrap-requires c =
-    let told = c.as_bytes.result.now in
+    let escaped_front = c.as_bytes.result.now in
     let room = c.in_ok-reserve.ensures.items ∙ c.clear.ensures.items in
-    c.from_utf8.ensures.succeeds (subst IsUtf8 (sym (c.in_ok-push_escaped.ensures.ok ∙ ap (λ before. before ++ escaped told) room)) (still_utf8 told c.as_bytes.ensures.utf8))
+    c.from_utf8.ensures.succeeds (subst IsUtf8 (sym (c.in_ok-push_escaped.ensures.ok ∙ ap (λ before. before ++ escaped escaped_front) room)) (still_utf8 escaped_front c.as_bytes.ensures.utf8))
 
 pub returns : goal.returns
 returns c =
-    let told = c.as_bytes.result.now in
+    let escaped_front = c.as_bytes.result.now in
     let room = c.in_ok-reserve.ensures.items ∙ c.clear.ensures.items in
     let same : string_vec c.unwrap.result ≡ c.push_escaped.new.lines = subst (λ r. IfOk r (λ t. string_vec t ≡ c.push_escaped.new.lines)) c.unwrap.ensures c.from_utf8.ensures.ok in
-    ap (λ v. v.items) same ∙ c.in_ok-push_escaped.ensures.ok ∙ ap (λ before. before ++ escaped told) room ∙ ap escaped c.as_bytes.ensures.value
+    ap (λ v. v.items) same ∙ c.in_ok-push_escaped.ensures.ok ∙ ap (λ before. before ++ escaped escaped_front) room ∙ ap escaped c.as_bytes.ensures.value

@@ -11,5 +11,5 @@ returns-clause-ok c =
     let first = c.push_escaped.new.lines.items in
     let new = c.extend_from_slice.new.self.items in
     let text = escaped c.args.text.now in
-    let told = c.in_ok-push_escaped.ensures.ok ∙ ap (λ items. items ++ text) c.in_ok-reserve.ensures.items in
-    on_ok_weaker r (λ e. e ∙ ap (λ items. items ++ 10 ∷ []) told ∙ append_assoc old text (10 ∷ [])) (appended r first new (10 ∷ []) c.extend_from_slice.ensures.items)
+    let escaped_front = c.in_ok-push_escaped.ensures.ok ∙ ap (λ items. items ++ text) c.in_ok-reserve.ensures.items in
+    on_ok_weaker r (λ e. e ∙ ap (λ items. items ++ 10 ∷ []) escaped_front ∙ append_assoc old text (10 ∷ [])) (appended r first new (10 ∷ []) c.extend_from_slice.ensures.items)

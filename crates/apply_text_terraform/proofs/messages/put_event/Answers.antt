@@ -4,7 +4,7 @@ use Rattle.json.specs.Token.{end_object}
 use Rattle.serde_json.specs.Data.{string}
 use Rattle.apply_text.specs.Lines.{message_object}
 use Rattle.apply_text.specs.Sending.{member_tokens}
-use Rattle.apply_text.proofs.Sending.{said, same_head, then, then_said}
+use Rattle.apply_text.proofs.Sending.{sends_same, same_head, then, then_sends_same}
 use Rattle.apply_text_terraform.proofs.Events.{same_level, same_type}
 use Rattle.apply_text_terraform.proofs.messages.put_event.Goals as goal
 
@@ -14,6 +14,6 @@ returns c =
     let planned = option_copied c.args.planned in
     let level = c.level.ensures c.args.step ∙ same_level c.args.step planned c.args.what in
     let type_name = c.type_name.ensures c.args.step ∙ same_type c.args.step planned c.args.what in
-    then_said _ _ _ (same_head _ _ c.args.moment.now _ _ level c.in_ok-say.ensures) c.in_ok-begin_message.ensures
+    then_sends_same _ _ _ (same_head _ _ c.args.timestamp.now _ _ level c.in_ok-write_text.ensures) c.in_ok-begin_message.ensures
     (then _ _ c.in_ok-put_body.ensures
-    (said (ap (λ t. member_tokens (codes "type") (string t) ++ end_object ∷ []) type_name) c.end_message.ensures))
+    (sends_same (ap (λ t. member_tokens (codes "type") (string t) ++ end_object ∷ []) type_name) c.end_message.ensures))

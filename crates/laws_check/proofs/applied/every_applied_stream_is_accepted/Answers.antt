@@ -10,7 +10,7 @@ returns-clause-stream c plans given options report before after applied deleted 
     let most = applied.sizes.few_workers in
     let work : Work = record { plan = applied.plan; script = applied.script; hooks = given.hooks } in
     stream_reported applied.plan streamed.events (stream_of applied.plan applied.script options.start options.operation streamed.events) report before.bytes after.bytes streamed.whole.delivered plans
-    (c.every_stream_of_what_was_read_is_accepted.ensures plans given work options.workers options.start streamed.lists streamed.events options.operation applied.read deleted (omega arith) few streamed.applied.dealt_out streamed.applied.told short)
+    (c.every_stream_of_what_was_read_is_accepted.ensures plans given work options.workers options.start streamed.lists streamed.events options.operation applied.read deleted (omega arith) few streamed.applied.dealt_out streamed.applied.interleaved short)
 
 pub returns-clause-bytes : goal.returns-clause-bytes
 returns-clause-bytes c plans given options report before after bytes applied deleted few none all short =
@@ -18,4 +18,4 @@ returns-clause-bytes c plans given options report before after bytes applied del
     let most = applied.sizes.few_workers in
     let work : Work = record { plan = applied.plan; script = applied.script; hooks = given.hooks } in
     bytes_reported applied.plan streamed.events (stream_of applied.plan applied.script options.start options.operation streamed.events) report before.bytes after.bytes streamed.whole.delivered plans bytes none all short
-    (c.every_stream_of_what_was_read_is_accepted.ensures plans given work options.workers options.start streamed.lists streamed.events options.operation applied.read deleted (omega arith) few streamed.applied.dealt_out streamed.applied.told)
+    (c.every_stream_of_what_was_read_is_accepted.ensures plans given work options.workers options.start streamed.lists streamed.events options.operation applied.read deleted (omega arith) few streamed.applied.dealt_out streamed.applied.interleaved)

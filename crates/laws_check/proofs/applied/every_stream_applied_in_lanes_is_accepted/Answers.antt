@@ -14,7 +14,7 @@ returns-clause-stream c plans given lanes start operation report before after ap
     stream_reported applied.plan events (stream_of applied.plan applied.script start operation events) report before.bytes after.bytes streamed.whole.delivered plans
     (c.every_stream_of_whole_steps_that_were_read_is_accepted.ensures plans given work start events operation applied.read deleted
     (c.a_time_line_has_few_events.ensures.few work lanes events some limits streamed.time_line)
-    (c.every_event_of_a_time_line_fits.ensures work lanes events some limits few streamed.time_line)
+    (c.every_event_of_a_time_line_can_happen.ensures work lanes events some limits few streamed.time_line)
     (c.a_time_line_is_of_whole_steps.ensures work lanes events some limits.few_steps streamed.time_line)
     short)
 
@@ -28,5 +28,5 @@ returns-clause-bytes c plans given lanes start operation report before after byt
     bytes_reported applied.plan events (stream_of applied.plan applied.script start operation events) report before.bytes after.bytes streamed.whole.delivered plans bytes none all short
     (c.every_stream_of_whole_steps_that_were_read_is_accepted.ensures plans given work start events operation applied.read deleted
     (c.a_time_line_has_few_events.ensures.few work lanes events some limits streamed.time_line)
-    (c.every_event_of_a_time_line_fits.ensures work lanes events some limits few streamed.time_line)
+    (c.every_event_of_a_time_line_can_happen.ensures work lanes events some limits few streamed.time_line)
     (c.a_time_line_is_of_whole_steps.ensures work lanes events some limits.few_steps streamed.time_line))

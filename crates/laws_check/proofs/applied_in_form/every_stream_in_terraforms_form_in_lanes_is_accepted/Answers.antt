@@ -6,11 +6,11 @@ use Rattle.laws_check.proofs.applied_in_form.every_stream_in_terraforms_form_in_
 pub returns-clause-stream : goal.returns-clause-stream
 returns-clause-stream c plans given lanes start operation report before after applied deleted hooks short =
     let events = applied.streamed.events in
-    stream_reported plans applied.told operation events (stream_in (form_of applied.told start operation) events) report before.bytes after.bytes applied.streamed.whole.delivered applied.error
-    (c.every_run_told_in_terraforms_form_is_accepted.ensures.lanes plans given lanes start operation report before after applied deleted hooks) short
+    stream_reported plans applied.stated operation events (stream_in (form_of applied.stated start operation) events) report before.bytes after.bytes applied.streamed.whole.delivered applied.error
+    (c.every_run_in_terraforms_form_is_accepted.ensures.lanes plans given lanes start operation report before after applied deleted hooks) short
 
 pub returns-clause-bytes : goal.returns-clause-bytes
 returns-clause-bytes c plans given lanes start operation report before after bytes applied deleted hooks none all short =
     let events = applied.streamed.events in
-    bytes_reported plans applied.told operation events (stream_in (form_of applied.told start operation) events) report before.bytes after.bytes applied.streamed.whole.delivered applied.error
-    (c.every_run_told_in_terraforms_form_is_accepted.ensures.lanes plans given lanes start operation report before after applied deleted hooks) bytes none all short
+    bytes_reported plans applied.stated operation events (stream_in (form_of applied.stated start operation) events) report before.bytes after.bytes applied.streamed.whole.delivered applied.error
+    (c.every_run_in_terraforms_form_is_accepted.ensures.lanes plans given lanes start operation report before after applied deleted hooks) bytes none all short

@@ -3,7 +3,7 @@ use Rattle.std.proofs.Common.{subst, arith}
 use Rattle.std.specs.Prelude.{IfSome}
 use Rattle.std.specs.Io.Buffered.{reader_remaining}
 use Rattle.stream_lines.specs.Reading.{Gives}
-use Rattle.stream_lines.specs.declared.line_end.LineEnd.{LineEnd}
+use Rattle.stream_lines.specs.declared.line.LineEnd.{LineEnd}
 use Rattle.stream_play.proofs.Written.{ends, ends_there, kept, line_failed, one_more, starts, too_long, too_many, unread}
 use Rattle.stream_play.proofs.playing.play.Goals as goal
 

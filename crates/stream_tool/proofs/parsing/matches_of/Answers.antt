@@ -4,8 +4,8 @@ use Rattle.clap.specs.Walk.{Text}
 use Rattle.stream_tool.proofs.Parsed.{are_refused, faults_are}
 use Rattle.stream_tool.proofs.parsing.matches_of.Goals as goal
 
-pub returns-in-Ok-clause-said : goal.returns-in-Ok-clause-said
-returns-in-Ok-clause-said c = λ app is simple free.
+pub returns-in-Ok-clause-stated : goal.returns-in-Ok-clause-stated
+returns-in-Ok-clause-stated c = λ app is simple free.
     let words : List Text = map string_bytes c.args.words.now in (
       faults_are c.args.command app words c.try_get_matches_from.result (Ok c.in-Ok.matches) is free c.try_get_matches_from.ensures.kinds c.in-Ok.is,
       (c.in-Ok.ensures.matches (ap is_simple is ∙ simple)).0 ∙ ap (λ (a : App). matches_of a words) is,

@@ -11,12 +11,12 @@ loop-place-preserved c =
     let i = c.loop-place.place-index in
     let below : i < length places = omega arith in
     let greater : c.max-most.result ≡ max c.loop-place.most c.in_ok-columns_at.field-0 = (let is = c.max-most.ensures in grind (arith, nat_tests)) in
-    widest_more (column_text c.args.column) c.args.picture.now.told.now.steps places i c.loop-place.most c.in_ok-columns_at.field-0 c.max-most.result below
+    widest_more (column_text c.args.column) c.args.picture.now.timeline.now.steps places i c.loop-place.most c.in_ok-columns_at.field-0 c.max-most.result below
     c.loop-place.invariant c.in_ok-columns_at.ensures greater
 
 pub returns : goal.returns
 returns c =
     let places = c.deref-place-items.result.now in
     let ends : length places ≤ c.loop-place.place-index = omega arith in
-    widest_all (column_text c.args.column) c.args.picture.now.told.now.steps c.args.picture.now.rows.places.items places c.loop-place.place-index
+    widest_all (column_text c.args.column) c.args.picture.now.timeline.now.steps c.args.picture.now.rows.places.items places c.loop-place.place-index
     c.loop-place.most c.deref-place-items.ensures.value ends c.loop-place.invariant

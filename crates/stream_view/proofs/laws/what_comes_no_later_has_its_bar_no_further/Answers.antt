@@ -13,9 +13,9 @@ rises axis span sooner later no_later =
     omega (arith, placed)
 
 pub returns-clause-begin : goal.returns-clause-begin
-returns-clause-begin c = λ axis moments sooner later no_later.
-    rises axis (span_of moments) (int_gap moments.first sooner.begin) (int_gap moments.first later.begin) no_later
+returns-clause-begin c = λ axis time_range sooner later no_later.
+    rises axis (span_of time_range) (int_gap time_range.first sooner.begin) (int_gap time_range.first later.begin) no_later
 
 pub returns-clause-end : goal.returns-clause-end
-returns-clause-end c = λ axis moments sooner later no_later.
-    rises axis (span_of moments) (int_gap moments.first (until_of moments sooner)) (int_gap moments.first (until_of moments later)) no_later
+returns-clause-end c = λ axis time_range sooner later no_later.
+    rises axis (span_of time_range) (int_gap time_range.first (until_of time_range sooner)) (int_gap time_range.first (until_of time_range later)) no_later

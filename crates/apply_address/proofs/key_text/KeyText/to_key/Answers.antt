@@ -5,4 +5,4 @@ use Rattle.apply_address.proofs.key_text.KeyText.to_key.Goals as goal
 
 pub returns-in_ok-new-in-Quoted : goal.returns-in_ok-new-in-Quoted
 returns-in_ok-new-in-Quoted c =
-    ap Name (c.in_ok-new-in-Quoted.ensures ∙ c.as_str.ensures.value ∙ c.in_ok-said-in-Quoted.ensures) ∙ ap key_of (sym c.in-Quoted.is)
+    ap Name (c.in_ok-new-in-Quoted.ensures ∙ c.as_str.ensures.value ∙ c.in_ok-content-in-Quoted.ensures) ∙ ap key_of (sym c.in-Quoted.is)

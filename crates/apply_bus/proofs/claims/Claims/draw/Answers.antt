@@ -12,19 +12,19 @@ use Rattle.apply_bus.proofs.ClaimsSteps.{draws}
 use Rattle.apply_bus.proofs.claims.Claims.draw.Goals as goal
 
 -- a draw that finds no number left sets the mark
-end_met : (d n w found : ℕ) (drawn : List ℕ) (met : Bool) (me after : Me ℕ Hand) → me ≡ (drawer d n w drawn met, []) → n ≤ found → IsDrawn me found after → after ≡ (drawer d n w drawn true, [])
-end_met d n w found drawn met me after was past drew =
-    drew.0 ∙ ap (λ (m : Me ℕ Hand). (hand (first_after m.0.shares found), [])) was
-    ∙ ap (λ b. (hand ((if b then share d n w (drawn ++ found ∷ []) met else share d n w drawn true) ∷ []), [])) (le-ltb found n past)
+end_met : (d n w previous : ℕ) (drawn : List ℕ) (met : Bool) (me after : Me ℕ Hand) → me ≡ (drawer d n w drawn met, []) → n ≤ previous → IsDrawn me previous after → after ≡ (drawer d n w drawn true, [])
+end_met d n w previous drawn met me after was past drew =
+    drew.0 ∙ ap (λ (m : Me ℕ Hand). (hand (first_after m.0.shares previous), [])) was
+    ∙ ap (λ b. (hand ((if b then share d n w (drawn ++ previous ∷ []) met else share d n w drawn true) ∷ []), [])) (le-ltb previous n past)
 
 -- and one that finds a number keeps it, which is above all before
-one_drawn : (d n w found : ℕ) (drawn : List ℕ) (met : Bool) (me after : Me ℕ Hand) → me ≡ (drawer d n w drawn met, []) → found < n → IsDrawn me found after → after ≡ (drawer d n w (drawn ++ found ∷ []) met, [])
-one_drawn d n w found drawn met me after was low drew =
-    drew.0 ∙ ap (λ (m : Me ℕ Hand). (hand (first_after m.0.shares found), [])) was
-    ∙ ap (λ b. (hand ((if b then share d n w (drawn ++ found ∷ []) met else share d n w drawn true) ∷ []), [])) (lt-ltb found n low)
+one_drawn : (d n w previous : ℕ) (drawn : List ℕ) (met : Bool) (me after : Me ℕ Hand) → me ≡ (drawer d n w drawn met, []) → previous < n → IsDrawn me previous after → after ≡ (drawer d n w (drawn ++ previous ∷ []) met, [])
+one_drawn d n w previous drawn met me after was low drew =
+    drew.0 ∙ ap (λ (m : Me ℕ Hand). (hand (first_after m.0.shares previous), [])) was
+    ∙ ap (λ b. (hand ((if b then share d n w (drawn ++ previous ∷ []) met else share d n w drawn true) ∷ []), [])) (lt-ltb previous n low)
 
-above_all : (d n w found : ℕ) (drawn : List ℕ) (met : Bool) (me after : Me ℕ Hand) → me ≡ (drawer d n w drawn met, []) → IsDrawn me found after → All (λ earlier. earlier < found) drawn
-above_all d n w found drawn met me after was drew = (subst (λ (m : Me ℕ Hand). AllByRecursion (λ (s : Share). All (λ earlier. earlier < found) s.drawn) m.0.shares) was drew.1).0
+above_all : (d n w previous : ℕ) (drawn : List ℕ) (met : Bool) (me after : Me ℕ Hand) → me ≡ (drawer d n w drawn met, []) → IsDrawn me previous after → All (λ earlier. earlier < previous) drawn
+above_all d n w previous drawn met me after was drew = (subst (λ (m : Me ℕ Hand). AllByRecursion (λ (s : Share). All (λ earlier. earlier < previous) s.drawn) m.0.shares) was drew.1).0
 
 has_seat : (d n w : ℕ) (drawn : List ℕ) (met : Bool) (s : Seat ℕ Hand) → s.me ≡ (drawer d n w drawn met, []) → IsDrawerSeat d met s
 has_seat d n w drawn met s is = is ∙ ap (λ (m : Me ℕ Hand). (drawer d (first_limit m.0.shares) (first_workers m.0.shares) (first_drawn m.0.shares) met, [])) (sym is)
@@ -36,8 +36,8 @@ drawing_of_seat d n w drawn met s t is at =
     ap (λ (m : Me ℕ Hand). record { claims = record { table = s.table_id; limit = first_limit m.0.shares; workers = first_workers m.0.shares }; worker = d; drawn = first_drawn m.0.shares; met_none = met }) is
     ∙ ap (λ u. record { claims = record { table = u; limit = n; workers = w }; worker = d; drawn = drawn; met_none = met }) at
 
-pub fetch_add-found-requires : goal.fetch_add-found-requires
-fetch_add-found-requires c =
+pub fetch_add-previous-requires : goal.fetch_add-previous-requires
+fetch_add-previous-requires c =
     let seat = c.drawer.inside.seat in
     let same = ap (λ (d : Drawing). d.claims) c.drawer.view_is ∙ c.requires ∙ sym c.self.view_is in
     let key = c.self.invariant.1 in
@@ -49,27 +49,27 @@ fetch_add-found-requires c =
           (subst (λ (y : ℕ × ℕ × Bool). seat.me ≡ (drawer c.drawer.inside.worker y.0 y.1 (seat_drawn seat) y.2, [])) (λ i. (limit i, workers i, c.if-drawer.false i)) c.drawer.invariant),
     )
 
-pub invariant_of-drawer-else-found-from : goal.invariant_of-drawer-else-found-from
-invariant_of-drawer-else-found-from c =
+pub invariant_of-drawer-else-previous-from : goal.invariant_of-drawer-else-previous-from
+invariant_of-drawer-else-previous-from c =
     let seat = c.drawer.inside.seat in
     let same = ap (λ (d : Drawing). d.claims) c.drawer.view_is ∙ c.requires ∙ sym c.self.view_is in
     let limit : first_limit seat.me.0.shares ≡ c.self.inside.limit = ap (λ (i : ClaimsName). i.limit) same in
-    has_seat _ _ _ _ _ c.fetch_add-found.new.seat (end_met c.drawer.inside.worker (first_limit seat.me.0.shares) (first_workers seat.me.0.shares) c.fetch_add-found.result (seat_drawn seat) c.drawer.inside.met_none seat.me _ c.drawer.invariant (omega arith) c.fetch_add-found.ensures.2)
+    has_seat _ _ _ _ _ c.fetch_add-previous.new.seat (end_met c.drawer.inside.worker (first_limit seat.me.0.shares) (first_workers seat.me.0.shares) c.fetch_add-previous.result (seat_drawn seat) c.drawer.inside.met_none seat.me _ c.drawer.invariant (omega arith) c.fetch_add-previous.ensures.2)
 
-pub returns-then-found-from-clause-some : goal.returns-then-found-from-clause-some
-returns-then-found-from-clause-some c =
+pub returns-then-previous-from-clause-some : goal.returns-then-previous-from-clause-some
+returns-then-previous-from-clause-some c =
     let seat = c.drawer.inside.seat in
-    let found = c.fetch_add-found.result in
+    let previous = c.fetch_add-previous.result in
     let same = ap (λ (d : Drawing). d.claims) c.drawer.view_is ∙ c.requires ∙ sym c.self.view_is in
     let limit : first_limit seat.me.0.shares ≡ c.self.inside.limit = ap (λ (i : ClaimsName). i.limit) same in
-    drawing_of_seat _ _ _ _ _ c.fetch_add-found.new.seat _
-    (one_drawn c.drawer.inside.worker (first_limit seat.me.0.shares) (first_workers seat.me.0.shares) found (seat_drawn seat) c.drawer.inside.met_none seat.me _ c.drawer.invariant (omega arith) c.fetch_add-found.ensures.2)
-    c.fetch_add-found.ensures.0
-    ∙ ap (λ (d : Drawing). record d { drawn = d.drawn ++ found ∷ [] }) c.drawer.view_is
+    drawing_of_seat _ _ _ _ _ c.fetch_add-previous.new.seat _
+    (one_drawn c.drawer.inside.worker (first_limit seat.me.0.shares) (first_workers seat.me.0.shares) previous (seat_drawn seat) c.drawer.inside.met_none seat.me _ c.drawer.invariant (omega arith) c.fetch_add-previous.ensures.2)
+    c.fetch_add-previous.ensures.0
+    ∙ ap (λ (d : Drawing). record d { drawn = d.drawn ++ previous ∷ [] }) c.drawer.view_is
 
-pub returns-then-found-from-clause-rising : goal.returns-then-found-from-clause-rising
-returns-then-found-from-clause-rising c =
+pub returns-then-previous-from-clause-rising : goal.returns-then-previous-from-clause-rising
+returns-then-previous-from-clause-rising c =
     let seat = c.drawer.inside.seat in
-    let found = c.fetch_add-found.result in
-    subst (λ (d : Drawing). All (λ earlier. earlier < found) d.drawn) c.drawer.view_is
-    (above_all c.drawer.inside.worker (first_limit seat.me.0.shares) (first_workers seat.me.0.shares) found (seat_drawn seat) c.drawer.inside.met_none seat.me _ c.drawer.invariant c.fetch_add-found.ensures.2)
+    let previous = c.fetch_add-previous.result in
+    subst (λ (d : Drawing). All (λ earlier. earlier < previous) d.drawn) c.drawer.view_is
+    (above_all c.drawer.inside.worker (first_limit seat.me.0.shares) (first_workers seat.me.0.shares) previous (seat_drawn seat) c.drawer.inside.met_none seat.me _ c.drawer.invariant c.fetch_add-previous.ensures.2)

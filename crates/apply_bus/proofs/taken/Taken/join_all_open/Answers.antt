@@ -6,15 +6,15 @@ use Rattle.apply_bus.proofs.Seen.{all_seen}
 use Rattle.apply_bus.proofs.Settling.{account_more, all_sent_lists_more, bus_at}
 use Rattle.apply_bus.proofs.taken.Taken.join_all_open.Goals as goal
 
-pub join_open-requires : goal.join_open-requires
-join_open-requires c =
+pub join_unclosed-requires : goal.join_unclosed-requires
+join_unclosed-requires c =
     let i = c.loop-tx.invariant in
     bus_at _ c.loop-tx.yielded (into_iter_items c.next.new.self) c.args.«open».items c.in-Some.tx
     (sym (ap (λ l. c.loop-tx.yielded ++ l) c.in-Some.ensures.steps.0) ∙ i.left ∙ c.into_iter-tx-iterator.ensures.into_iter_gives.0) c.requires
     ∙ sym (ap (λ (a : Account). a.bus) i.joined)
 
 pub loop-tx-preserved : goal.loop-tx-preserved
-loop-tx-preserved c = let i = c.loop-tx.invariant in let e = c.join_open.ensures in let s = c.in-Some.tx in let seen = c.loop-tx.yielded in record {
+loop-tx-preserved c = let i = c.loop-tx.invariant in let e = c.join_unclosed.ensures in let s = c.in-Some.tx in let seen = c.loop-tx.yielded in record {
   left = grind (arith, common_steps);
   count = grind (arith, common_steps);
   joined = account_more c.args.self.now c.loop-tx.self _ seen s i.joined e.joined;

@@ -1,9 +1,9 @@
 use Rattle.std.proofs.Common.{◌≡◌, get_or}
-use Rattle.apply_events.specs.Lanes.ToCome.{moments_of}
-use Rattle.apply_events.specs.Waits.Moment.{first_moment}
+use Rattle.apply_events.specs.Lanes.ToCome.{lane_times_of}
+use Rattle.apply_events.specs.Waits.LaneTime.{first_lane_time}
 use Rattle.apply_events.proofs.Waits.Earliest.{IsFirstEarliest}
 use Rattle.apply_events.proofs.lanes.Lanes.first.Given as goal
 
--- the first so far, and its moment
+-- the first lane so far, and its time
 abbrev pub invariant-loop-lane : goal.invariant-loop-lane
-invariant-loop-lane g l = IsFirstEarliest (moments_of l.self) l.lane l.first × (l.least ≡ get_or (moments_of l.self) l.first first_moment)
+invariant-loop-lane g l = IsFirstEarliest (lane_times_of l.self) l.lane l.first × (l.least ≡ get_or (lane_times_of l.self) l.first first_lane_time)

@@ -1,9 +1,9 @@
 use Rattle.std.proofs.Common.{◌≡◌, ◌+◌, ◌*◌, ◌<◌, ◌≤◌, ◌^◌, ◌++◌, ◌∷◌, [], ℕ, None, length, map, reverse, set, arith, rules, subst, sym, ap, ◌∙◌}
 use Rattle.apply_hooks.specs.Registry.{rules_of}
 use Rattle.apply_model.specs.Script.Limits.{max_seconds}
-use Rattle.apply_events.specs.declared.lanes.taken.Taken.{Taken}
+use Rattle.apply_events.specs.declared.lanes.turn.StartedTurn.{StartedTurn}
 use Rattle.apply_events.specs.Step.{Work, kinds_applied}
-use Rattle.apply_events.specs.Waits.Done.{done_at, done_in, end_of_turn, first_found}
+use Rattle.apply_events.specs.Waits.Done.{done_at, done_in, end_of_turn, first_some}
 use Rattle.apply_events.specs.Waits.Queue.{IsQueue, none_done, turn_waits}
 use Rattle.apply_events.specs.Waits.Schedule.{first_earliest}
 use Rattle.apply_events.specs.Waits.Turn.{turns}
@@ -70,8 +70,8 @@ index-requires g c =
     let size = ap length turns_are in
     let len : c.in_ok-turns.turns.len ≡ length c.in_ok-turns.turns.items = search rules in omega arith
 
-pub overflow_cast-taken : goal.overflow_cast-taken
-overflow_cast-taken g c =
+pub overflow_cast-started : goal.overflow_cast-started
+overflow_cast-started g c =
     let w : Work = record { plan = c.args.plan.now; script = c.args.script.now; hooks = rules_of c.args.registry.now } in
     let all = c.loop-queue.all.items in
     let free = c.loop-queue.free.items in
@@ -105,8 +105,8 @@ index_mut-requires g c =
     let low = (lane_fits w c.args.lanes c.requires c.loop-queue.queue free all h c.len.ensures.few c.in-Some.ready first.0).0 in
     let len : c.loop-queue.free.len ≡ length free = search rules in omega arith
 
-pub pass_steps-requires-clause-change : goal.pass_steps-requires-clause-change
-pass_steps-requires-clause-change g c =
+pub run_steps-requires-clause-change : goal.run_steps-requires-clause-change
+run_steps-requires-clause-change g c =
     let w : Work = record { plan = c.args.plan.now; script = c.args.script.now; hooks = rules_of c.args.registry.now } in
     let turns_are : c.in_ok-turns.turns.items ≡ turns w = c.in_ok-turns.ensures w.hooks in
     let all = c.loop-queue.all.items in
@@ -120,10 +120,10 @@ pass_steps-requires-clause-change g c =
     ∙ any_default c.in_ok-turns.turns.items c.in-Some.ready.number c.index.result.now (record { change = 0; first = 0; count = 0 }) (omega arith) ∙ ap (λ l. turn_at l c.in-Some.ready.number) turns_are in
     let same = is_one w c.args.lanes c.requires c.loop-queue.queue free all h c.len.ensures.few c.in-Some.ready first.0
     c.index.result.now c.first_earliest-lane.result c.index-in-loop-queue.result.now c.later_of.result its lane c.index-in-loop-queue.ensures c.later_of.ensures in
-    subst (λ (t : Taken). t.turn.change < length w.plan.changes) (sym same) (turn_fits w c.in-Some.ready.number fits).0
+    subst (λ (t : StartedTurn). t.turn.change < length w.plan.changes) (sym same) (turn_fits w c.in-Some.ready.number fits).0
 
-pub pass_steps-requires-clause-steps : goal.pass_steps-requires-clause-steps
-pass_steps-requires-clause-steps g c =
+pub run_steps-requires-clause-steps : goal.run_steps-requires-clause-steps
+run_steps-requires-clause-steps g c =
     let w : Work = record { plan = c.args.plan.now; script = c.args.script.now; hooks = rules_of c.args.registry.now } in
     let turns_are : c.in_ok-turns.turns.items ≡ turns w = c.in_ok-turns.ensures w.hooks in
     let all = c.loop-queue.all.items in
@@ -137,10 +137,10 @@ pass_steps-requires-clause-steps g c =
     ∙ any_default c.in_ok-turns.turns.items c.in-Some.ready.number c.index.result.now (record { change = 0; first = 0; count = 0 }) (omega arith) ∙ ap (λ l. turn_at l c.in-Some.ready.number) turns_are in
     let same = is_one w c.args.lanes c.requires c.loop-queue.queue free all h c.len.ensures.few c.in-Some.ready first.0
     c.index.result.now c.first_earliest-lane.result c.index-in-loop-queue.result.now c.later_of.result its lane c.index-in-loop-queue.ensures c.later_of.ensures in
-    subst (λ (t : Taken). t.turn.first + t.turn.count ≤ length (kinds_applied w.plan w.script t.turn.change)) (sym same) (turn_fits w c.in-Some.ready.number fits).1
+    subst (λ (t : StartedTurn). t.turn.first + t.turn.count ≤ length (kinds_applied w.plan w.script t.turn.change)) (sym same) (turn_fits w c.in-Some.ready.number fits).1
 
-pub pass_steps-requires-clause-second : goal.pass_steps-requires-clause-second
-pass_steps-requires-clause-second g c =
+pub run_steps-requires-clause-second : goal.run_steps-requires-clause-second
+run_steps-requires-clause-second g c =
     let w : Work = record { plan = c.args.plan.now; script = c.args.script.now; hooks = rules_of c.args.registry.now } in
     let turns_are : c.in_ok-turns.turns.items ≡ turns w = c.in_ok-turns.ensures w.hooks in
     let all = c.loop-queue.all.items in
@@ -154,10 +154,10 @@ pass_steps-requires-clause-second g c =
     ∙ any_default c.in_ok-turns.turns.items c.in-Some.ready.number c.index.result.now (record { change = 0; first = 0; count = 0 }) (omega arith) ∙ ap (λ l. turn_at l c.in-Some.ready.number) turns_are in
     let same = is_one w c.args.lanes c.requires c.loop-queue.queue free all h c.len.ensures.few c.in-Some.ready first.0
     c.index.result.now c.first_earliest-lane.result c.index-in-loop-queue.result.now c.later_of.result its lane c.index-in-loop-queue.ensures c.later_of.ensures in
-    subst (λ (t : Taken). t.begin.second + 2 * max_seconds < 2 ^ 64) (sym same) (second_fits w c.args.lanes c.requires c.loop-queue.queue free all h c.len.ensures.few c.in-Some.ready first.0)
+    subst (λ (t : StartedTurn). t.begin.second + 2 * max_seconds < 2 ^ 64) (sym same) (second_fits w c.args.lanes c.requires c.loop-queue.queue free all h c.len.ensures.few c.in-Some.ready first.0)
 
-pub pass_steps-requires-clause-round : goal.pass_steps-requires-clause-round
-pass_steps-requires-clause-round g c =
+pub run_steps-requires-clause-round : goal.run_steps-requires-clause-round
+run_steps-requires-clause-round g c =
     let w : Work = record { plan = c.args.plan.now; script = c.args.script.now; hooks = rules_of c.args.registry.now } in
     let turns_are : c.in_ok-turns.turns.items ≡ turns w = c.in_ok-turns.ensures w.hooks in
     let all = c.loop-queue.all.items in
@@ -171,10 +171,10 @@ pass_steps-requires-clause-round g c =
     ∙ any_default c.in_ok-turns.turns.items c.in-Some.ready.number c.index.result.now (record { change = 0; first = 0; count = 0 }) (omega arith) ∙ ap (λ l. turn_at l c.in-Some.ready.number) turns_are in
     let same = is_one w c.args.lanes c.requires c.loop-queue.queue free all h c.len.ensures.few c.in-Some.ready first.0
     c.index.result.now c.first_earliest-lane.result c.index-in-loop-queue.result.now c.later_of.result its lane c.index-in-loop-queue.ensures c.later_of.ensures in
-    subst (λ (t : Taken). t.begin.round + 1 < 2 ^ 32) (sym same) (round_fits w c.args.lanes c.requires c.loop-queue.queue free all h c.len.ensures.few c.in-Some.ready first.0)
+    subst (λ (t : StartedTurn). t.begin.round + 1 < 2 ^ 32) (sym same) (round_fits w c.args.lanes c.requires c.loop-queue.queue free all h c.len.ensures.few c.in-Some.ready first.0)
 
-pub pass_steps-requires-clause-known : goal.pass_steps-requires-clause-known
-pass_steps-requires-clause-known g c =
+pub run_steps-requires-clause-known : goal.run_steps-requires-clause-known
+run_steps-requires-clause-known g c =
     let w : Work = record { plan = c.args.plan.now; script = c.args.script.now; hooks = rules_of c.args.registry.now } in
     let turns_are : c.in_ok-turns.turns.items ≡ turns w = c.in_ok-turns.ensures w.hooks in
     let all = c.loop-queue.all.items in
@@ -192,7 +192,7 @@ pass_steps-requires-clause-known g c =
       done_at w (reverse all),
       c.in-Some.ready.number ∷ h.numbers,
       first.1,
-      subst (λ (t : Taken). (step : ℕ) → t.turn.first ≤ step → step < t.turn.first + t.turn.count → done_at w (reverse all) (record { change = t.turn.change; step = step }) ≡ None)
+      subst (λ (t : StartedTurn). (step : ℕ) → t.turn.first ≤ step → step < t.turn.first + t.turn.count → done_at w (reverse all) (record { change = t.turn.change; step = step }) ≡ None)
           (sym same) (step_is_new w c.args.lanes c.requires c.loop-queue.queue free all h c.len.ensures.few c.in-Some.ready first.0),
     )
 
@@ -211,17 +211,17 @@ loop-queue-preserved g c =
     ∙ any_default c.in_ok-turns.turns.items c.in-Some.ready.number c.index.result.now (record { change = 0; first = 0; count = 0 }) (omega arith) ∙ ap (λ l. turn_at l c.in-Some.ready.number) turns_are in
     let same = is_one w c.args.lanes c.requires c.loop-queue.queue free all h c.len.ensures.few c.in-Some.ready first.0
     c.index.result.now c.first_earliest-lane.result c.index-in-loop-queue.result.now c.later_of.result its lane c.index-in-loop-queue.ensures c.later_of.ensures in
-    let fresh = subst (λ (t : Taken). (step : ℕ) → t.turn.first ≤ step → step < t.turn.first + t.turn.count → done_at w (reverse all) (record { change = t.turn.change; step = step }) ≡ None)
+    let fresh = subst (λ (t : StartedTurn). (step : ℕ) → t.turn.first ≤ step → step < t.turn.first + t.turn.count → done_at w (reverse all) (record { change = t.turn.change; step = step }) ≡ None)
     (sym same) (step_is_new w c.args.lanes c.requires c.loop-queue.queue free all h c.len.ensures.few c.in-Some.ready first.0) in
     let end = c.in_ok-free-2.field-0 in
     let q = c.in_ok-free-2.ensures.queue (map (turn_waits w.script) (turns w)) (done_at w (reverse all)) (c.in-Some.ready.number ∷ h.numbers) first.1 fresh in
     goes_on_with w c.args.lanes c.requires c.loop-queue.queue free all h c.len.ensures.few c.in-Some.ready first.0
-    c.pass_steps.new.queue end c.push.new.self.items _
+    c.run_steps.new.queue end c.push.new.self.items _
     (c.in_ok-free-2.ensures.end ∙ ap (end_of_turn w) same)
-    (subst (λ (t : Taken). end.second ≤ t.begin.second + 2 * max_seconds) same c.in_ok-free-2.ensures.short)
-    (c.in_ok-push.ensures.items ∙ ap (λ (t : Taken). all ++ t ∷ []) same)
+    (subst (λ (t : StartedTurn). end.second ≤ t.begin.second + 2 * max_seconds) same c.in_ok-free-2.ensures.short)
+    (c.in_ok-push.ensures.items ∙ ap (λ (t : StartedTurn). all ++ t ∷ []) same)
     (ap (λ k. set free k end) lane)
-    (subst (λ (t : Taken). IsQueue (2 * length w.plan.changes) (map (turn_waits w.script) (turns w)) (λ name. first_found (done_in w t name) (done_at w (reverse all) name))
-    (c.in-Some.ready.number ∷ h.numbers) c.pass_steps.new.queue) same q)
+    (subst (λ (t : StartedTurn). IsQueue (2 * length w.plan.changes) (map (turn_waits w.script) (turns w)) (λ name. first_some (done_in w t name) (done_at w (reverse all) name))
+    (c.in-Some.ready.number ∷ h.numbers) c.run_steps.new.queue) same q)
     (let there : c.in_ok-turns.turns.len ≡ length c.in_ok-turns.turns.items = search rules in
     let here : c.loop-queue.all.len ≡ length c.loop-queue.all.items = search rules in omega arith)

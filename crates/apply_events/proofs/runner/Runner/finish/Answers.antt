@@ -12,17 +12,17 @@ returns-in-Some-clause-next g c =
 
 pub returns-in-None-2-clause-next : goal.returns-in-None-2-clause-next
 returns-in-None-2-clause-next g c =
-    c.pass-in-None-2.ensures.next
+    c.advance-in-None-2.ensures.next
     ∙ finish_goes_on c.args.self.now.worker (step_at_hand c.args.self.now c.args.kind) (rest_of c.args.self.now) c.args.self.now.at (cc) (cc)
 
-pub pass-requires-in-None-2-clause-time : goal.pass-requires-in-None-2-clause-time
-pass-requires-in-None-2-clause-time g c =
+pub advance-requires-in-None-2-clause-time : goal.advance-requires-in-None-2-clause-time
+advance-requires-in-None-2-clause-time g c =
     next_time (steps_of (course_of c.args.self.now).work c.args.self.now.change) c.args.self.now.step (step_at_hand c.args.self.now c.args.kind) c.args.self.now.begin c.args.self.now.at c.requires.step
 
-pub pass-requires-clause-time : goal.pass-requires-clause-time
-pass-requires-clause-time g c =
+pub advance-requires-clause-time : goal.advance-requires-clause-time
+advance-requires-clause-time g c =
     failed_over (steps_of (course_of c.args.self.now).work c.args.self.now.change) c.args.self.now.step (step_at_hand c.args.self.now c.args.kind) c.args.self.now.begin c.args.self.now.at c.requires.step (cc)
 
-pub pass-requires-in-None-2-clause-course : goal.pass-requires-in-None-2-clause-course
-pass-requires-in-None-2-clause-course g c =
+pub advance-requires-in-None-2-clause-course : goal.advance-requires-in-None-2-clause-course
+advance-requires-in-None-2-clause-course g c =
     next_course (steps_of (course_of c.args.self.now).work c.args.self.now.change) c.args.self.now.step (step_at_hand c.args.self.now c.args.kind) c.args.self.now.begin c.args.self.now.at c.requires.step (cc) (cc)

@@ -12,11 +12,11 @@ returns-in-Before g c = record {
 
 pub returns-in-Running : goal.returns-in-Running
 returns-in-Running g c = record {
-  next = c.report.ensures.next;
-  has_step = has_same_step c.args.self.now.plan.now c.args.self.now.change c.args.self.now.step c.report.result c.in-Some.ensures.has_step c.report.ensures.place.1 c.report.ensures.place.2;
-  worker = c.report.ensures.place.0;
-  in_time = c.report.ensures.in_time;
-  course = c.report.ensures.course;
+  next = c.emit_running.ensures.next;
+  has_step = has_same_step c.args.self.now.plan.now c.args.self.now.change c.args.self.now.step c.emit_running.result c.in-Some.ensures.has_step c.emit_running.ensures.place.1 c.emit_running.ensures.place.2;
+  worker = c.emit_running.ensures.place.0;
+  in_time = c.emit_running.ensures.in_time;
+  course = c.emit_running.ensures.course;
 }
 
 pub returns-in-Noting : goal.returns-in-Noting
@@ -44,11 +44,11 @@ begin-requires-clause-step g c = c.in-Some.ensures.step
 pub begin-requires-clause-few : goal.begin-requires-clause-few
 begin-requires-clause-few g c = c.in-Some.ensures.few
 
-pub report-requires-clause-step : goal.report-requires-clause-step
-report-requires-clause-step g c = c.in-Some.ensures.step
+pub emit_running-requires-clause-step : goal.emit_running-requires-clause-step
+emit_running-requires-clause-step g c = c.in-Some.ensures.step
 
-pub report-requires-clause-few : goal.report-requires-clause-few
-report-requires-clause-few g c = c.in-Some.ensures.few
+pub emit_running-requires-clause-few : goal.emit_running-requires-clause-few
+emit_running-requires-clause-few g c = c.in-Some.ensures.few
 
 pub note-requires-clause-step : goal.note-requires-clause-step
 note-requires-clause-step g c = c.in-Some.ensures.step

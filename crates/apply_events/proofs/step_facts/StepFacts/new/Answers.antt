@@ -5,8 +5,8 @@ use Rattle.apply_events.proofs.step_facts.StepFacts.new.Goals as goal
 
 -- a step fails where its outcome does
 pub returns-in-Some-clause-fails : goal.returns-in-Some-clause-fails
-returns-in-Some-clause-fails c = c.fails.ensures ∙ ap (λ found. fails (unwrap_or found default_outcome)) c.in-Some.ensures.given
+returns-in-Some-clause-fails c = c.fails.ensures ∙ ap (λ answer. fails (unwrap_or answer default_outcome)) c.in-Some.ensures.given
 
 -- and takes as long as its outcome does
 pub returns-in-Some-clause-seconds : goal.returns-in-Some-clause-seconds
-returns-in-Some-clause-seconds c = c.took.ensures ∙ ap (λ found. took c.args.kind (unwrap_or found default_outcome)) c.in-Some.ensures.given
+returns-in-Some-clause-seconds c = c.took.ensures ∙ ap (λ answer. took c.args.kind (unwrap_or answer default_outcome)) c.in-Some.ensures.given

@@ -1,5 +1,5 @@
 use Rattle.std.proofs.Common.{rules}
-use Rattle.apply_json.proofs.Keeping.{as_whole}
+use Rattle.apply_json.proofs.VerbatimValues.{as_whole}
 use Rattle.apply_plan.proofs.plan.actions.read_actions.Goals as goal
 
 pub returns-in-List-clause-ok : goal.returns-in-List-clause-ok

@@ -1,5 +1,5 @@
 use Rattle.std.proofs.Common.{rules}
-use Rattle.apply_json.proofs.Keeping.{as_whole}
+use Rattle.apply_json.proofs.VerbatimValues.{as_whole}
 use Rattle.apply_plan.proofs.plan.id_slots.read_hides_id.Goals as goal
 
 pub returns-then-is_true-clause-ok : goal.returns-then-is_true-clause-ok

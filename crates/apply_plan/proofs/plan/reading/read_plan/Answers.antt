@@ -1,6 +1,6 @@
 use Rattle.std.proofs.Common.{◌≡◌, Some, rules, sym, ◌∙◌}
 use Rattle.apply_json.specs.Tree.{tree_of}
-use Rattle.apply_json.proofs.Keeping.{whole_tree_of}
+use Rattle.apply_json.proofs.VerbatimValues.{whole_tree_of}
 use Rattle.apply_plan.specs.Plan.SavedPlan.{plan_of}
 use Rattle.apply_plan.proofs.Plans.NoTree.{few, no_plan}
 use Rattle.apply_plan.proofs.plan.reading.read_plan.Goals as goal

@@ -3,4 +3,4 @@ use Rattle.apply_plan.specs.Script.OutcomeMap.{by_number}
 use Rattle.apply_plan.proofs.script.entries.nothing.Given as goal
 
 abbrev pub invariant-loop : goal.invariant-loop
-invariant-loop l = l.said.items ≡ by_number l.counter []
+invariant-loop l = l.outcomes.items ≡ by_number l.counter []

@@ -5,7 +5,7 @@ use Rattle.serde_json.specs.Data.{string}
 use Rattle.apply_json.proofs.FirstToken.{first_token, shorter}
 use Rattle.apply_json.specs.declared.read_fault.ReadFault.TheVariants.{NotJson}
 use Rattle.apply_plan_terraform.proofs.Copying.{nothing_left, object_is, object_too_deep}
-use Rattle.apply_plan_terraform.proofs.KeptTexts.{kept_other}
+use Rattle.apply_plan_terraform.proofs.RawTexts.{stored_other}
 use Rattle.apply_plan_terraform.proofs.texts.beginning.begin.Goals as goal
 
 pub returns-in_err-token-clause-err : goal.returns-in_err-token-clause-err
@@ -32,7 +32,7 @@ returns-in_ok-read_rest_as_text-in_default c =
       ok = (
         done.ok.0,
         ap (value c.args.depth) first ∙ done.ok.1,
-        (λ part. kept_other part c.args.depth c.in_ok-token.token c.next.new.self _ done.ok.0 c.in_default.not-BeginObject done.ok.1 ∙ ap string (sym done.ok.2)),
+        (λ part. stored_other part c.args.depth c.in_ok-token.token c.next.new.self _ done.ok.0 c.in_default.not-BeginObject done.ok.1 ∙ ap string (sym done.ok.2)),
       );
       shorter = omega (arith, less, done.shorter);
       err = λ refused. absurd cc;

@@ -5,7 +5,7 @@ use Rattle.json.specs.Reads.{token_of}
 use Rattle.json.specs.Tree.{json_tokens, items_tokens, members_tokens}
 use Rattle.json.proofs.Grammar.{items_end, items_fail, items_more, members_end, members_fail, members_more, members_no_key, read_key-shorter}
 use Rattle.apply_json.proofs.Turns.{key_named}
-use Rattle.apply_plan_terraform.proofs.Copying.{array_is, array_too_deep, behind, fused, if_ok, no_value, nothing_left, object_is, object_too_deep, one_token, unchanged}
+use Rattle.apply_plan_terraform.proofs.Copying.{array_is, array_too_deep, after, fused, if_ok, no_value, nothing_left, object_is, object_too_deep, one_token, unchanged}
 use Rattle.apply_plan_terraform.proofs.texts.copying.+copy.Goals as goal
 
 pub copy-returns-in_err-token-clause-err : goal.copy-returns-in_err-token-clause-err
@@ -36,7 +36,7 @@ copy_from-returns-in_ok-begin_array-in-BeginArray-clause-ok t c =
     (λ f. (
       array f.0,
       array_is c.args.depth c.args.reader.now c.args.token _ c.in-BeginArray.is (omega arith) f.1,
-      f.2 ∙ sym (behind old c.begin_array.new.self.tokens (Token.begin_array ∷ []) (items_tokens f.0) _ grown refl),
+      f.2 ∙ sym (after old c.begin_array.new.self.tokens (Token.begin_array ∷ []) (items_tokens f.0) _ grown refl),
     ))
     c.copy_items.ensures.ok
 
@@ -52,7 +52,7 @@ copy_from-returns-in_ok-begin_object-in-BeginObject-clause-ok t c =
     (λ f. (
       object f.0,
       object_is c.args.depth c.args.reader.now c.args.token _ c.in-BeginObject.is (omega arith) f.1,
-      f.2 ∙ sym (behind old c.begin_object.new.self.tokens (Token.begin_object ∷ []) (members_tokens f.0) _ grown refl),
+      f.2 ∙ sym (after old c.begin_object.new.self.tokens (Token.begin_object ∷ []) (members_tokens f.0) _ grown refl),
     ))
     c.copy_members.ensures.ok
 
@@ -80,7 +80,7 @@ copy_items-items-preserved t c =
       omega (arith, l.invariant.1),
       (λ js. front (item j js)),
       turn,
-      (λ js. l.invariant.4 (item j js) ∙ behind l.out.tokens c.copy.new.out.tokens (json_tokens j) (items_tokens js) _ done.ok.2 refl),
+      (λ js. l.invariant.4 (item j js) ∙ after l.out.tokens c.copy.new.out.tokens (json_tokens j) (items_tokens js) _ done.ok.2 refl),
       done.before ∙ l.invariant.5,
       omega (arith, l.invariant.6),
     )
@@ -134,8 +134,8 @@ copy_members-members-preserved t c =
       (λ ms. front (member k j ms)),
       turn,
       (λ ms. l.invariant.4 (member k j ms)
-          ∙ behind l.out.tokens c.key.new.self.tokens (Token.key k ∷ []) (json_tokens j ++ members_tokens ms) _ keyed refl
-          ∙ behind c.key.new.self.tokens c.copy.new.out.tokens (json_tokens j) (members_tokens ms) _ done.ok.2 refl),
+          ∙ after l.out.tokens c.key.new.self.tokens (Token.key k ∷ []) (json_tokens j ++ members_tokens ms) _ keyed refl
+          ∙ after c.key.new.self.tokens c.copy.new.out.tokens (json_tokens j) (members_tokens ms) _ done.ok.2 refl),
       done.before ∙ c.key.ensures.room.0 ∙ l.invariant.5,
       omega (arith, l.invariant.6),
     )

@@ -11,7 +11,7 @@ use Rattle.apply_plan_terraform.proofs.texts.items.read_each.Goals as goal
 
 pub items-init : goal.items-init
 items-init c =
-    (length c.args.reader.now, omega arith, (λ js. js), unchanged _, (λ js. ap (λ vs. map view vs ++ items_of js) (sym c.new-found.ensures.items)), omega arith)
+    (length c.args.reader.now, omega arith, (λ js. js), unchanged _, (λ js. ap (λ vs. map view vs ++ items_of js) (sym c.new-collected.ensures.items)), omega arith)
 
 pub items-preserved : goal.items-preserved
 items-preserved c =
@@ -26,12 +26,12 @@ items-preserved c =
     let r = c.read.new.reader in
     let less : length r < length l.reader = rw (← going.1) done.shorter in
     let read : p l.reader ≡ Some (j, r) = rw (← going.1) done.ok.1 in
-    let pushed : c.push.new.self.items ≡ l.found.items ++ v ∷ [] = grind arith in (
+    let pushed : c.push.new.self.items ≡ l.collected.items ++ v ∷ [] = grind arith in (
       n - 1,
       omega (arith, l.invariant.1),
       (λ js. front (item j js)),
       l.invariant.3 ∙ ap (parse_map front) (items_more p n l.reader r j (omega (arith, l.invariant.1)) going.0 read) ∙ fused front (item j) _,
-      (λ js. l.invariant.4 (item j js) ∙ grown l.found.items c.push.new.self.items v (with_texts part.Diagnostic j) (items_of js) pushed done.ok.2),
+      (λ js. l.invariant.4 (item j js) ∙ grown l.collected.items c.push.new.self.items v (with_texts part.Diagnostic j) (items_of js) pushed done.ok.2),
       omega (arith, l.invariant.5),
     )
 
@@ -51,5 +51,5 @@ returns-clause-ok c =
     let r = c.take_end_array.new.self in (
       l.invariant.2 no_items,
       l.invariant.3 ∙ ap (parse_map l.invariant.2) (items_end p l.invariant.0 l.reader r l.invariant.1 c.items-test.ensures),
-      sym (l.invariant.4 no_items ∙ append-nil (map view l.found.items)),
+      sym (l.invariant.4 no_items ∙ append-nil (map view l.collected.items)),
     )

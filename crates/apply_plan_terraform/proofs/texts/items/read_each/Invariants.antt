@@ -8,7 +8,7 @@ abbrev pub invariant-items : goal.invariant-items
 invariant-items l =
     (n : ℕ) × (length l.reader ≤ n) × (front : Items → Items)
     × (items (value l.depth) (length l.initial.reader) l.initial.reader ≡ parse_map front (items (value l.depth) n l.reader))
-    × ((js : Items) → items_of (front js) ≡ map view l.found.items ++ items_of js)
+    × ((js : Items) → items_of (front js) ≡ map view l.collected.items ++ items_of js)
     × (length l.reader ≤ length l.initial.reader)
 
 abbrev pub decreases-items : goal.decreases-items

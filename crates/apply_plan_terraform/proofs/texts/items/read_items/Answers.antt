@@ -10,15 +10,15 @@ returns-in_default-clause-ok c =
     let none = if_none _ _ c.next.result c.in_default.is c.next.ensures.value in
     sym (of_nothing c.args.text.now (sym c.in_ok-reader.ensures.ok ∙ none.0))
 
-pub returns-in_err-found-in-BeginArray-clause-err : goal.returns-in_err-found-in-BeginArray-clause-err
-returns-in_err-found-in-BeginArray-clause-err c =
+pub returns-in_err-collected-in-BeginArray-clause-err : goal.returns-in_err-collected-in-BeginArray-clause-err
+returns-in_err-collected-in-BeginArray-clause-err c =
     let first = if_some _ _ c.next.result c.in-Some.token c.in-Some.is c.next.ensures.value in
     λ refused. of_broken c.args.text.now c.in-Some.token c.next.new.self (sym c.in_ok-reader.ensures.ok ∙ first) c.in-BeginArray.is (c.read_each.ensures.err (grind arith))
 
 pub returns-then-is_some-clause-ok : goal.returns-then-is_some-clause-ok
 returns-then-is_some-clause-ok c =
     let first = if_some _ _ c.next.result c.in-Some.token c.in-Some.is c.next.ensures.value in
-    let read = c.in_ok-found-in-BeginArray.ensures.ok in
+    let read = c.in_ok-collected-in-BeginArray.ensures.ok in
     let left : is_some c.next-in-BeginArray.result ≡ true = grind arith in
     let more = one_left c.next-in-BeginArray.result c.read_each.new.reader c.next-in-BeginArray.new.self left c.next-in-BeginArray.ensures.value in
     sym (of_more c.args.text.now c.in-Some.token c.next.new.self (sym c.in_ok-reader.ensures.ok ∙ first) c.in-BeginArray.is read.0 c.read_each.new.reader more.0 c.next-in-BeginArray.new.self read.1 more.1)
@@ -26,7 +26,7 @@ returns-then-is_some-clause-ok c =
 pub returns-in-BeginArray-clause-ok : goal.returns-in-BeginArray-clause-ok
 returns-in-BeginArray-clause-ok c =
     let first = if_some _ _ c.next.result c.in-Some.token c.in-Some.is c.next.ensures.value in
-    let read = c.in_ok-found-in-BeginArray.ensures.ok in
+    let read = c.in_ok-collected-in-BeginArray.ensures.ok in
     let left : is_some c.next-in-BeginArray.result ≡ false = grind arith in
     let last = none_left c.next-in-BeginArray.result c.read_each.new.reader c.next-in-BeginArray.new.self left c.next-in-BeginArray.ensures.value in
     ap some read.2 ∙ sym (of_whole c.args.text.now c.in-Some.token c.next.new.self (sym c.in_ok-reader.ensures.ok ∙ first) c.in-BeginArray.is read.0 c.read_each.new.reader read.1 last)

@@ -5,17 +5,17 @@ use Rattle.serde_json.specs.Data as tree
 use Rattle.serde_json.specs.Data.{put}
 use Rattle.apply_json.proofs.Turns.{key_named}
 use Rattle.apply_plan_terraform.specs.declared.texts.part.Part.TheVariants as part
-use Rattle.apply_plan_terraform.specs.Kept.{put_all, view}
+use Rattle.apply_plan_terraform.specs.StoredOutputs.{put_all, view}
 use Rattle.apply_plan_terraform.specs.Texts.{members_with_texts}
 use Rattle.apply_plan_terraform.proofs.Copying.{unchanged}
-use Rattle.apply_plan_terraform.proofs.KeptOutputs.{put_last}
-use Rattle.apply_plan_terraform.proofs.KeptTexts.{named}
+use Rattle.apply_plan_terraform.proofs.StoredMembers.{put_last}
+use Rattle.apply_plan_terraform.proofs.RawTexts.{named}
 use Rattle.apply_plan_terraform.proofs.MemberTurns.{no_key, no_value, over, turn}
 use Rattle.apply_plan_terraform.proofs.texts.outputs.read_each.Goals as goal
 
 pub members-init : goal.members-init
 members-init c =
-    (length c.args.reader.now, omega arith, (λ ms. ms), unchanged _, (λ ms. ap (λ es. members_with_texts part.Outputs ms (put_all es tree.no_members)) (sym c.new-found.ensures.items)), omega arith)
+    (length c.args.reader.now, omega arith, (λ ms. ms), unchanged _, (λ ms. ap (λ es. members_with_texts part.Outputs ms (put_all es tree.no_members)) (sym c.new-collected.ensures.items)), omega arith)
 
 pub returns-in_err-name-clause-err : goal.returns-in_err-name-clause-err
 returns-in_err-name-clause-err c =
@@ -45,10 +45,10 @@ members-preserved c =
     let less = read_key-shorter l.reader (Some k) s key in
     let lesser = done.shorter in
     let copied : string_bytes c.in_ok-key.key ≡ k = search rules in
-    let old = put_all l.found.items tree.no_members in
-    let pushed : c.push.new.self.items ≡ l.found.items ++ (c.in_ok-key.key, v) ∷ [] = grind arith in
+    let old = put_all l.collected.items tree.no_members in
+    let pushed : c.push.new.self.items ≡ l.collected.items ++ (c.in_ok-key.key, v) ∷ [] = grind arith in
     let inserted : put_all c.push.new.self.items tree.no_members ≡ put k (view v) old =
-    ap (λ es. put_all es tree.no_members) pushed ∙ put_last l.found.items (c.in_ok-key.key, v) tree.no_members ∙ ap (λ name. put name (view v) old) copied in (
+    ap (λ es. put_all es tree.no_members) pushed ∙ put_last l.collected.items (c.in_ok-key.key, v) tree.no_members ∙ ap (λ name. put name (view v) old) copied in (
       n - 1,
       omega (arith, l.invariant.1),
       (λ ms. front (member k j ms)),

@@ -4,16 +4,16 @@ use Rattle.json.proofs.Grammar.{left_none, left_some, read_key-shorter}
 use Rattle.serde_json.specs.Data.{put, string}
 use Rattle.apply_json.proofs.Turns.{key_named}
 use Rattle.apply_plan_terraform.specs.declared.texts.part.Part.TheVariants as part
-use Rattle.apply_plan_terraform.specs.Kept.{members_of_output}
+use Rattle.apply_plan_terraform.specs.StoredOutputs.{members_of_output}
 use Rattle.apply_plan_terraform.specs.Texts.{members_with_texts}
 use Rattle.apply_plan_terraform.proofs.Copying.{unchanged}
-use Rattle.apply_plan_terraform.proofs.KeptTexts.{kept_text, named, not_named}
+use Rattle.apply_plan_terraform.proofs.RawTexts.{raw_text, named, not_named}
 use Rattle.apply_plan_terraform.proofs.MemberTurns.{no_key, no_value, over, turn}
 use Rattle.apply_plan_terraform.proofs.texts.outputs.read_members.Goals as goal
 
 pub members-init : goal.members-init
 members-init c =
-    (length c.args.reader.now, omega arith, (λ ms. ms), unchanged _, (λ ms. ap (members_with_texts part.Output ms) (sym c.none-found.ensures)), omega arith)
+    (length c.args.reader.now, omega arith, (λ ms. ms), unchanged _, (λ ms. ap (members_with_texts part.Output ms) (sym c.none-collected.ensures)), omega arith)
 
 pub returns-in_err-name-clause-err : goal.returns-in_err-name-clause-err
 returns-in_err-name-clause-err c =
@@ -41,16 +41,16 @@ members-preserved-in-Some-named c =
     let r = c.read_as_text.new.reader in
     let less = read_key-shorter l.reader (Some k) s key in
     let lesser = done.shorter in
-    let old = members_of_output l.found in
-    let said = c.in-Some-named.ensures in
+    let old = members_of_output l.collected in
+    let facts = c.in-Some-named.ensures in
     let grown : members_of_output c.put.new.self ≡ put k (string (string_bytes c.in_ok-text-in-Some-named.text)) old =
-    c.put.ensures ∙ ap (λ name. put name (string (string_bytes c.in_ok-text-in-Some-named.text)) old) said.name in (
+    c.put.ensures ∙ ap (λ name. put name (string (string_bytes c.in_ok-text-in-Some-named.text)) old) facts.name in (
       n - 1,
       omega (arith, l.invariant.1),
       (λ ms. front (member k j ms)),
       turn (value c.args.depth) _ front n l.reader l.invariant.3 k s r j (omega (arith, l.invariant.1)) key done.ok.1,
       (λ ms. l.invariant.4 (member k j ms)
-          ∙ named part.Output part.Text k j ms old (members_of_output c.put.new.self) said.part (grown ∙ ap (λ d. put k d old) (ap string done.ok.2 ∙ sym (kept_text j)))),
+          ∙ named part.Output part.Text k j ms old (members_of_output c.put.new.self) facts.part (grown ∙ ap (λ d. put k d old) (ap string done.ok.2 ∙ sym (raw_text j)))),
       omega (arith, l.invariant.5),
     )
 
@@ -71,7 +71,7 @@ members-preserved c =
       omega (arith, l.invariant.1),
       (λ ms. front (member k j ms)),
       turn (value c.args.depth) _ front n l.reader l.invariant.3 k s r j (omega (arith, l.invariant.1)) key passed.1,
-      (λ ms. l.invariant.4 (member k j ms) ∙ not_named part.Output k j ms (members_of_output l.found) c.in-None.ensures.part),
+      (λ ms. l.invariant.4 (member k j ms) ∙ not_named part.Output k j ms (members_of_output l.collected) c.in-None.ensures.part),
       omega (arith, l.invariant.5),
     )
 

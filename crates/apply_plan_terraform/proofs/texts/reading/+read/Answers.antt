@@ -9,13 +9,13 @@ use Rattle.apply_json.proofs.Turns.{key_named}
 use Rattle.apply_plan_terraform.specs.Texts.{members_with_texts}
 use Rattle.apply_plan_terraform.proofs.Beginnings.{if_none, if_some}
 use Rattle.apply_plan_terraform.proofs.Copying.{fused, unchanged}
-use Rattle.apply_plan_terraform.proofs.KeptTexts.{kept_whole, looked_into, named, not_named, text_seen}
+use Rattle.apply_plan_terraform.proofs.RawTexts.{stored_whole, looked_into, named, not_named, shallow_text}
 use Rattle.apply_plan_terraform.proofs.texts.reading.+read.Goals as goal
 
 pub read-returns-then-is_text-clause-ok : goal.read-returns-then-is_text-clause-ok
 read-returns-then-is_text-clause-ok t c =
     let done = c.in_ok-read_as_text.ensures.ok in
-    (done.0, done.1, text_seen c.in_ok-read_as_text.field-0 ∙ ap tree.string done.2 ∙ sym (kept_whole c.args.part done.0 (grind arith)))
+    (done.0, done.1, shallow_text c.in_ok-read_as_text.field-0 ∙ ap tree.string done.2 ∙ sym (stored_whole c.args.part done.0 (grind arith)))
 
 pub read-returns-in_err-read_members-in-None-clause-err : goal.read-returns-in_err-read_members-in-None-clause-err
 read-returns-in_err-read_members-in-None-clause-err t c =
@@ -34,11 +34,11 @@ read-returns-in_ok-read_members-in-None-clause-ok t c =
 pub read-returns-in-Some-clause-ok : goal.read-returns-in-Some-clause-ok
 read-returns-in-Some-clause-ok t c =
     let begun = if_some _ _ c.in_ok-begin.field-0 c.in-Some.text c.in-Some.is c.in_ok-begin.ensures.ok in
-    (begun.0, begun.1, text_seen c.in-Some.text ∙ sym (begun.2 c.args.part))
+    (begun.0, begun.1, shallow_text c.in-Some.text ∙ sym (begun.2 c.args.part))
 
 pub read_members-members-init : goal.read_members-members-init
 read_members-members-init t c =
-    (length c.args.reader.now, omega arith, (λ ms. ms), unchanged _, (λ ms. ap (members_with_texts c.args.part ms) (sym (ap members_view c.new-found.ensures.empty))), omega arith)
+    (length c.args.reader.now, omega arith, (λ ms. ms), unchanged _, (λ ms. ap (members_with_texts c.args.part ms) (sym (ap members_view c.new-collected.ensures.empty))), omega arith)
 
 pub read_members-returns-in_err-name-clause-err : goal.read_members-returns-in_err-name-clause-err
 read_members-returns-in_err-name-clause-err t c =
@@ -69,9 +69,9 @@ read_members-members-preserved-in-Some-named t c =
     let less = read_key-shorter l.reader (Some k) s key in
     let lesser = done.shorter in
     let copied : string_bytes c.in_ok-key-in-Some-named.key ≡ k = search rules in
-    let old = members_view l.found.entries in
+    let old = members_view l.collected.entries in
     let inserted : members_view c.insert.new.self.entries ≡ put k (view v) old =
-    ap members_view c.in_ok-insert-in-Some-named.ensures.entries ∙ members_view-insert_entry l.found.entries c.in_ok-key-in-Some-named.key v ∙ ap (λ name. put name (view v) old) copied in
+    ap members_view c.in_ok-insert-in-Some-named.ensures.entries ∙ members_view-insert_entry l.collected.entries c.in_ok-key-in-Some-named.key v ∙ ap (λ name. put name (view v) old) copied in
     let turn = l.invariant.3 ∙ ap (parse_map front) (members_more p n k l.reader s r j (omega (arith, l.invariant.1)) key done.ok.1) ∙ fused front (member k j) _ in (
       n - 1,
       omega (arith, l.invariant.1),
@@ -101,7 +101,7 @@ read_members-members-preserved t c =
       omega (arith, l.invariant.1),
       (λ ms. front (member k j ms)),
       turn,
-      (λ ms. l.invariant.4 (member k j ms) ∙ not_named c.args.part k j ms (members_view l.found.entries) c.in-None.ensures),
+      (λ ms. l.invariant.4 (member k j ms) ∙ not_named c.args.part k j ms (members_view l.collected.entries) c.in-None.ensures),
       omega (arith, l.invariant.5),
     )
 

@@ -15,7 +15,7 @@ abbrev pub invariant-read_members-members : goal.invariant-read_members-members
 invariant-read_members-members l =
     (n : ℕ) × (length l.reader ≤ n) × (front : Members → Members)
     × (members (value l.depth) (length l.initial.reader) l.initial.reader ≡ parse_map front (members (value l.depth) n l.reader))
-    × ((ms : Members) → members_with_texts l.part (front ms) no_members ≡ members_with_texts l.part ms (members_view l.found.entries))
+    × ((ms : Members) → members_with_texts l.part (front ms) no_members ≡ members_with_texts l.part ms (members_view l.collected.entries))
     × (length l.reader ≤ length l.initial.reader)
 
 abbrev pub decreases-read_members-members : goal.decreases-read_members-members

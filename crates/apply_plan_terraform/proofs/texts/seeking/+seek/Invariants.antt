@@ -1,7 +1,7 @@
 use Rattle.std.proofs.Common.{◌≡◌, ℕ, ◌+◌, ◌*◌, ◌≤◌, length}
 use Rattle.json.specs.Json.{Members, members, value, parse_map}
 use Rattle.serde_json.specs.Data as tree
-use Rattle.apply_plan_terraform.specs.Sought.{IsSoughtIn}
+use Rattle.apply_plan_terraform.specs.Sections.{AreSectionsOf}
 use Rattle.apply_plan_terraform.specs.Texts.{members_with_texts}
 use Rattle.apply_plan_terraform.proofs.texts.seeking.+seek.Given as goal
 
@@ -17,7 +17,7 @@ invariant-seek_in_members-members l =
     × (members (value l.depth) (length l.initial.reader) l.initial.reader ≡ parse_map front (members (value l.depth) n l.reader))
     × (passed : tree.Members)
     × ((ms : Members) → members_with_texts l.part (front ms) tree.no_members ≡ members_with_texts l.part ms passed)
-    × IsSoughtIn l.part (tree.object passed) l.found
+    × AreSectionsOf l.part (tree.object passed) l.collected
     × (length l.reader ≤ length l.initial.reader)
 
 abbrev pub decreases-seek_in_members-members : goal.decreases-seek_in_members-members

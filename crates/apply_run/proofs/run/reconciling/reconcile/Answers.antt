@@ -5,7 +5,7 @@ use Rattle.std.proofs.lemmas.Bool.Decides.{nat_tests}
 use Rattle.std.proofs.lemmas.Grind.{common_steps}
 use Rattle.apply_events.specs.Partition.{NamesEachWorkerOnce}
 use Rattle.apply_bus.specs.Bus.{Account, IsTakenInPart, IsTakenWhole, NamesWorkersBelow, sent_list_of}
-use Rattle.apply_bus.specs.Claims.{ClaimsName, Drawing, Gathered, IsDealtOut, lists_drawn}
+use Rattle.apply_bus.specs.Claims.{ClaimsName, Drawing, JoinedDrawers, IsDealtOut, lists_drawn}
 use Rattle.apply_bus.specs.Items.{closes}
 use Rattle.apply_bus.specs.declared.item.Item.{Item}
 use Rattle.apply_run.specs.Run.Reconciled.{IsReconciled, IsReconciledWhole}
@@ -29,12 +29,12 @@ pub loop-worker-preserved : goal.loop-worker-preserved
 loop-worker-preserved g c =
     let i = c.loop-worker.invariant in let joined = c.join_sender-closed.ensures in
     let work = g.K.RunName.work in let claims = g.K.RunName.claims in let bus = g.K.RunName.bus in let taken = c.args.taken.taken in
-    let yielded = c.loop-worker.yielded in let stopped = c.in-Some.worker in let drawing = c.draw_all.new.drawer in let before = c.loop-worker.gathering.drawings in
+    let yielded = c.loop-worker.yielded in let stopped = c.in-Some.worker in let drawing = c.draw_all.new.drawer in let before = c.loop-worker.drawer_join.drawings in
     let F : ℕ → Drawing → Type 0 = IsReconciled work taken in
     let W : ℕ → Drawing → Type 0 = IsReconciledWhole work taken in
     let split = sym (ap (λ l. yielded ++ l) c.in-Some.ensures.steps.0) ∙ i.left in
     let did = each_at (IsStoppedWorker work claims bus) c.args.stopped.items yielded (into_iter_items c.next.new.self) stopped split c.requires.stopped in
-    let drawings = ap (λ (a : Gathered). a.drawings) c.join.ensures in
+    let drawings = ap (λ (a : JoinedDrawers). a.drawings) c.join.ensures in
     let part : IsTakenInPart taken (sent_list_of (sender_of stopped.sender)) = subst (λ l. IsTakenInPart l (sent_list_of (sender_of stopped.sender))) i.taken joined.part in
     record {
       left = grind (arith, common_steps);
@@ -42,7 +42,7 @@ loop-worker-preserved g c =
       bus = ap (λ (a : Account). a.bus) joined.joined ∙ i.bus;
       workers = ap (λ (a : Account). a.workers) joined.joined ∙ i.workers;
       taken = ap (λ (a : Account). a.taken) joined.joined ∙ i.taken;
-      claims = ap (λ (a : Gathered). a.claims) c.join.ensures ∙ i.claims;
+      claims = ap (λ (a : JoinedDrawers). a.claims) c.join.ensures ∙ i.claims;
       here = ap length drawings ∙ length-append before (drawing ∷ []) ∙ ap (λ n. n + 1) i.here ∙ sym (length-append yielded (stopped ∷ []));
       part = subst (EachAt F) (sym drawings) (each_snoc F before drawing i.part
           (subst (λ k. F k drawing) (sym i.here) (reconciled work claims bus (length yielded) stopped drawing taken did c.draw_all.ensures.same.1 c.draw_all.ensures.met_none c.draw_all.ensures.more part)));
@@ -55,15 +55,15 @@ loop-worker-preserved g c =
 
 pub finish-requires-clause-each : goal.finish-requires-clause-each
 finish-requires-clause-each g c =
-    let i = c.loop-worker.invariant in let drawings = c.loop-worker.gathering.drawings in
+    let i = c.loop-worker.invariant in let drawings = c.loop-worker.drawer_join.drawings in
     let seen = all_seen c.loop-worker.yielded (into_iter_items c.loop-worker.worker-iterator) c.args.stopped.items (into_iter_len c.loop-worker.worker-iterator) i.left i.count c.in-None.ensures.steps.0 in
     let count : length drawings ≡ c.args.claims.now.workers = i.here ∙ ap length seen ∙ c.requires.workers.1 ∙ ap (λ (n : ClaimsName). n.workers) (sym c.requires.claims) in
-    subst (NamesEachWorkerOnce c.loop-worker.gathering.claims.workers) (ap (range_with_len 0) (ap (λ (n : ClaimsName). n.workers) i.claims ∙ sym count) ∙ sym (joined_in_order g.K.RunName.work c.args.taken.taken drawings i.part))
-    (c.workers_in_order_stand_once.ensures c.loop-worker.gathering.claims.workers)
+    subst (NamesEachWorkerOnce c.loop-worker.drawer_join.claims.workers) (ap (range_with_len 0) (ap (λ (n : ClaimsName). n.workers) i.claims ∙ sym count) ∙ sym (joined_in_order g.K.RunName.work c.args.taken.taken drawings i.part))
+    (c.workers_in_order_stand_once.ensures c.loop-worker.drawer_join.claims.workers)
 
 pub returns-clause-applied : goal.returns-clause-applied
 returns-clause-applied g c =
-    let i = c.loop-worker.invariant in let drawings = c.loop-worker.gathering.drawings in let claims = g.K.RunName.claims in
+    let i = c.loop-worker.invariant in let drawings = c.loop-worker.drawer_join.drawings in let claims = g.K.RunName.claims in
     let seen = all_seen c.loop-worker.yielded (into_iter_items c.loop-worker.worker-iterator) c.args.stopped.items (into_iter_len c.loop-worker.worker-iterator) i.left i.count c.in-None.ensures.steps.0 in
     let count : length drawings ≡ claims.workers = i.here ∙ ap length seen ∙ c.requires.workers.1 in
     let named : NamesWorkersBelow claims.workers c.args.taken.taken = subst₂ NamesWorkersBelow (i.workers ∙ c.requires.workers.0) i.taken c.open_left-left.ensures.named in
@@ -80,7 +80,7 @@ returns-clause-applied g c =
 
 pub returns-clause-fits : goal.returns-clause-fits
 returns-clause-fits g c =
-    let i = c.loop-worker.invariant in let drawings = c.loop-worker.gathering.drawings in let claims = g.K.RunName.claims in
+    let i = c.loop-worker.invariant in let drawings = c.loop-worker.drawer_join.drawings in let claims = g.K.RunName.claims in
     let seen = all_seen c.loop-worker.yielded (into_iter_items c.loop-worker.worker-iterator) c.args.stopped.items (into_iter_len c.loop-worker.worker-iterator) i.left i.count c.in-None.ensures.steps.0 in
     let count : length drawings ≡ claims.workers = i.here ∙ ap length seen ∙ c.requires.workers.1 in
     let named : NamesWorkersBelow claims.workers c.args.taken.taken = subst₂ NamesWorkersBelow (i.workers ∙ c.requires.workers.0) i.taken c.open_left-left.ensures.named in

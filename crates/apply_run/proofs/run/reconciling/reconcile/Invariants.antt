@@ -13,8 +13,8 @@ invariant-loop-worker g l = record {
   bus : l.taken.bus ≡ l.fn.taken.bus;
   workers : l.taken.workers ≡ l.fn.taken.workers;
   taken : l.taken.taken ≡ l.fn.taken.taken;
-  claims : l.gathering.claims ≡ l.fn.claims;
-  here : length l.gathering.drawings ≡ length l.yielded;
-  part : EachAt (IsReconciled g.K.RunName.work l.fn.taken.taken) l.gathering.drawings;
-  whole : l.closed ≡ true → closes l.fn.taken.taken ≡ l.fn.taken.workers → EachAt (IsReconciledWhole g.K.RunName.work l.fn.taken.taken) l.gathering.drawings;
+  claims : l.drawer_join.claims ≡ l.fn.claims;
+  here : length l.drawer_join.drawings ≡ length l.yielded;
+  part : EachAt (IsReconciled g.K.RunName.work l.fn.taken.taken) l.drawer_join.drawings;
+  whole : l.closed ≡ true → closes l.fn.taken.taken ≡ l.fn.taken.workers → EachAt (IsReconciledWhole g.K.RunName.work l.fn.taken.taken) l.drawer_join.drawings;
 }

@@ -13,6 +13,6 @@ invariant_of-self-2 c = subst IsUtf8 (sym c.extend_from_slice.ensures.items) (gr
 pub returns-clause-ok : goal.returns-clause-ok
 returns-clause-ok c =
     let change = c.args.change.now in
-    let is = c.as_bytes.ensures.value ∙ c.as_str.ensures.value ∙ c.in_ok-put_line.ensures ∙ pieces_are change c.args.step (c.seconds.result + c.args.latest) c.args.seconds
-    ∙ ap (λ start. message_line (start + c.args.latest) (progress_message change c.args.step c.args.seconds)) c.seconds.ensures.value in
+    let is = c.as_bytes.ensures.value ∙ c.as_str.ensures.value ∙ c.in_ok-put_line.ensures ∙ pieces_are change c.args.step (c.seconds.result + c.args.clock) c.args.seconds
+    ∙ ap (λ start. message_line (start + c.args.clock) (progress_message change c.args.step c.args.seconds)) c.seconds.ensures.value in
     on_ok_weaker c.extend_from_slice.result (λ e. e ∙ ap₂ (λ old line. old ++ line) c.self.view_is is) (appended c.extend_from_slice.result c.self.inside.bytes.items c.extend_from_slice.new.self.items c.as_bytes.result.now c.extend_from_slice.ensures.items)

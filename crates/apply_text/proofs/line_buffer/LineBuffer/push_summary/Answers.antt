@@ -5,4 +5,4 @@ use Rattle.apply_text.proofs.line_buffer.LineBuffer.push_summary.Goals as goal
 pub returns-clause-ok : goal.returns-clause-ok
 returns-clause-ok c =
     line_added c.end_line.result _ _ _ _ _ _ _ _ (c.put_summary-written.ensures.before ∙ c.begin_line-out.ensures.before) c.begin_line-out.ensures.tokens c.put_summary-written.ensures.ok c.end_line.ensures.ok
-    (message_is _ _ _ c.new-moment.ensures)
+    (message_is _ _ _ c.new-timestamp.ensures)

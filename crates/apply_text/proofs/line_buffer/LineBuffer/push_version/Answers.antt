@@ -5,4 +5,4 @@ use Rattle.apply_text.proofs.line_buffer.LineBuffer.push_version.Goals as goal
 pub returns-clause-ok : goal.returns-clause-ok
 returns-clause-ok c =
     line_added c.end_line.result _ _ _ _ _ _ _ _ (c.put_version-written.ensures.before ∙ c.begin_line-out.ensures.before) c.begin_line-out.ensures.tokens c.put_version-written.ensures.ok c.end_line.ensures.ok
-    (version_is c.args.plan.now c.args.start _ _ c.version.ensures c.new-moment.ensures)
+    (version_is c.args.plan.now c.args.start _ _ c.version.ensures c.new-timestamp.ensures)

@@ -1,7 +1,7 @@
 use Rattle.std.proofs.Common.{ap}
 use Rattle.apply_text.specs.Objects.{key_data}
 use Rattle.apply_text.specs.Sending.{data_tokens}
-use Rattle.apply_text.proofs.Sending.{one, then_one, then_said, then_text}
+use Rattle.apply_text.proofs.Sending.{one, then_one, then_sends_same, then_text}
 use Rattle.apply_text_terraform.specs.Objects.{resource_object}
 use Rattle.apply_text_terraform.proofs.objects.resource_object.put_resource.Goals as goal
 
@@ -17,5 +17,5 @@ returns c =
     (then_text _ _ _ _ c.kind_name.ensures c.in_ok-put_text-5.ensures
     (then_text _ _ _ _ c.name.ensures c.in_ok-put_text-6.ensures
     (then_one _ _ c.in_ok-key-2.ensures
-    (then_said _ _ _ (ap (λ k. data_tokens (key_data k)) c.key-3.ensures) c.in_ok-put_key.ensures
+    (then_sends_same _ _ _ (ap (λ k. data_tokens (key_data k)) c.key-3.ensures) c.in_ok-put_key.ensures
     (one c.end_object.ensures))))))))))

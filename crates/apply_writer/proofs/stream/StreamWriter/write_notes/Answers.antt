@@ -2,7 +2,7 @@ use Rattle.std.proofs.Common.{◌≡◌, ◌<◌, ◌≤◌, ◌+◌, ◌++◌, 
 use Rattle.std.proofs.lemmas.List.{take_more}
 use Rattle.std.proofs.lemmas.List.Elements.{All-get_or}
 use Rattle.apply_events.specs.Fits.{IsOfPlan}
-use Rattle.apply_writer.specs.Stream.Telling.{HasLines, telling_of}
+use Rattle.apply_writer.specs.Stream.WriterState.{HasLines, writer_state}
 use Rattle.apply_writer.proofs.stream.StreamWriter.write_notes.Goals as goal
 
 pub loop-place-init : goal.loop-place-init
@@ -17,7 +17,7 @@ loop-place-init g c =
       few = omega (arith, c.requires.written);
       may_fail = c.requires.may_fail;
       written = λ before failures events was.
-          subst (λ es. HasLines (g.F.FormLines.form s.lines) before failures es (telling_of g.S.Sink.bytes g.S.Sink.failed s)) (sym (append-nil events)) was;
+          subst (λ es. HasLines (g.F.FormLines.form s.lines) before failures es (writer_state g.S.Sink.bytes g.S.Sink.failed s)) (sym (append-nil events)) was;
     }
 
 pub write_event-requires-clause-event : goal.write_event-requires-clause-event
@@ -44,14 +44,14 @@ loop-place-preserved g c =
     let written = rw i.same at w.written in
     record {
       same = w.same ∙ i.same;
-      notes = w.told.2 ∙ i.notes;
-      counts = w.told.0 ∙ i.counts;
-      taken = w.told.1 ∙ i.taken;
+      notes = w.accepted.2 ∙ i.notes;
+      counts = w.accepted.0 ∙ i.counts;
+      taken = w.accepted.1 ∙ i.taken;
       in_time = w.in_time;
       few = omega (arith, w.more, i.few);
       may_fail = w.may_fail;
       written = λ before failures events was.
-          subst (λ es. HasLines (g.F.FormLines.form s.lines) before failures es (telling_of g.S.Sink.bytes g.S.Sink.failed c.write_event.new.self))
+          subst (λ es. HasLines (g.F.FormLines.form s.lines) before failures es (writer_state g.S.Sink.bytes g.S.Sink.failed c.write_event.new.self))
           (append_assoc events (take place notes) (note ∷ []) ∙ ap (λ l. events ++ l) so_far)
           (written before failures (events ++ take place notes) (i.written before failures events was));
     }
@@ -61,7 +61,7 @@ returns-clause-written g c before failures events was =
     let i = c.loop-place.invariant in
     let s = c.args.self.now in let notes = s.notes.items in
     let all : length notes ≤ c.loop-place.place = omega (arith, c.loop-place-test.false, c.len-place-end.ensures, s.notes.ok.0) in
-    subst (λ es. HasLines (g.F.FormLines.form s.lines) before failures es (telling_of g.S.Sink.bytes g.S.Sink.failed c.loop-place.self))
+    subst (λ es. HasLines (g.F.FormLines.form s.lines) before failures es (writer_state g.S.Sink.bytes g.S.Sink.failed c.loop-place.self))
     (ap (λ l. events ++ l) (take_all c.loop-place.place notes all)) (i.written before failures events was)
 
 pub returns-clause-may_write : goal.returns-clause-may_write
@@ -73,8 +73,8 @@ returns-clause-may_write g c =
       may_fail = i.may_fail;
     }
 
-pub returns-clause-told : goal.returns-clause-told
-returns-clause-told g c = (c.loop-place.invariant.counts, c.loop-place.invariant.taken)
+pub returns-clause-accepted : goal.returns-clause-accepted
+returns-clause-accepted g c = (c.loop-place.invariant.counts, c.loop-place.invariant.taken)
 
 pub returns-clause-same : goal.returns-clause-same
 returns-clause-same g c = c.loop-place.invariant.same

@@ -3,7 +3,7 @@ use Rattle.std.proofs.lemmas.Result.{IfOk-weaker}
 use Rattle.clap.specs.Simple.{App, app_of, app_of_fields, new_app, on_top}
 use Rattle.input_validate_cli.proofs.command.arguments.command.Goals as goal
 
--- the command before its options, whose words are those behind `validate`
+-- the command without its options; its words are those after `validate`
 abbrev no_options : App
 no_options = on_top (λ shape. record shape { no_binary_name = true }) (new_app (codes "applystream validate"))
 

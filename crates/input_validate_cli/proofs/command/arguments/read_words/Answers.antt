@@ -1,18 +1,18 @@
 use Rattle.std.proofs.Common.{List, inr, subst}
 use Rattle.clap.specs.Walk.{Row}
-use Rattle.input_validate_cli.specs.CommandLine.{AreSaid, command_line}
+use Rattle.input_validate_cli.specs.CommandLine.{AreStated, command_line}
 use Rattle.input_validate_cli.proofs.Parsed.{line_is_free, line_is_simple}
 use Rattle.input_validate_cli.proofs.command.arguments.read_words.Goals as goal
 
-pub returns-in_ok-settings_of-in-Ok-clause-said : goal.returns-in_ok-settings_of-in-Ok-clause-said
-returns-in_ok-settings_of-in-Ok-clause-said c =
+pub returns-in_ok-settings_of-in-Ok-clause-stated : goal.returns-in_ok-settings_of-in-Ok-clause-stated
+returns-in_ok-settings_of-in-Ok-clause-stated c =
     let made = c.in_ok-command.ensures in
-    let is = c.in-Ok.ensures.said (command_line made.0) made.2 (line_is_simple made.0) (line_is_free made.0) in
+    let is = c.in-Ok.ensures.stated (command_line made.0) made.2 (line_is_simple made.0) (line_is_free made.0) in
     record {
       forms = made.0;
       are_forms = made.1;
-      taken = is.0;
-      said = subst (λ (rows : List Row). AreSaid rows c.in_ok-settings_of-in-Ok.field-0) is.1 c.in_ok-settings_of-in-Ok.ensures;
+      valid = is.0;
+      stated = subst (λ (rows : List Row). AreStated rows c.in_ok-settings_of-in-Ok.field-0) is.1 c.in_ok-settings_of-in-Ok.ensures;
     }
 
 pub returns-in-Err-clause-refused : goal.returns-in-Err-clause-refused

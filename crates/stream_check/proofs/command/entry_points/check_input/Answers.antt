@@ -5,10 +5,10 @@ use Rattle.std.specs.Io.KnownBytes.{prepend_known}
 use Rattle.std.proofs.KnownBytes.{Keeps-trans}
 use Rattle.stream_lines.specs.Cut.{cut_lines}
 use Rattle.stream_check.specs.Reading.{IsAnswer}
-use Rattle.stream_check.specs.Telling.{IsTold}
+use Rattle.stream_check.specs.Reports.{IsReported}
 use Rattle.stream_check.specs.declared.rules.mode.Mode.{Mode}
 use Rattle.stream_check.specs.declared.verdict.read_fault.ReadFault.TheVariants as read
-use Rattle.stream_check.proofs.Statuses.{bad, fault_told, no_finding, not_gone, status_most}
+use Rattle.stream_check.proofs.Statuses.{bad, fault_reported, no_finding, not_gone, status_most}
 use Rattle.stream_check.proofs.command.entry_points.check_input.Goals as goal
 
 -- want of memory answers nothing, whatever the input holds
@@ -20,12 +20,12 @@ pub returns-in_default : goal.returns-in_default
 returns-in_default g c =
     rw (c.of.ensures) (record {
       answer = no_answer c.args.mode (g.R.Read.remaining c.args.input.now);
-      told = fault_told (is_some c.args.name) c.args.mode (g.R.Read.remaining c.args.input.now) c.args.form read.Memory c.refuse-said.result (g.W.Write.contents c.args.out.now) no_finding c.refuse-said.ensures;
+      reported = fault_reported (is_some c.args.name) c.args.mode (g.R.Read.remaining c.args.input.now) c.args.form read.Memory c.refuse-reported.result (g.W.Write.contents c.args.out.now) no_finding c.refuse-reported.ensures;
       status = refl;
-      quiet = bad read.Memory c.refuse-said.result;
-      gone = not_gone c.refuse-said.result (IfErr-weaker c.refuse-said.result _ _ (λ why refused. refused.0) c.refuse-said.ensures);
-      statuses = status_most (Err read.Memory) c.refuse-said.result;
-      read = c.read_on.ensures.read refl;
+      quiet = bad read.Memory c.refuse-reported.result;
+      gone = not_gone c.refuse-reported.result (IfErr-weaker c.refuse-reported.result _ _ (λ why refused. refused.0) c.refuse-reported.ensures);
+      statuses = status_most (Err read.Memory) c.refuse-reported.result;
+      read = c.flush_and_drain.ensures.read refl;
     })
 
 -- a buffer that is new holds nothing yet
@@ -39,7 +39,7 @@ returns-in-Ok-answer g c =
     let given = unread (vec_len reader.buf.buf) (slice_range reader.buf.buf.items reader.buf.start reader.buf.end) (g.R.Read.remaining reader.inner.now) c.in-Ok.ensures.capacity c.in-Ok.ensures.empty ∙ ap (λ inner. g.R.Read.remaining inner.now) c.in-Ok.ensures.inner in
     record {
       answer = subst (λ (known : Option (List ℕ)). IfSome known (λ bytes. IsAnswer c.args.mode (cut_lines bytes) c.check_reader-checked.result.answer)) given c.check_reader-checked.ensures.answer;
-      told = subst (λ (known : Option (List ℕ)). IsTold (is_some c.args.name) c.args.mode known c.args.form c.check_reader-checked.result.answer c.check_reader-checked.result.said (g.W.Write.contents c.args.out.now) (g.W.Write.contents c.check_reader-checked.new.out)) given c.check_reader-checked.ensures.told;
+      reported = subst (λ (known : Option (List ℕ)). IsReported (is_some c.args.name) c.args.mode known c.args.form c.check_reader-checked.result.answer c.check_reader-checked.result.reported (g.W.Write.contents c.args.out.now) (g.W.Write.contents c.check_reader-checked.new.out)) given c.check_reader-checked.ensures.reported;
       status = c.check_reader-checked.ensures.status;
       quiet = c.check_reader-checked.ensures.quiet;
       gone = c.check_reader-checked.ensures.gone;
@@ -53,14 +53,14 @@ returns-in-Err g c =
     let given = unread (vec_len reader.buf.buf) (slice_range reader.buf.buf.items reader.buf.start reader.buf.end) (g.R.Read.remaining reader.inner.now) c.in-Ok.ensures.capacity c.in-Ok.ensures.empty ∙ ap (λ inner. g.R.Read.remaining inner.now) c.in-Ok.ensures.inner in
     record {
       answer = subst (λ (known : Option (List ℕ)). IfSome known (λ bytes. IsAnswer c.args.mode (cut_lines bytes) c.check_reader-checked.result.answer)) given c.check_reader-checked.ensures.answer;
-      told = subst (λ (known : Option (List ℕ)). IsTold (is_some c.args.name) c.args.mode known c.args.form c.check_reader-checked.result.answer c.check_reader-checked.result.said (g.W.Write.contents c.args.out.now) (g.W.Write.contents c.check_reader-checked.new.out)) given c.check_reader-checked.ensures.told;
+      reported = subst (λ (known : Option (List ℕ)). IsReported (is_some c.args.name) c.args.mode known c.args.form c.check_reader-checked.result.answer c.check_reader-checked.result.reported (g.W.Write.contents c.args.out.now) (g.W.Write.contents c.check_reader-checked.new.out)) given c.check_reader-checked.ensures.reported;
       status = c.check_reader-checked.ensures.status;
       quiet = λ few.
-          Keeps-trans (g.E.Write.contents c.args.faults.now) (g.E.Write.contents c.check_reader-checked.new.faults) (g.E.Write.contents c.read_on-rest.new.faults)
-          (c.check_reader-checked.ensures.quiet few) c.read_on-rest.ensures.keeps;
+          Keeps-trans (g.E.Write.contents c.args.faults.now) (g.E.Write.contents c.check_reader-checked.new.faults) (g.E.Write.contents c.flush_and_drain-rest.new.faults)
+          (c.check_reader-checked.ensures.quiet few) c.flush_and_drain-rest.ensures.keeps;
       gone = λ gone.
-          Keeps-trans (g.E.Write.contents c.args.faults.now) (g.E.Write.contents c.check_reader-checked.new.faults) (g.E.Write.contents c.read_on-rest.new.faults)
-          (c.check_reader-checked.ensures.gone gone) c.read_on-rest.ensures.keeps;
+          Keeps-trans (g.E.Write.contents c.args.faults.now) (g.E.Write.contents c.check_reader-checked.new.faults) (g.E.Write.contents c.flush_and_drain-rest.new.faults)
+          (c.check_reader-checked.ensures.gone gone) c.flush_and_drain-rest.ensures.keeps;
       statuses = c.check_reader-checked.ensures.statuses;
-      read = rw (c.in-Err.is) (c.read_on-rest.ensures.read refl);
+      read = rw (c.in-Err.is) (c.flush_and_drain-rest.ensures.read refl);
     }

@@ -17,11 +17,11 @@ pub returns-in-Ok : goal.returns-in-Ok
 returns-in-Ok g c =
     rw (c.of.ensures) (record {
       answer = c.in-Ok.ensures.answer;
-      told = c.tell_whole-said.ensures.told (is_some c.args.name) (g.R.Read.remaining c.args.reader.now) c.args.mode;
+      reported = c.report_whole-reported.ensures.reported (is_some c.args.name) (g.R.Read.remaining c.args.reader.now) c.args.mode;
       status = refl;
-      quiet = quiet_by c.in-Ok.whole c.tell_whole-said.result c.tell_whole-said.ensures.quiet;
-      gone = c.tell_whole-said.ensures.gone;
-      statuses = status_most (Ok c.in-Ok.whole) c.tell_whole-said.result;
+      quiet = quiet_by c.in-Ok.whole c.report_whole-reported.result c.report_whole-reported.ensures.quiet;
+      gone = c.report_whole-reported.ensures.gone;
+      statuses = status_most (Ok c.in-Ok.whole) c.report_whole-reported.result;
       read = λ on. c.in-Ok.ensures.at_end;
     })
 
@@ -32,12 +32,12 @@ pub returns : goal.returns
 returns g c =
     rw (c.of-in-Err.ensures) (record {
       answer = c.in-Err.ensures.answer;
-      told = c.tell_fault-said.ensures.told (g.R.Read.remaining c.args.reader.now) c.in-Err.ensures.stops;
+      reported = c.report_fault-reported.ensures.reported (g.R.Read.remaining c.args.reader.now) c.in-Err.ensures.stops;
       status = refl;
-      quiet = bad c.in-Err.fault c.tell_fault-said.result;
+      quiet = bad c.in-Err.fault c.report_fault-reported.result;
       gone = λ gone.
-          Keeps-trans (g.E.Write.contents c.args.faults.now) (g.E.Write.contents c.tell_fault-said.new.faults) (g.E.Write.contents c.read_on.new.faults)
-          (c.tell_fault-said.ensures.gone gone) c.read_on.ensures.keeps;
-      statuses = status_most (Err c.in-Err.fault) c.tell_fault-said.result;
-      read = λ on. if_ok c.read_on.result (on_some (g.R.Read.remaining c.args.reader.now)) (c.read_on.ensures.read on);
+          Keeps-trans (g.E.Write.contents c.args.faults.now) (g.E.Write.contents c.report_fault-reported.new.faults) (g.E.Write.contents c.flush_and_drain.new.faults)
+          (c.report_fault-reported.ensures.gone gone) c.flush_and_drain.ensures.keeps;
+      statuses = status_most (Err c.in-Err.fault) c.report_fault-reported.result;
+      read = λ on. if_ok c.flush_and_drain.result (on_some (g.R.Read.remaining c.args.reader.now)) (c.flush_and_drain.ensures.read on);
     })

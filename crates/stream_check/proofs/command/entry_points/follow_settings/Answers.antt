@@ -2,7 +2,7 @@
 use Rattle.std.proofs.Common.{◌≡◌, ℕ, List, Option, Some, None, Ok, ◌⊎◌, inl, inr, refl, ap, not, String, Global}
 use Rattle.std.specs.Prelude.{IsSome}
 use Rattle.std.proofs.KnownBytes.{Keeps-refl}
-use Rattle.stream_check.specs.CommandLine.{HaveSaid, WasNotChecked}
+use Rattle.stream_check.specs.CommandLine.{StateSettings, WasNotChecked}
 use Rattle.stream_check.specs.declared.command.settings.Settings.{Settings}
 use Rattle.stream_check.proofs.Statuses.{not_gone, refused, refused_by}
 use Rattle.stream_check.proofs.command.entry_points.follow_settings.Goals as goal
@@ -22,25 +22,25 @@ answered : {A R : Type 0} (answer : A) → Some answer ≡ None → R
 answered answer none = absurd cc
 
 -- a file that can't be opened
-not_opened : (settings : Settings) (name : String Global) (words : List (List ℕ)) (held : Option (List ℕ)) (status : ℕ) → HaveSaid words settings
+not_opened : (settings : Settings) (name : String Global) (words : List (List ℕ)) (held : Option (List ℕ)) (status : ℕ) → StateSettings words settings
     → settings.file ≡ Some name → (status ≡ 2) ⊎ (status ≡ 3) → WasNotChecked words held held status
-not_opened settings name words held status said is (inl two) =
-    inr (inl (two, Keeps-refl held, inr (record { settings = settings; said = said; named = rw is refl })))
-not_opened settings name words held status said is (inr three) = inr (inr (three, Keeps-refl held))
+not_opened settings name words held status stated is (inl two) =
+    inr (inl (two, Keeps-refl held, inr (record { settings = settings; stated = stated; named = rw is refl })))
+not_opened settings name words held status stated is (inr three) = inr (inr (three, Keeps-refl held))
 
 pub returns-in_default : goal.returns-in_default
 returns-in_default g c = record {
-  told = λ words said.
+  reported = λ words stated.
       rw (c.with_answer.ensures)
       (inl (record {
         settings = c.args.settings.now;
-        said = said;
+        stated = stated;
         answer = c.check_input-checked.result.answer;
         answered = refl;
         bytes = g.R.Read.remaining c.args.input.now;
         given = rw (c.in_default.is) refl;
         judged = c.check_input-checked.ensures.answer;
-        told = rw (c.in_default.is) c.check_input-checked.ensures.told;
+        reported = rw (c.in_default.is) c.check_input-checked.ensures.reported;
         status = c.check_input-checked.ensures.status;
         read = λ none. c.check_input-checked.ensures.read;
         unread = not_named c.args.settings.now.file c.in_default.is;
@@ -53,17 +53,17 @@ returns-in_default g c = record {
 
 pub returns-in-Ok : goal.returns-in-Ok
 returns-in-Ok g c = record {
-  told = λ words said.
+  reported = λ words stated.
       rw (c.with_answer-in-Ok.ensures)
       (inl (record {
         settings = c.args.settings.now;
-        said = said;
+        stated = stated;
         answer = c.check_input-checked-in-Ok.result.answer;
         answered = refl;
         bytes = g.F.File.Read.remaining c.in-Ok.file;
         given = rw (c.in-Some.is) (c.in-Ok.file, refl);
         judged = c.check_input-checked-in-Ok.ensures.answer;
-        told = rw (c.in-Some.is) c.check_input-checked-in-Ok.ensures.told;
+        reported = rw (c.in-Some.is) c.check_input-checked-in-Ok.ensures.reported;
         status = c.check_input-checked-in-Ok.ensures.status;
         read = λ none. named c.args.settings.now.file c.in-Some.name c.in-Some.is none;
         unread = λ some. refl;
@@ -76,12 +76,12 @@ returns-in-Ok g c = record {
 
 pub returns-in-Err : goal.returns-in-Err
 returns-in-Err g c = record {
-  told = λ words said.
+  reported = λ words stated.
       rw (c.without_answer.ensures)
-      (inr (not_opened c.args.settings.now c.in-Some.name words (g.W.Write.contents c.args.out.now) c.refuse_file-status.result said c.in-Some.is c.refuse_file-status.ensures));
+      (inr (not_opened c.args.settings.now c.in-Some.name words (g.W.Write.contents c.args.out.now) c.refuse_file-status.result stated c.in-Some.is c.refuse_file-status.ensures));
   quiet = rw (c.without_answer.ensures) (refused c.refuse_file-status.result c.refuse_file-status.ensures);
   gone = rw (c.without_answer.ensures) (not_gone (Ok tt) tt);
   statuses = rw (c.without_answer.ensures) (refused_by c.refuse_file-status.result c.refuse_file-status.ensures);
   read = λ none bad awaited.
-      rw (c.without_answer.ensures) (c.read_on.ensures.read (ap not awaited));
+      rw (c.without_answer.ensures) (c.flush_and_drain.ensures.read (ap not awaited));
 }

@@ -1,5 +1,5 @@
 use Rattle.std.proofs.Common.{◌∙◌}
-use Rattle.stream_check.proofs.Kept.{about_found}
+use Rattle.stream_check.proofs.SlotContents.{about_found}
 use Rattle.stream_check.proofs.command.object.object_in.Goals as goal
 
 pub returns-in-Ok : goal.returns-in-Ok

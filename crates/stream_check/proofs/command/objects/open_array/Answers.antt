@@ -6,19 +6,19 @@ use Rattle.serde_json.specs.View.{items_of, view}
 use Rattle.serde_json.specs.declared.value.Value.{Value}
 use Rattle.serde_json.proofs.Views.{view-Array}
 use Rattle.stream_check.specs.declared.rules.open_entry.OpenEntry.{OpenEntry}
-use Rattle.stream_check.specs.ToldObject.{entry_object}
+use Rattle.stream_check.specs.ReportObject.{entry_object}
 use Rattle.stream_check.proofs.command.objects.open_array.Goals as goal
 
-one_more : (vs : List Value) (v : Value) (es : List OpenEntry) (i : ℕ) (d : OpenEntry) → i < length es → map view vs ≡ map entry_object (take i es) → view v ≡ entry_object (get_or es i d)
+with_one : (vs : List Value) (v : Value) (es : List OpenEntry) (i : ℕ) (d : OpenEntry) → i < length es → map view vs ≡ map entry_object (take i es) → view v ≡ entry_object (get_or es i d)
     → map view (vs ++ v ∷ []) ≡ map entry_object (take (i + 1) es)
-one_more vs v es i d below so_far is =
+with_one vs v es i d below so_far is =
     map-append view vs (v ∷ []) ∙ ap (λ (ds : List Data). ds ++ view v ∷ []) so_far ∙ ap (λ (x : Data). map entry_object (take i es) ++ x ∷ []) is
     ∙ sym (map-append entry_object (take i es) (get_or es i d ∷ [])) ∙ ap (map entry_object) (sym (take_more es i d below))
 
 pub loop-entry-preserved : goal.loop-entry-preserved
 loop-entry-preserved c =
     ap (map view) c.in_ok-push.ensures.items
-    ∙ one_more c.loop-entry.values.items c.in_ok-entry_object.field-0 c.args.entries.now c.loop-entry.entry-index _ c.loop-entry-test.true c.loop-entry.invariant c.in_ok-entry_object.ensures
+    ∙ with_one c.loop-entry.values.items c.in_ok-entry_object.field-0 c.args.entries.now c.loop-entry.entry-index _ c.loop-entry-test.true c.loop-entry.invariant c.in_ok-entry_object.ensures
 
 all_of : (es : List OpenEntry) (i : ℕ) → i ≤ length es → length es ≤ i → take i es ≡ es
 all_of es i few many = ap (λ (n : ℕ). take n es) (let e : i ≡ length es = omega arith in e) ∙ take-length es

@@ -1,5 +1,5 @@
 use Rattle.std.proofs.Common.{codes}
-use Rattle.stream_check.specs.ToldObject.{open_array}
+use Rattle.stream_check.specs.ReportObject.{open_array}
 use Rattle.stream_check.proofs.Putting.{puts_made}
 use Rattle.stream_check.proofs.command.objects.put_open.Goals as goal
 

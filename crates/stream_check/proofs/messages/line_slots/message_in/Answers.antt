@@ -2,11 +2,11 @@ use Rattle.std.proofs.Common.{length, subst, arith}
 use Rattle.apply_json.specs.declared.json_fault.JsonFault.{JsonFault}
 use Rattle.apply_json.specs.Parsed.{IsNoTree}
 use Rattle.stream_check.specs.MessageView.{message_view}
-use Rattle.stream_check.proofs.Kept.{given, no_json, told}
+use Rattle.stream_check.proofs.SlotContents.{given, no_json, message_in_text}
 use Rattle.stream_check.proofs.messages.line_slots.message_in.Goals as goal
 
 pub returns-in-Ok : goal.returns-in-Ok
-returns-in-Ok c = given message_view c.message.result _ _ c.message.ensures (told c.args.find c.args.text.now c.in-Ok.slots c.in-Ok.ensures.ok)
+returns-in-Ok c = given message_view c.message.result _ _ c.message.ensures (message_in_text c.args.find c.args.text.now c.in-Ok.slots c.in-Ok.ensures.ok)
 
 pub returns-in-Err-TooLarge : goal.returns-in-Err-TooLarge
 returns-in-Err-TooLarge c =

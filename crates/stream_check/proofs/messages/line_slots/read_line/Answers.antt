@@ -1,5 +1,5 @@
 use Rattle.std.proofs.Common.{length, sym, ◌∙◌}
-use Rattle.apply_json.proofs.Keeping.{is_no_tree, whole_tree_of}
+use Rattle.apply_json.proofs.VerbatimValues.{is_no_tree, whole_tree_of}
 use Rattle.stream_check.proofs.messages.line_slots.read_line.Goals as goal
 
 pub returns-in-Ok : goal.returns-in-Ok

@@ -9,6 +9,6 @@ use Rattle.stream_timeline.proofs.bars.levels.levels_of.Given as goal
 abbrev pub invariant-loop-cell : goal.invariant-loop-cell
 invariant-loop-cell l = record {
   levels : AreInOrder l.stretches → l.levels.items ≡ map (level_of l.stretches l.cells l.span) (range_with_len 0 l.cell);
-  bound : l.passed ≤ length l.stretches;
-  past : (place : ℕ) (d : Stretch) → place < l.passed → (get_or l.stretches place d).end ≤ cell_begin l.cells l.span l.cell;
+  bound : l.passed_over ≤ length l.stretches;
+  past : (place : ℕ) (d : Stretch) → place < l.passed_over → (get_or l.stretches place d).end ≤ cell_begin l.cells l.span l.cell;
 }

@@ -3,7 +3,7 @@ use Rattle.std.specs.List.{sum_by}
 use Rattle.stream_timeline.specs.Numbers.{busy_in, stretch_length}
 use Rattle.stream_timeline.proofs.numbers.measures.busy_in.Given as goal
 
--- the sum so far, which is no more than that of all lengths so far
+-- the sum so far is at most the sum of all lengths so far
 abbrev pub invariant-loop-stretch : goal.invariant-loop-stretch
 invariant-loop-stretch l = record {
   value : l.busy ≡ busy_in (take l.stretch-index l.stretches);

@@ -4,26 +4,26 @@ use Rattle.stream_timeline.specs.declared.numbers.stretch.Stretch.{Stretch}
 use Rattle.stream_timeline.specs.Intervals.{intervals_of}
 use Rattle.stream_timeline.specs.Numbers.{alone_in, busy_in, peak_in, work_of}
 use Rattle.stream_timeline.specs.Stretches.{AreInOrder, stretches_of}
-use Rattle.stream_timeline.proofs.Bounds.{intervals_ordered, stretches_in_order, told_fit}
+use Rattle.stream_timeline.proofs.Bounds.{intervals_ordered, stretches_in_order, intervals_fit}
 use Rattle.stream_timeline.proofs.numbers.measures.numbers_of.Goals as goal
 
 pub stretches_of-requires-clause-ordered : goal.stretches_of-requires-clause-ordered
 stretches_of-requires-clause-ordered c =
-    rw (c.deref.ensures.value, c.in_ok-intervals.ensures.value) (intervals_ordered c.args.moments c.args.steps.now)
+    rw (c.deref.ensures.value, c.in_ok-intervals.ensures.value) (intervals_ordered c.args.time_range c.args.steps.now)
 
 pub busy_in-requires : goal.busy_in-requires
 busy_in-requires c =
-    told_fit c.args.moments c.args.steps.now c.in_ok-intervals.intervals.items c.deref-2.result.now c.in_ok-intervals.ensures.value c.in_ok-intervals.ensures.small
+    intervals_fit c.args.time_range c.args.steps.now c.in_ok-intervals.intervals.items c.deref-2.result.now c.in_ok-intervals.ensures.value c.in_ok-intervals.ensures.small
     (c.deref-2.ensures.value ∙ (c.in_ok-stretches.ensures ∙ ap stretches_of c.deref.ensures.value))
 
 pub alone_in-requires : goal.alone_in-requires
 alone_in-requires c =
-    told_fit c.args.moments c.args.steps.now c.in_ok-intervals.intervals.items c.deref-5.result.now c.in_ok-intervals.ensures.value c.in_ok-intervals.ensures.small
+    intervals_fit c.args.time_range c.args.steps.now c.in_ok-intervals.intervals.items c.deref-5.result.now c.in_ok-intervals.ensures.value c.in_ok-intervals.ensures.small
     (c.deref-5.ensures.value ∙ (c.in_ok-stretches.ensures ∙ ap stretches_of c.deref.ensures.value))
 
 pub returns : goal.returns
 returns c =
-    let is : List Interval = intervals_of c.args.moments c.args.steps.now in
+    let is : List Interval = intervals_of c.args.time_range c.args.steps.now in
     let intervals : c.in_ok-intervals.intervals.items ≡ is = c.in_ok-intervals.ensures.value in
     let same : c.in_ok-stretches.stretches.items ≡ stretches_of is = c.in_ok-stretches.ensures ∙ ap stretches_of (c.deref.ensures.value ∙ intervals) in
     record {

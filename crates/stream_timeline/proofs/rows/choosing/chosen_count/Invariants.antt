@@ -1,5 +1,5 @@
 use Rattle.std.proofs.Common.{◌≡◌, ◌-◌, ◌<◌, ◌≤◌, ℕ, get_or, length, true}
-use Rattle.stream_timeline.specs.declared.rows.candidate.Candidate.{Candidate}
+use Rattle.stream_timeline.specs.declared.rows.choosing.Candidate.{Candidate}
 use Rattle.stream_timeline.specs.Rows.{gets_row_within}
 use Rattle.stream_timeline.proofs.rows.choosing.chosen_count.Given as goal
 

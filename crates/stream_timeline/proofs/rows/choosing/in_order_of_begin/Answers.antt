@@ -1,9 +1,9 @@
 use Rattle.std.proofs.Common.{◌≡◌, AllPairs, FitsSigned, List, [], ℕ, ℤ, ap, count_by, eqb, false, map, pos, rules, subst, sym, w64, ◌∙◌}
 use Rattle.std.proofs.lemmas.Int.{to_z-of_z}
 use Rattle.std.proofs.lemmas.List.{take_all}
-use Rattle.stream_timeline.specs.declared.rows.candidate.Candidate.{Candidate}
+use Rattle.stream_timeline.specs.declared.rows.choosing.Candidate.{Candidate}
 use Rattle.stream_timeline.specs.Rows.{IsPrintedBefore}
-use Rattle.stream_timeline.specs.Steps.{ToldStep, begun_step}
+use Rattle.stream_timeline.specs.Steps.{StepRead, begun_step}
 use Rattle.stream_timeline.proofs.Printed.{begin_at, begins_pushed, printed, shown_are}
 use Rattle.stream_timeline.proofs.rows.choosing.in_order_of_begin.Goals as goal
 
@@ -21,7 +21,7 @@ loop-candidate-preserved c = λ d.
 pub returns-clause-shown : goal.returns-clause-shown
 returns-clause-shown c = λ p.
     let steps = c.args.steps.now in
-    let d : ToldStep = begun_step 0 [] [] (pos 0) in
+    let d : StepRead = begun_step 0 [] [] (pos 0) in
     let made : c.loop-candidate.begins.items ≡ map (λ (x : Candidate). begin_at steps d x.place) c.args.chosen.now =
     c.loop-candidate.invariant d ∙ ap (λ (cs : List Candidate). map (λ (x : Candidate). begin_at steps d x.place) cs) (take_all c.loop-candidate.candidate-index c.args.chosen.now c.loop-candidate-test.false) in
     let places : c.loop-place.places.items ≡ map (λ (b : ℤ × ℕ). b.1) c.sort.new.self.items =
@@ -31,7 +31,7 @@ returns-clause-shown c = λ p.
 pub returns-clause-ordered : goal.returns-clause-ordered
 returns-clause-ordered c =
     let steps = c.args.steps.now in
-    let made : (d : ToldStep) → c.loop-candidate.begins.items ≡ map (λ (x : Candidate). begin_at steps d x.place) c.args.chosen.now =
+    let made : (d : StepRead) → c.loop-candidate.begins.items ≡ map (λ (x : Candidate). begin_at steps d x.place) c.args.chosen.now =
     λ d. c.loop-candidate.invariant d ∙ ap (λ (cs : List Candidate). map (λ (x : Candidate). begin_at steps d x.place) cs) (take_all c.loop-candidate.candidate-index c.args.chosen.now c.loop-candidate-test.false) in
     let places : c.loop-place.places.items ≡ map (λ (b : ℤ × ℕ). b.1) c.sort.new.self.items =
     c.loop-place.invariant ∙ ap (λ (bs : List (ℤ × ℕ)). map (λ (b : ℤ × ℕ). b.1) bs) (take_all c.loop-place.place-index c.deref-place-items.result.now c.loop-place-test.false ∙ c.deref-place-items.ensures.value) in

@@ -3,14 +3,14 @@ use Rattle.std.specs.Ordering.{is_lt}
 use Rattle.std.proofs.lemmas.Fn.{always_returns_same}
 use Rattle.std.proofs.lemmas.List.{append-nil, at_drop_all}
 use Rattle.std.proofs.lemmas.List.Sorted.{sorted_far}
-use Rattle.stream_timeline.specs.declared.rows.candidate.Candidate.{Candidate}
+use Rattle.stream_timeline.specs.declared.rows.choosing.Candidate.{Candidate}
 use Rattle.stream_timeline.specs.Rows.{candidates_from, candidates_of, comes_before}
 use Rattle.stream_timeline.proofs.Ranking.{before_is_order, ranked_from}
 use Rattle.stream_timeline.proofs.rows.choosing.ranked.Goals as goal
 
 pub returns-clause-ordered : goal.returns-clause-ordered
 returns-clause-ordered c =
-    let m = c.args.moments in
+    let m = c.args.time_range in
     let steps = c.args.steps.now in
     let made : c.loop-place.candidates.items ≡ candidates_of m steps =
     sym (append-nil c.loop-place.candidates.items)

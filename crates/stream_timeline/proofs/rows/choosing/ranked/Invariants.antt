@@ -4,4 +4,4 @@ use Rattle.stream_timeline.proofs.rows.choosing.ranked.Given as goal
 
 -- with those to come, all
 abbrev pub invariant-loop-place : goal.invariant-loop-place
-invariant-loop-place l = l.candidates.items ++ candidates_from l.moments l.place (drop l.place l.steps) ≡ candidates_of l.moments l.steps
+invariant-loop-place l = l.candidates.items ++ candidates_from l.time_range l.place (drop l.place l.steps) ≡ candidates_of l.time_range l.steps

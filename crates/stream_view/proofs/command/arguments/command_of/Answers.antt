@@ -2,7 +2,7 @@ use Rattle.std.proofs.Common.{◌≡◌, ◌∙◌, ap, codes, true}
 use Rattle.clap.specs.Simple.{App, app_of, app_of_fields, new_app, on_top}
 use Rattle.stream_view.proofs.command.arguments.command_of.Goals as goal
 
--- the command before its options, whose words are those behind `view`
+-- the command before its options
 abbrev no_options : App
 no_options = on_top (λ shape. record shape { no_binary_name = true }) (new_app (codes "applystream view"))
 

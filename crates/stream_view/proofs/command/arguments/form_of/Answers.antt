@@ -1,5 +1,5 @@
 use Rattle.std.proofs.Common.{◌≡◌, ◌∙◌, ap, sym, true, false}
-use Rattle.stream_view.specs.declared.command.form.Form.TheVariants as form
+use Rattle.stream_view.specs.declared.command.settings.Form.TheVariants as form
 use Rattle.stream_view.proofs.command.arguments.form_of.Goals as goal
 
 pub returns-then-is_given-clause-text : goal.returns-then-is_given-clause-text
@@ -16,5 +16,5 @@ pub returns-else-is_given-clause-text : goal.returns-else-is_given-clause-text
 returns-else-is_given-clause-text c says = record {
   width = c.width_of.result;
   is = ap (form.Text c.width_of.result) c.colour_of.ensures;
-  said = c.width_of.ensures;
+  stated = c.width_of.ensures;
 }

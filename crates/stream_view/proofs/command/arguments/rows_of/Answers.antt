@@ -15,6 +15,6 @@ pub returns-else-is_given-clause-limit : goal.returns-else-is_given-clause-limit
 returns-else-is_given-clause-limit c says = record {
   count = c.count_of.result;
   is = refl;
-  said = c.count_of.ensures.said;
+  stated = c.count_of.ensures.stated;
   none = c.count_of.ensures.none;
 }

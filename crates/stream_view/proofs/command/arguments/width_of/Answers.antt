@@ -9,8 +9,8 @@ use Rattle.stream_view.proofs.command.arguments.width_of.Goals as goal
 
 pub returns : goal.returns
 returns c =
-    let found = found_of c.args.matches.now in
+    let listed = found_of c.args.matches.now in
     number_is _ (λ text read. ParsesUnsigned 32 10 text read × ExplainsUnsignedError 10 text read × HasUnsignedDigitsIfOk text read)
-    60 400 120 c.get_one.result c.clamp.result (one_of (codes "width") (rows_of found)) (λ text read gives. gives.0) (omega arith)
-    (λ text is. c.get_one.ensures.value text (one_text-rows found (codes "width") ∙ is))
+    60 400 120 c.get_one.result c.clamp.result (one_of (codes "width") (rows_of listed)) (λ text read gives. gives.0) (omega arith)
+    (λ text is. c.get_one.ensures.value text (one_text-rows listed (codes "width") ∙ is))
     (c.clamp.ensures ∙ ap (λ n. max 60 (min n 400)) c.unwrap_or.ensures)

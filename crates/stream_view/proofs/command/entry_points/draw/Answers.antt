@@ -6,8 +6,8 @@ use Rattle.stream_view.proofs.command.entry_points.draw.Goals.{in-Text, in-Svg}
 pub returns-in-Ok-drawn-clause-rows : goal.returns-in-Ok-drawn-clause-rows
 returns-in-Ok-drawn-clause-rows g c = record {
   picture = c.in-Ok.picture;
-  is_told = c.in-Ok.ensures.told;
-  moments = c.in-Ok.ensures.moments;
+  is_read = c.in-Ok.ensures.timeline;
+  time_range = c.in-Ok.ensures.time_range;
   numbers = c.in-Ok.ensures.numbers;
   rows = c.in-Ok.ensures.rows;
   drawn = elim c.match-form.branch [

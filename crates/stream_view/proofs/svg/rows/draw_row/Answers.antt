@@ -9,15 +9,15 @@ use Rattle.stream_view.proofs.svg.rows.draw_row.Goals as goal
 pub returns-in-Some : goal.returns-in-Some
 returns-in-Some g c =
     let look = c.in-Some.ensures.lookup in
-    let found : slice_get c.args.picture.now.told.now.steps c.args.place ≡ Some c.in-Some.step.now =
+    let listed : slice_get c.args.picture.now.timeline.now.steps c.args.place ≡ Some c.in-Some.step.now =
     ap (λ steps. slice_get steps c.args.place) (sym c.steps.ensures)
     ∙ slice_get_read c.steps.result.now (length c.steps.result.now) c.args.place c.in-Some.step.now refl look.3.0 look.1 in
-    on_ok c.draw_step.result (λ of_step. group_written (axis_in c.args.scale) c.args.picture.now c.args.place c.in-Some.step.now _ _ found of_step)
+    on_ok c.draw_step.result (λ of_step. group_written (axis_in c.args.scale) c.args.picture.now c.args.place c.in-Some.step.now _ _ listed of_step)
     c.draw_step.ensures
 
 pub returns-in-None : goal.returns-in-None
 returns-in-None g c =
     let look = c.in-None.ensures.lookup in
-    let none : slice_get c.args.picture.now.told.now.steps c.args.place ≡ None =
+    let none : slice_get c.args.picture.now.timeline.now.steps c.args.place ≡ None =
     ap (λ steps. slice_get steps c.args.place) (sym c.steps.ensures) ∙ slice_get_past c.steps.result.now c.args.place look.3 in
     on_ok c.write_text.result (λ sent. empty_group (axis_in c.args.scale) c.args.picture.now c.args.place _ _ none sent) c.write_text.ensures

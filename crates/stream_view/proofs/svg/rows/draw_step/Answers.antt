@@ -6,7 +6,7 @@ use Rattle.stream_view.proofs.svg.rows.draw_step.Goals as goal
 pub returns : goal.returns
 returns g c =
     let bar = c.place_of-bar in
-    on_ok c.draw_behind_bar.result
-    (λ behind. step_written (axis_in c.args.scale) c.args.picture.now.moments c.args.step.now bar.result.left bar.result.width bar.result.top _ _ _ _ _
-    behind.0 bar.ensures.left bar.ensures.width c.in_ok-draw_begin.ensures c.in_ok-draw_before_bar.ensures c.in_ok-draw_bar.ensures behind.1)
-    c.draw_behind_bar.ensures
+    on_ok c.draw_after_bar.result
+    (λ after_bar. step_written (axis_in c.args.scale) c.args.picture.now.time_range c.args.step.now bar.result.left bar.result.width bar.result.top _ _ _ _ _
+    after_bar.0 bar.ensures.left bar.ensures.width c.in_ok-draw_begin.ensures c.in_ok-draw_before_bar.ensures c.in_ok-draw_bar.ensures after_bar.1)
+    c.draw_after_bar.ensures

@@ -2,4 +2,4 @@ use Rattle.std.proofs.Common.{◌≡◌}
 use Rattle.stream_view.proofs.text.drawing.push_alone_lines.Given as goal
 
 abbrev pub invariant-loop-place : goal.invariant-loop-place
-invariant-loop-place l = l.page.style ≡ l.initial.page.style
+invariant-loop-place l = l.line_buffer.style ≡ l.initial.line_buffer.style

@@ -2,7 +2,7 @@ use Rattle.std.proofs.Common.{◌≡◌, [], ◌∷◌, ◌++◌, length, ap, �
 use Rattle.std.specs.BinaryHeap.{heap_items}
 use Rattle.std.specs.List.Sorted.{IsPermutation}
 use Rattle.std.specs.declared.cmp.Reverse.{Reverse}
-use Rattle.apply_events.specs.declared.lanes.moment.Moment.{Moment}
+use Rattle.apply_events.specs.declared.lanes.lane_time.LaneTime.{LaneTime}
 use Rattle.apply_events.specs.declared.lanes.queue.ReadyTurn.{ReadyTurn}
 use Rattle.apply_events.specs.declared.lanes.queue.Waiting.{Waiting}
 use Rattle.apply_events.specs.Waits.Queue.{counts_of, turn_waits}
@@ -18,8 +18,8 @@ returns-in_ok-push-2 c = λ limit names q.
     let size : length waiting ≡ length names = q.stands.size in
     let last : c.len-number.result ≡ length names = c.len-number.ensures ∙ search rules in
     let missing = c.in_ok-missing.missing in
-    let next = c.in_ok-push.ensures.items ∙ ap (λ (m : Moment). waiting ++ (let w : Waiting = record { missing = missing; at = m } in w) ∷ []) c.first-at.ensures in
-    let moved = subst (λ (m : Moment). IsPermutation ((let r : Reverse ReadyTurn = record { 0 = record { at = m; number = c.len-number.result } } in r) ∷ ready) more)
+    let next = c.in_ok-push.ensures.items ∙ ap (λ (m : LaneTime). waiting ++ (let w : Waiting = record { missing = missing; at = m } in w) ∷ []) c.first-at.ensures in
+    let moved = subst (λ (m : LaneTime). IsPermutation ((let r : Reverse ReadyTurn = record { 0 = record { at = m; number = c.len-number.result } } in r) ∷ ready) more)
     c.first-at.ensures c.in_ok-push-2.ensures.permutation in
     record {
       follow = follow_turn names turn limit c.len-number.result c.add_turn.new.self last (c.in_ok-missing.ensures.follow limit (counts_of names) q.follow);
@@ -34,7 +34,7 @@ returns-else-missing-eq0 c = λ limit names q.
     let size : length waiting ≡ length names = q.stands.size in
     let last : c.len-number.result ≡ length names = c.len-number.ensures ∙ search rules in
     let missing = c.in_ok-missing.missing in
-    let next = c.in_ok-push.ensures.items ∙ ap (λ (m : Moment). waiting ++ (let w : Waiting = record { missing = missing; at = m } in w) ∷ []) c.first-at.ensures in
+    let next = c.in_ok-push.ensures.items ∙ ap (λ (m : LaneTime). waiting ++ (let w : Waiting = record { missing = missing; at = m } in w) ∷ []) c.first-at.ensures in
     record {
       follow = follow_turn names turn limit c.len-number.result c.add_turn.new.self last (c.in_ok-missing.ensures.follow limit (counts_of names) q.follow);
       stands = stands_waiting names turn waiting _ (heap_items c.args.self.now.ready) missing q.stands next c.in_ok-missing.ensures.count c.if-missing-eq0.false;

@@ -13,19 +13,19 @@ use Rattle.apply_events.specs.Step.{Step, Work, address_of, step_of}
 use Rattle.apply_events.specs.StepEvents.{goes_on}
 use Rattle.apply_events.proofs.lanes.step_course.StepCourse.of.Goals as goal
 
-none_is : (found : Option ℕ) → is_none found ≡ not (is_some found)
+none_is : (answer : Option ℕ) → is_none answer ≡ not (is_some answer)
 none_is None = refl
 none_is (Some hook) = refl
 
 -- a step that has started and does not fail goes on where no hook halts after it
-goes : (s : Step) (before failed behind : Bool) → before ≡ is_some (s.halts Pre) → before ≡ false → failed ≡ s.fails → failed ≡ false → behind ≡ is_some (s.halts PostDone)
-    → not behind ≡ goes_on s
-goes s before failed behind halts starts fails ends halts_behind =
-    rw (none_is (s.halts Pre), none_is (s.halts PostDone), ← halts, ← fails, ← halts_behind, starts, ends) refl
+goes : (s : Step) (before failed later_events : Bool) → before ≡ is_some (s.halts Pre) → before ≡ false → failed ≡ s.fails → failed ≡ false → later_events ≡ is_some (s.halts PostDone)
+    → not later_events ≡ goes_on s
+goes s before failed later_events halts starts fails ends halts_after =
+    rw (none_is (s.halts Pre), none_is (s.halts PostDone), ← halts, ← fails, ← halts_after, starts, ends) refl
 
 -- the address of its change
 address_is : (plan : SavedPlan) (c : ℕ) (change : ResourceChange) (address : List ℕ) → Some change ≡ slice_get plan.changes c → address ≡ change.address → address ≡ address_of plan c
-address_is plan c change address found is = is ∙ ap (λ (o : Option ResourceChange). option_map_or (λ (r : ResourceChange). r.address) o []) found
+address_is plan c change address answer is = is ∙ ap (λ (o : Option ResourceChange). option_map_or (λ (r : ResourceChange). r.address) o []) answer
 
 -- a hook halts it where it is asked of that address
 halts_there : (hooks : List (List Rule)) (phase : Phase) (kind : StepKind) (address planned : List ℕ) (halted : Bool) → address ≡ planned

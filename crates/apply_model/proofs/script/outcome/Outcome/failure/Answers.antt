@@ -4,8 +4,8 @@ use Rattle.apply_model.specs.declared.script.diag.Diag.{Diag}
 use Rattle.apply_model.specs.Script.Outcome.{diag_of_ending, first_diag}
 use Rattle.apply_model.proofs.script.outcome.Outcome.failure.Goals as goal
 
--- a provider that has not failed, or whose failure only warns, says nothing of a failure
+-- a provider that succeeds, or only warns, states no error
 pub returns-in-Done : goal.returns-in-Done
 returns-in-Done c =
     let none : diag_of_ending c.args.self.now.result ≡ None = ⊎_elim (λ done. ap diag_of_ending done.2) (λ warned. ap diag_of_ending warned.1) c.in-Done.is in
-    c.first_failure.ensures ∙ ap (λ (said : Option Diag). option_or said (first_diag c.args.self.now.provisioners)) (sym none)
+    c.first_failure.ensures ∙ ap (λ (stated : Option Diag). option_or stated (first_diag c.args.self.now.provisioners)) (sym none)

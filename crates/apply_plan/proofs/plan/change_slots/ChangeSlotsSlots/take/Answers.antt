@@ -2,7 +2,7 @@ use Rattle.std.proofs.Common.{◌≡◌, codes, true, sym, ◌∙◌}
 use Rattle.std.specs.Str.{bytes_eq}
 use Rattle.apply_json.proofs.Copied.{if_ok}
 use Rattle.apply_json.proofs.Held.{left}
-use Rattle.apply_json.proofs.Keeping.{as_member}
+use Rattle.apply_json.proofs.VerbatimValues.{as_member}
 use Rattle.apply_plan.specs.Plan.Members.{actions_member, id_member, sensitive_member}
 use Rattle.apply_plan.proofs.Plans.Taken.{change_behind}
 use Rattle.apply_plan.proofs.plan.change_slots.ChangeSlotsSlots.take.Goals as goal
@@ -37,7 +37,7 @@ returns-then-is_text-3 c =
 pub returns-else-is_text-3 : goal.returns-else-is_text-3
 returns-else-is_text-3 c =
     record {
-      ok = if_ok c.pass_member.result
+      ok = if_ok c.skip_member.result
           (λ done. (
             done.0,
             as_member c.args.depth c.args.reader.now done.0 _ c.args.name.now done.1,
@@ -47,7 +47,7 @@ returns-else-is_text-3 c =
               hides_id = left sensitive_member (codes "before_sensitive") c.args.name.now done.0 ms _ (sym c.is_text-else-is_text-2.ensures ∙ c.if-is_text-3.false) holds.hides_id;
             },
           ))
-          c.pass_member.ensures.ok;
-      shorter = c.pass_member.ensures.shorter;
-      err = c.pass_member.ensures.err;
+          c.skip_member.ensures.ok;
+      shorter = c.skip_member.ensures.shorter;
+      err = c.skip_member.ensures.err;
     }

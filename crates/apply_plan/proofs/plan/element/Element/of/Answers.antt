@@ -3,7 +3,7 @@ use Rattle.std.specs.Option.{option_zip}
 use Rattle.apply_plan.proofs.Plans.Joined.{held, made}
 use Rattle.apply_plan.proofs.plan.element.Element.of.Goals as goal
 
--- the members are joined as the element that the slots hold asks for them
+-- the members are joined in the order that the definition of the element uses
 pub returns-in_default : goal.returns-in_default
 returns-in_default c =
     let parts = ap₂ option_zip (ap₂ option_zip c.zip-kinds.ensures c.zip-names.ensures) (ap₂ option_zip c.zip-places.ensures c.zip-others.ensures) in

@@ -1,7 +1,7 @@
 use Rattle.std.proofs.Common.{refl, subst, sym, ◌∙◌}
 use Rattle.serde_json.specs.Data.{put}
 use Rattle.apply_json.proofs.Copied.{if_ok}
-use Rattle.apply_json.proofs.Keeping.{as_member}
+use Rattle.apply_json.proofs.VerbatimValues.{as_member}
 use Rattle.apply_plan.specs.Plan.Members.{HoldsElement}
 use Rattle.apply_plan.proofs.Plans.Taken.{takes_change, takes_other, takes_scalar}
 use Rattle.apply_plan.proofs.plan.element_slots.ElementSlotsSlots.take.Goals as goal
@@ -37,13 +37,13 @@ returns-in_ok-found-in-Some c =
 pub returns-in-None : goal.returns-in-None
 returns-in-None c =
     record {
-      ok = if_ok c.pass_member.result
+      ok = if_ok c.skip_member.result
           (λ done. (
             done.0,
             as_member c.args.depth c.args.reader.now done.0 _ c.args.name.now done.1,
             λ start ms holds. takes_other c.args.self.now c.args.name.now done.0 ms holds c.in-None.ensures (sym c.is_text.ensures ∙ c.if-is_text.false),
           ))
-          c.pass_member.ensures.ok;
-      shorter = c.pass_member.ensures.shorter;
-      err = c.pass_member.ensures.err;
+          c.skip_member.ensures.ok;
+      shorter = c.skip_member.ensures.shorter;
+      err = c.skip_member.ensures.err;
     }

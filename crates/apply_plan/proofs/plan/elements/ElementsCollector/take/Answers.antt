@@ -1,27 +1,27 @@
 use Rattle.std.proofs.Common.{refl, sym}
 use Rattle.apply_json.proofs.Copied.{if_ok}
-use Rattle.apply_json.proofs.Keeping.{as_item}
+use Rattle.apply_json.proofs.VerbatimValues.{as_item}
 use Rattle.apply_plan.proofs.Plans.Elements.{holds_full, holds_more, holds_past, holds_refused}
 use Rattle.apply_plan.proofs.plan.elements.ElementsCollector.take.Goals as goal
 
 pub returns-then-self-ge-MAX_CHANGES : goal.returns-then-self-ge-MAX_CHANGES
 returns-then-self-ge-MAX_CHANGES c =
     record {
-      ok = if_ok c.pass_member.result
+      ok = if_ok c.skip_member.result
           (λ done. (done.0, as_item c.args.depth c.args.reader.now done.0 _ done.1, λ start ds holds. holds_full c.args.self.now _ ds done.0 holds c.if-self-ge-MAX_CHANGES.true refl))
-          c.pass_member.ensures.ok;
-      shorter = c.pass_member.ensures.shorter;
-      err = c.pass_member.ensures.err;
+          c.skip_member.ensures.ok;
+      shorter = c.skip_member.ensures.shorter;
+      err = c.skip_member.ensures.err;
     }
 
 pub returns-then-is_some : goal.returns-then-is_some
 returns-then-is_some c =
     record {
-      ok = if_ok c.pass_member-then-is_some.result
+      ok = if_ok c.skip_member-then-is_some.result
           (λ done. (done.0, as_item c.args.depth c.args.reader.now done.0 _ done.1, λ start ds holds. holds_past c.args.self.now _ ds done.0 (sym c.if-is_some.ensures) holds c.if-self-ge-MAX_CHANGES.false refl))
-          c.pass_member-then-is_some.ensures.ok;
-      shorter = c.pass_member-then-is_some.ensures.shorter;
-      err = c.pass_member-then-is_some.ensures.err;
+          c.skip_member-then-is_some.ensures.ok;
+      shorter = c.skip_member-then-is_some.ensures.shorter;
+      err = c.skip_member-then-is_some.ensures.err;
     }
 
 pub returns-in_ok-push-in-Ok : goal.returns-in_ok-push-in-Ok

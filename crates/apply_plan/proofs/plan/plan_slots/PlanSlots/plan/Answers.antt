@@ -1,6 +1,6 @@
 use Rattle.std.proofs.Common.{ap, codes, ◌∙◌}
 use Rattle.serde_json.specs.Find.{get_member}
-use Rattle.apply_json.specs.Seen.{members_in}
+use Rattle.apply_json.specs.ShallowView.{members_in}
 use Rattle.apply_json.specs.Tree.{list_of}
 use Rattle.apply_plan.specs.Plan.ElementsView.{items_at}
 use Rattle.apply_plan.proofs.Plans.Top.{no_plan, plan_from, plan_with}

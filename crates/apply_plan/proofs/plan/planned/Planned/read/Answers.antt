@@ -1,6 +1,6 @@
 use Rattle.apply_json.specs.declared.read_fault.ReadFault.TheVariants.{NotJson}
 use Rattle.std.proofs.Common.{subst}
-use Rattle.apply_json.proofs.Keeping.{as_whole}
+use Rattle.apply_json.proofs.VerbatimValues.{as_whole}
 use Rattle.apply_plan.specs.Plan.PlannedView.{planned_view}
 use Rattle.apply_plan.specs.Results.{IsExactly}
 use Rattle.apply_plan.proofs.Plans.Held.{described}

@@ -10,21 +10,21 @@ pub new-script-requires : goal.new-script-requires
 new-script-requires c =
     let self = c.args.self in
     let holds = c.requires.1 in
-    said_in_range self.plan.now.changes self.said.items self.waits (length self.kept.items) holds.made holds.said
+    said_in_range self.plan.now.changes self.outcomes.items self.waits (length self.kept.items) holds.made holds.outcomes
 
-pub all_stuck-requires-clause-changes : goal.all_stuck-requires-clause-changes
-all_stuck-requires-clause-changes c = c.len.ensures.len ∙ sym (ap length c.new-script.ensures ∙ long c.args.self c.requires.0 c.requires.1)
+pub all_unreachable-requires-clause-changes : goal.all_unreachable-requires-clause-changes
+all_unreachable-requires-clause-changes c = c.len.ensures.len ∙ sym (ap length c.new-script.ensures ∙ long c.args.self c.requires.0 c.requires.1)
 
-pub all_stuck-requires-clause-placed : goal.all_stuck-requires-clause-placed
-all_stuck-requires-clause-placed c =
+pub all_unreachable-requires-clause-placed : goal.all_unreachable-requires-clause-placed
+all_unreachable-requires-clause-placed c =
     let self = c.args.self in
     let holds = c.requires.1 in
-    rw c.new-script.ensures (said_placed self.plan.now.changes self.said.items self.waits (length self.kept.items) holds.made holds.said)
+    rw c.new-script.ensures (said_placed self.plan.now.changes self.outcomes.items self.waits (length self.kept.items) holds.made holds.outcomes)
 
-pub all_stuck-requires-clause-within : goal.all_stuck-requires-clause-within
-all_stuck-requires-clause-within c =
+pub all_unreachable-requires-clause-within : goal.all_unreachable-requires-clause-within
+all_unreachable-requires-clause-within c =
     rw (c.deref.ensures.value, c.new-script.ensures, long c.args.self c.requires.0 c.requires.1) c.requires.1.kept.within
 
 pub returns : goal.returns
 returns c = λ ds holds.
-    made_beginning c.args.self ds c.in_ok-all_stuck.field-0.items holds c.in_default.is (rw (c.deref.ensures.value, c.new-script.ensures) at c.in_ok-all_stuck.ensures)
+    made_beginning c.args.self ds c.in_ok-all_unreachable.field-0.items holds c.in_default.is (rw (c.deref.ensures.value, c.new-script.ensures) at c.in_ok-all_unreachable.ensures)

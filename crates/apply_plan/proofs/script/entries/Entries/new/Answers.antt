@@ -8,5 +8,5 @@ pub returns : goal.returns
 returns c =
     let both = c.in_ok-numbers.ensures in
     let numbers = made _ c.of.result c.in_ok-numbers.numbers both.0 c.of.ensures in
-    let said = made _ c.nothing.result c.in_ok-numbers.said both.1 c.nothing.ensures in
-    (refl, holds_none _ c.len.ensures.few numbers (said ∙ ap (λ count. by_number count []) c.len.ensures.len) c.new-kept.ensures.items refl refl)
+    let outcomes = made _ c.nothing.result c.in_ok-numbers.outcomes both.1 c.nothing.ensures in
+    (refl, holds_none _ c.len.ensures.few numbers (outcomes ∙ ap (λ count. by_number count []) c.len.ensures.len) c.new-kept.ensures.items refl refl)

@@ -10,19 +10,19 @@ pub new-script-requires : goal.new-script-requires
 new-script-requires c =
     let self = c.args.self in
     let holds = c.requires.1 in
-    said_in_range self.plan.now.changes self.said.items self.waits (length self.kept.items) holds.made holds.said
+    said_in_range self.plan.now.changes self.outcomes.items self.waits (length self.kept.items) holds.made holds.outcomes
 
-pub first_stuck-requires-clause-changes : goal.first_stuck-requires-clause-changes
-first_stuck-requires-clause-changes c = c.len.ensures.len ∙ sym (ap length c.new-script.ensures ∙ long c.args.self c.requires.0 c.requires.1)
+pub first_unreachable-requires-clause-changes : goal.first_unreachable-requires-clause-changes
+first_unreachable-requires-clause-changes c = c.len.ensures.len ∙ sym (ap length c.new-script.ensures ∙ long c.args.self c.requires.0 c.requires.1)
 
-pub first_stuck-requires-clause-placed : goal.first_stuck-requires-clause-placed
-first_stuck-requires-clause-placed c =
+pub first_unreachable-requires-clause-placed : goal.first_unreachable-requires-clause-placed
+first_unreachable-requires-clause-placed c =
     let self = c.args.self in
     let holds = c.requires.1 in
-    rw c.new-script.ensures (said_placed self.plan.now.changes self.said.items self.waits (length self.kept.items) holds.made holds.said)
+    rw c.new-script.ensures (said_placed self.plan.now.changes self.outcomes.items self.waits (length self.kept.items) holds.made holds.outcomes)
 
-pub first_stuck-requires-clause-within : goal.first_stuck-requires-clause-within
-first_stuck-requires-clause-within c =
+pub first_unreachable-requires-clause-within : goal.first_unreachable-requires-clause-within
+first_unreachable-requires-clause-within c =
     rw (c.deref.ensures.value, c.new-script.ensures, long c.args.self c.requires.0 c.requires.1) c.requires.1.kept.within
 
 pub returns-in-Some-2 : goal.returns-in-Some-2

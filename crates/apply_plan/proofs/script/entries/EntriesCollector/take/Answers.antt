@@ -9,31 +9,31 @@ use Rattle.apply_plan.proofs.script.entries.EntriesCollector.take.Goals as goal
 pub returns-then-is_some : goal.returns-then-is_some
 returns-then-is_some c =
     record {
-      ok = if_ok c.pass_member.result
+      ok = if_ok c.skip_member.result
           (λ done.
           let there = passed_item (value c.args.depth c.args.reader.now) done.0 _ done.1 in
           (there.0, there.1, λ start ds holds. (holds.0, holds_past c.args.self.now ds there.0 (sym c.if-is_some.ensures) holds.1)))
-          c.pass_member.ensures.ok;
-      shorter = c.pass_member.ensures.shorter;
-      err = c.pass_member.ensures.err;
+          c.skip_member.ensures.ok;
+      shorter = c.skip_member.ensures.shorter;
+      err = c.skip_member.ensures.err;
     }
 
 pub overflow_cast-number : goal.overflow_cast-number
 overflow_cast-number c =
     let self = c.args.self.now in
     let holds = c.requires.2.1 in
-    let few = few_entries self.plan.now.changes self.said.items self.waits (length self.kept.items) holds.made holds.said in
+    let few = few_entries self.plan.now.changes self.outcomes.items self.waits (length self.kept.items) holds.made holds.outcomes in
     omega (arith, few, holds.few_changes, c.len-number.ensures)
 
-pub said_by_entry-said-requires-clause-said : goal.said_by_entry-said-requires-clause-said
-said_by_entry-said-requires-clause-said c = rw c.deref.ensures.value (long c.args.self.now c.requires.1 c.requires.2.1)
+pub resolve_entry-outcomes-requires-clause-outcomes : goal.resolve_entry-outcomes-requires-clause-outcomes
+resolve_entry-outcomes-requires-clause-outcomes c = rw c.deref.ensures.value (long c.args.self.now c.requires.1 c.requires.2.1)
 
-pub returns-in_ok-keep-in-Ok : goal.returns-in_ok-keep-in-Ok
-returns-in_ok-keep-in-Ok c =
+pub returns-in_ok-store-in-Ok : goal.returns-in_ok-store-in-Ok
+returns-in_ok-store-in-Ok c =
     let done = c.in_ok-entry.ensures.ok in
-    let keeps = c.in_ok-keep-in-Ok.ensures in
+    let keeps = c.in_ok-store-in-Ok.ensures in
     let number : c.len-number.result ≡ length c.args.self.now.kept.items = omega (arith, c.len-number.ensures, c.args.self.now.kept.ok.0) in
-    let said = rw (c.deref.ensures.value, number) at c.in-Ok.ensures.defined done.0 done.2 in
+    let outcomes = rw (c.deref.ensures.value, number) at c.in-Ok.ensures.defined done.0 done.2 in
     let below = rw c.deref.ensures.value at c.in-Ok.ensures.within in
     let placed = rw c.deref.ensures.value at c.in-Ok.ensures.placed in
     record {
@@ -41,7 +41,7 @@ returns-in_ok-keep-in-Ok c =
         done.0,
         done.1,
         λ start ds holds.
-            (keeps.plan ∙ holds.0, holds_more c.args.self.now c.keep.new.self ds done.0 c.in-Ok.change c.in-Ok.steps c.in-Ok.waits holds.1 (sym c.if-is_some.ensures) said below placed c.in-Ok.ensures.few keeps),
+            (keeps.plan ∙ holds.0, holds_more c.args.self.now c.store.new.self ds done.0 c.in-Ok.change c.in-Ok.steps c.in-Ok.waits holds.1 (sym c.if-is_some.ensures) outcomes below placed c.in-Ok.ensures.few keeps),
       );
       shorter = c.in_ok-entry.ensures.shorter;
       err = λ never. absurd cc;

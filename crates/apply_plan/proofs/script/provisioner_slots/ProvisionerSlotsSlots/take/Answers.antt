@@ -1,7 +1,7 @@
 use Rattle.std.proofs.Common.{◌≡◌, codes, true, refl, sym, ◌∙◌}
 use Rattle.std.specs.Str.{bytes_eq}
 use Rattle.json.specs.Json.{value}
-use Rattle.apply_json.specs.Seen.{seen}
+use Rattle.apply_json.specs.ShallowView.{shallow_of}
 use Rattle.apply_json.proofs.Held.{left}
 use Rattle.apply_plan.specs.Script.Entry.{output_from}
 use Rattle.apply_plan.specs.Script.Members.{diag_member, each_member}
@@ -13,18 +13,18 @@ pub returns-then-is_text : goal.returns-then-is_text
 returns-then-is_text c =
     let here : bytes_eq c.args.name.now (codes "provisioner") ≡ true = sym c.is_text.ensures ∙ c.if-is_text.true in
     record {
-      ok = scalar_read c.read_scalar_into.result c.args.name.now (codes "provisioner") here (value c.args.depth c.args.reader.now) c.read_scalar_into.new.reader refl (λ d is start ms holds. provisioner_behind c.args.name.now (codes "provisioner") d ms here _ is holds.seconds holds.failed holds.output holds.on_failure) c.read_scalar_into.ensures.ok;
-      shorter = c.read_scalar_into.ensures.shorter;
-      err = c.read_scalar_into.ensures.err;
+      ok = scalar_read c.read_shallow_into.result c.args.name.now (codes "provisioner") here (value c.args.depth c.args.reader.now) c.read_shallow_into.new.reader refl (λ d is start ms holds. provisioner_behind c.args.name.now (codes "provisioner") d ms here _ is holds.seconds holds.failed holds.output holds.on_failure) c.read_shallow_into.ensures.ok;
+      shorter = c.read_shallow_into.ensures.shorter;
+      err = c.read_shallow_into.ensures.err;
     }
 
 pub returns-then-is_text-2 : goal.returns-then-is_text-2
 returns-then-is_text-2 c =
     let here : bytes_eq c.args.name.now (codes "seconds") ≡ true = sym c.is_text-else-is_text.ensures ∙ c.if-is_text-2.true in
     record {
-      ok = scalar_read c.read_scalar_into-then-is_text-2.result c.args.name.now (codes "seconds") here (value c.args.depth c.args.reader.now) c.read_scalar_into-then-is_text-2.new.reader refl (λ d is start ms holds. provisioner_behind c.args.name.now (codes "seconds") d ms here _ holds.name is holds.failed holds.output holds.on_failure) c.read_scalar_into-then-is_text-2.ensures.ok;
-      shorter = c.read_scalar_into-then-is_text-2.ensures.shorter;
-      err = c.read_scalar_into-then-is_text-2.ensures.err;
+      ok = scalar_read c.read_shallow_into-then-is_text-2.result c.args.name.now (codes "seconds") here (value c.args.depth c.args.reader.now) c.read_shallow_into-then-is_text-2.new.reader refl (λ d is start ms holds. provisioner_behind c.args.name.now (codes "seconds") d ms here _ holds.name is holds.failed holds.output holds.on_failure) c.read_shallow_into-then-is_text-2.ensures.ok;
+      shorter = c.read_shallow_into-then-is_text-2.ensures.shorter;
+      err = c.read_shallow_into-then-is_text-2.ensures.err;
     }
 
 pub returns-then-is_text-3 : goal.returns-then-is_text-3
@@ -49,24 +49,24 @@ pub returns-then-is_text-5 : goal.returns-then-is_text-5
 returns-then-is_text-5 c =
     let here : bytes_eq c.args.name.now (codes "on_failure") ≡ true = sym c.is_text-else-is_text-4.ensures ∙ c.if-is_text-5.true in
     record {
-      ok = scalar_read c.read_scalar_into-then-is_text-5.result c.args.name.now (codes "on_failure") here (value c.args.depth c.args.reader.now) c.read_scalar_into-then-is_text-5.new.reader refl (λ d is start ms holds. provisioner_behind c.args.name.now (codes "on_failure") d ms here _ holds.name holds.seconds holds.failed holds.output is) c.read_scalar_into-then-is_text-5.ensures.ok;
-      shorter = c.read_scalar_into-then-is_text-5.ensures.shorter;
-      err = c.read_scalar_into-then-is_text-5.ensures.err;
+      ok = scalar_read c.read_shallow_into-then-is_text-5.result c.args.name.now (codes "on_failure") here (value c.args.depth c.args.reader.now) c.read_shallow_into-then-is_text-5.new.reader refl (λ d is start ms holds. provisioner_behind c.args.name.now (codes "on_failure") d ms here _ holds.name holds.seconds holds.failed holds.output is) c.read_shallow_into-then-is_text-5.ensures.ok;
+      shorter = c.read_shallow_into-then-is_text-5.ensures.shorter;
+      err = c.read_shallow_into-then-is_text-5.ensures.err;
     }
 
 pub returns-else-is_text-5 : goal.returns-else-is_text-5
 returns-else-is_text-5 c =
     let k = c.args.name.now in
     record {
-      ok = passed_read c.pass_member.result k (value c.args.depth c.args.reader.now) c.pass_member.new.reader
+      ok = passed_read c.skip_member.result k (value c.args.depth c.args.reader.now) c.skip_member.new.reader
           (λ d start ms holds. record {
-            name = left seen (codes "provisioner") k d ms _ (sym c.is_text.ensures ∙ c.if-is_text.false) holds.name;
-            seconds = left seen (codes "seconds") k d ms _ (sym c.is_text-else-is_text.ensures ∙ c.if-is_text-2.false) holds.seconds;
+            name = left shallow_of (codes "provisioner") k d ms _ (sym c.is_text.ensures ∙ c.if-is_text.false) holds.name;
+            seconds = left shallow_of (codes "seconds") k d ms _ (sym c.is_text-else-is_text.ensures ∙ c.if-is_text-2.false) holds.seconds;
             failed = left diag_member (codes "failed") k d ms _ (sym c.is_text-else-is_text-2.ensures ∙ c.if-is_text-3.false) holds.failed;
             output = left (each_member output_from) (codes "output") k d ms _ (sym c.is_text-else-is_text-3.ensures ∙ c.if-is_text-4.false) holds.output;
-            on_failure = left seen (codes "on_failure") k d ms _ (sym c.is_text-else-is_text-4.ensures ∙ c.if-is_text-5.false) holds.on_failure;
+            on_failure = left shallow_of (codes "on_failure") k d ms _ (sym c.is_text-else-is_text-4.ensures ∙ c.if-is_text-5.false) holds.on_failure;
           })
-          c.pass_member.ensures.ok;
-      shorter = c.pass_member.ensures.shorter;
-      err = c.pass_member.ensures.err;
+          c.skip_member.ensures.ok;
+      shorter = c.skip_member.ensures.shorter;
+      err = c.skip_member.ensures.err;
     }

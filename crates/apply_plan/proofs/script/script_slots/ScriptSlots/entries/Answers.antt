@@ -1,6 +1,6 @@
 use Rattle.std.proofs.Common.{codes, refl, sym, ◌∙◌, ⊎_elim}
 use Rattle.serde_json.specs.Find.{get_member}
-use Rattle.apply_json.specs.Seen.{members_in}
+use Rattle.apply_json.specs.ShallowView.{members_in}
 use Rattle.apply_plan.specs.Script.EntriesView.{entries_in}
 use Rattle.apply_plan.proofs.Scripts.Read.{elements_of_absent, elements_of_list, elements_of_other}
 use Rattle.apply_plan.proofs.script.script_slots.ScriptSlots.entries.Goals as goal

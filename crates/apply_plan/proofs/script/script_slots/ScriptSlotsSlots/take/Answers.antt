@@ -34,7 +34,7 @@ returns-else-is_text c =
     let k = c.args.name.now in
     let other : bytes_eq k (codes "changes") ≡ false = sym c.is_text.ensures ∙ c.if-is_text.false in
     record {
-      ok = passed_read c.pass_member.result k (value c.args.depth c.args.reader.now) c.pass_member.new.reader
+      ok = passed_read c.skip_member.result k (value c.args.depth c.args.reader.now) c.skip_member.new.reader
           (λ d start ms holds. (
             holds.0,
             record {
@@ -42,7 +42,7 @@ returns-else-is_text c =
               entries = subst (λ ds. HoldsEntries c.args.self.now.entries ds) (left entries_in (codes "changes") k d ms (entries_in (get_member (codes "changes") ms)) other refl) holds.1.entries;
             },
           ))
-          c.pass_member.ensures.ok;
-      shorter = c.pass_member.ensures.shorter;
-      err = c.pass_member.ensures.err;
+          c.skip_member.ensures.ok;
+      shorter = c.skip_member.ensures.shorter;
+      err = c.skip_member.ensures.err;
     }

@@ -1,7 +1,7 @@
 use Rattle.std.proofs.Common.{◌≡◌, codes, true, refl, sym, ◌∙◌}
 use Rattle.std.specs.Str.{bytes_eq}
 use Rattle.json.specs.Json.{value}
-use Rattle.apply_json.specs.Seen.{seen}
+use Rattle.apply_json.specs.ShallowView.{shallow_of}
 use Rattle.apply_json.proofs.Held.{left}
 use Rattle.apply_plan.specs.Script.Entry.{provisioner_from, wait_from}
 use Rattle.apply_plan.specs.Script.Members.{diag_member, each_member, failure_member}
@@ -13,9 +13,9 @@ pub returns-then-is_text : goal.returns-then-is_text
 returns-then-is_text c =
     let here : bytes_eq c.args.name.now (codes "seconds") ≡ true = sym c.is_text.ensures ∙ c.if-is_text.true in
     record {
-      ok = scalar_read c.read_scalar_into.result c.args.name.now (codes "seconds") here (value c.args.depth c.args.reader.now) c.read_scalar_into.new.reader refl (λ d is start ms holds. step_behind c.args.name.now (codes "seconds") d ms here _ is holds.after holds.id holds.warning holds.failed holds.provisioners holds.skipped) c.read_scalar_into.ensures.ok;
-      shorter = c.read_scalar_into.ensures.shorter;
-      err = c.read_scalar_into.ensures.err;
+      ok = scalar_read c.read_shallow_into.result c.args.name.now (codes "seconds") here (value c.args.depth c.args.reader.now) c.read_shallow_into.new.reader refl (λ d is start ms holds. step_behind c.args.name.now (codes "seconds") d ms here _ is holds.after holds.id holds.warning holds.failed holds.provisioners holds.skipped) c.read_shallow_into.ensures.ok;
+      shorter = c.read_shallow_into.ensures.shorter;
+      err = c.read_shallow_into.ensures.err;
     }
 
 pub returns-then-is_text-2 : goal.returns-then-is_text-2
@@ -31,9 +31,9 @@ pub returns-then-is_text-3 : goal.returns-then-is_text-3
 returns-then-is_text-3 c =
     let here : bytes_eq c.args.name.now (codes "id") ≡ true = sym c.is_text-else-is_text-2.ensures ∙ c.if-is_text-3.true in
     record {
-      ok = scalar_read c.read_scalar_into-then-is_text-3.result c.args.name.now (codes "id") here (value c.args.depth c.args.reader.now) c.read_scalar_into-then-is_text-3.new.reader refl (λ d is start ms holds. step_behind c.args.name.now (codes "id") d ms here _ holds.seconds holds.after is holds.warning holds.failed holds.provisioners holds.skipped) c.read_scalar_into-then-is_text-3.ensures.ok;
-      shorter = c.read_scalar_into-then-is_text-3.ensures.shorter;
-      err = c.read_scalar_into-then-is_text-3.ensures.err;
+      ok = scalar_read c.read_shallow_into-then-is_text-3.result c.args.name.now (codes "id") here (value c.args.depth c.args.reader.now) c.read_shallow_into-then-is_text-3.new.reader refl (λ d is start ms holds. step_behind c.args.name.now (codes "id") d ms here _ holds.seconds holds.after is holds.warning holds.failed holds.provisioners holds.skipped) c.read_shallow_into-then-is_text-3.ensures.ok;
+      shorter = c.read_shallow_into-then-is_text-3.ensures.shorter;
+      err = c.read_shallow_into-then-is_text-3.ensures.err;
     }
 
 pub returns-then-is_text-4 : goal.returns-then-is_text-4
@@ -67,26 +67,26 @@ pub returns-then-is_text-7 : goal.returns-then-is_text-7
 returns-then-is_text-7 c =
     let here : bytes_eq c.args.name.now (codes "skipped") ≡ true = sym c.is_text-else-is_text-6.ensures ∙ c.if-is_text-7.true in
     record {
-      ok = scalar_read c.read_scalar_into-then-is_text-7.result c.args.name.now (codes "skipped") here (value c.args.depth c.args.reader.now) c.read_scalar_into-then-is_text-7.new.reader refl (λ d is start ms holds. step_behind c.args.name.now (codes "skipped") d ms here _ holds.seconds holds.after holds.id holds.warning holds.failed holds.provisioners is) c.read_scalar_into-then-is_text-7.ensures.ok;
-      shorter = c.read_scalar_into-then-is_text-7.ensures.shorter;
-      err = c.read_scalar_into-then-is_text-7.ensures.err;
+      ok = scalar_read c.read_shallow_into-then-is_text-7.result c.args.name.now (codes "skipped") here (value c.args.depth c.args.reader.now) c.read_shallow_into-then-is_text-7.new.reader refl (λ d is start ms holds. step_behind c.args.name.now (codes "skipped") d ms here _ holds.seconds holds.after holds.id holds.warning holds.failed holds.provisioners is) c.read_shallow_into-then-is_text-7.ensures.ok;
+      shorter = c.read_shallow_into-then-is_text-7.ensures.shorter;
+      err = c.read_shallow_into-then-is_text-7.ensures.err;
     }
 
 pub returns-else-is_text-7 : goal.returns-else-is_text-7
 returns-else-is_text-7 c =
     let k = c.args.name.now in
     record {
-      ok = passed_read c.pass_member.result k (value c.args.depth c.args.reader.now) c.pass_member.new.reader
+      ok = passed_read c.skip_member.result k (value c.args.depth c.args.reader.now) c.skip_member.new.reader
           (λ d start ms holds. record {
-            seconds = left seen (codes "seconds") k d ms _ (sym c.is_text.ensures ∙ c.if-is_text.false) holds.seconds;
+            seconds = left shallow_of (codes "seconds") k d ms _ (sym c.is_text.ensures ∙ c.if-is_text.false) holds.seconds;
             after = left (each_member wait_from) (codes "after") k d ms _ (sym c.is_text-else-is_text.ensures ∙ c.if-is_text-2.false) holds.after;
-            id = left seen (codes "id") k d ms _ (sym c.is_text-else-is_text-2.ensures ∙ c.if-is_text-3.false) holds.id;
+            id = left shallow_of (codes "id") k d ms _ (sym c.is_text-else-is_text-2.ensures ∙ c.if-is_text-3.false) holds.id;
             warning = left diag_member (codes "warning") k d ms _ (sym c.is_text-else-is_text-3.ensures ∙ c.if-is_text-4.false) holds.warning;
             failed = left failure_member (codes "failed") k d ms _ (sym c.is_text-else-is_text-4.ensures ∙ c.if-is_text-5.false) holds.failed;
             provisioners = left (each_member provisioner_from) (codes "provisioners") k d ms _ (sym c.is_text-else-is_text-5.ensures ∙ c.if-is_text-6.false) holds.provisioners;
-            skipped = left seen (codes "skipped") k d ms _ (sym c.is_text-else-is_text-6.ensures ∙ c.if-is_text-7.false) holds.skipped;
+            skipped = left shallow_of (codes "skipped") k d ms _ (sym c.is_text-else-is_text-6.ensures ∙ c.if-is_text-7.false) holds.skipped;
           })
-          c.pass_member.ensures.ok;
-      shorter = c.pass_member.ensures.shorter;
-      err = c.pass_member.ensures.err;
+          c.skip_member.ensures.ok;
+      shorter = c.skip_member.ensures.shorter;
+      err = c.skip_member.ensures.err;
     }

@@ -1,13 +1,13 @@
 use Rattle.std.proofs.Common.{◌≡◌, ◌≤◌, [], Bool, None, ap, get_or, length, sym, ◌∙◌, arith}
 use Rattle.std.specs.Prelude.{◌||◌, is_some}
 use Rattle.std.proofs.lemmas.List.{get_or_default}
-use Rattle.apply_plan.specs.declared.script.tree_wait.TreeWait.{TreeWait}
+use Rattle.apply_plan.specs.declared.script.raw_wait.RawWait.{RawWait}
 use Rattle.apply_plan.proofs.Scripts.Waited.{all_waited, is_of_none, names_none, names_step, none_waited, number_below}
 use Rattle.apply_plan.proofs.script.waited.Waited.of.Goals as goal
 use Rattle.apply_plan.proofs.script.waited.Waited.of.Goals.{in-Some-step_of+in_ok-push-in-Some-step_of, in-None+then-lacks_step, in-None+else-lacks_step}
 
--- what would be read past the last item
-abbrev no_item : TreeWait
+-- the value that a read past the last item would give
+abbrev no_item : RawWait
 no_item = record { address = record { ref_ptr = (0, 0); now = [] }; deposed = None; step = None }
 
 pub loop-item-init : goal.loop-item-init

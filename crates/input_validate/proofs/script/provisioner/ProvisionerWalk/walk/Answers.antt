@@ -2,10 +2,10 @@ use Rattle.std.proofs.Common.{◌≡◌, ◌∷◌, [], true, is_some, rules, su
 use Rattle.std.specs.Prelude.{IfOk}
 use Rattle.serde_json.specs.Find.{as_object}
 use Rattle.serde_json.specs.View.{view}
-use Rattle.input_validate.specs.declared.walks.mark.Mark.{Mark}
-use Rattle.input_validate.specs.Findings.{told}
+use Rattle.input_validate.specs.declared.rules.violation.Violation.{Violation}
+use Rattle.input_validate.specs.Findings.{reported}
 use Rattle.input_validate.specs.ScriptFindings.{in_provisioner}
-use Rattle.input_validate.specs.Walks.{marked}
+use Rattle.input_validate.specs.Rules.{violation_findings}
 use Rattle.input_validate.proofs.script.provisioner.ProvisionerWalk.walk.Goals as goal
 
 pub returns : goal.returns
@@ -17,6 +17,6 @@ returns c =
     (c.joined-all-3.ensures _ _
     (c.joined-all-2.ensures _ _
     (c.joined-all.ensures _ _ c.faults-all.ensures c.walk_list.ensures)
-    (subst (λ (it : Mark). IfOk c.walk_marks.result (λ f. f ≡ told (marked (it ∷ [])))) c.mark.ensures c.walk_marks.ensures))
+    (subst (λ (it : Violation). IfOk c.walk_violations.result (λ f. f ≡ reported (violation_findings (it ∷ [])))) c.violation.ensures c.walk_violations.ensures))
     c.walk_inside.ensures)
-    c.walk_unread.ensures)
+    c.walk_ignored.ensures)

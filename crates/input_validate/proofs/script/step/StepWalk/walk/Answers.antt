@@ -2,11 +2,11 @@ use Rattle.std.proofs.Common.{◌≡◌, List, true, ap, is_some, subst, ◌∙�
 use Rattle.std.specs.Prelude.{IfOk}
 use Rattle.serde_json.specs.Find.{as_object}
 use Rattle.serde_json.specs.View.{view}
-use Rattle.input_validate.specs.declared.walks.known.Known.{Known}
-use Rattle.input_validate.specs.declared.walks.mark.Mark.{Mark}
-use Rattle.input_validate.specs.Findings.{told}
+use Rattle.input_validate.specs.declared.rules.rule.MemberRule.{MemberRule}
+use Rattle.input_validate.specs.declared.rules.violation.Violation.{Violation}
+use Rattle.input_validate.specs.Findings.{reported}
 use Rattle.input_validate.specs.ScriptFindings.{in_step, is_skipped, step_table}
-use Rattle.input_validate.specs.Walks.{faults_of, marked}
+use Rattle.input_validate.specs.Rules.{faults_of, violation_findings}
 use Rattle.input_validate.proofs.script.step.StepWalk.walk.Goals as goal
 
 pub returns : goal.returns
@@ -15,8 +15,8 @@ returns c =
     let d = view c.args.value.now in
     let there : is_some (as_object d) ≡ true = search (rules, c.suits, c.if-not-suits) in
     let table : c.table.result.now ≡ step_table (is_skipped d) = c.table.ensures ∙ ap step_table c.is_skipped.ensures in
-    let first : IfOk c.faults-all.result (λ f. f ≡ told (faults_of (step_table (is_skipped d)) d)) =
-    subst (λ (known : List Known). IfOk c.faults-all.result (λ f. f ≡ told (faults_of known d))) table c.faults-all.ensures in
+    let first : IfOk c.faults-all.result (λ f. f ≡ reported (faults_of (step_table (is_skipped d)) d)) =
+    subst (λ (rule : List MemberRule). IfOk c.faults-all.result (λ f. f ≡ reported (faults_of rule d))) table c.faults-all.ensures in
     rw there
     (c.joined.ensures _ _
     (c.joined-all-9.ensures _ _
@@ -30,10 +30,10 @@ returns c =
     (c.joined-all.ensures _ _ first c.walk_inside.ensures)
     c.walk_inside-2.ensures)
     c.walk_list.ensures)
-    (subst (λ (marks : List Mark). IfOk c.walk_marks.result (λ f. f ≡ told (marked marks))) c.marks.ensures c.walk_marks.ensures))
-    (subst (λ (marks : List Mark). IfOk c.walk_marks-2.result (λ f. f ≡ told (marked marks))) c.kind_marks.ensures c.walk_marks-2.ensures))
+    (subst (λ (violations : List Violation). IfOk c.walk_violations.result (λ f. f ≡ reported (violation_findings violations))) c.violations.ensures c.walk_violations.ensures))
+    (subst (λ (violations : List Violation). IfOk c.walk_violations-2.result (λ f. f ≡ reported (violation_findings violations))) c.kind_violations.ensures c.walk_violations-2.ensures))
     c.faults.ensures)
-    (subst (λ (marks : List Mark). IfOk c.walk_marks-3.result (λ f. f ≡ told (marked marks))) c.skipped_marks.ensures c.walk_marks-3.ensures))
+    (subst (λ (violations : List Violation). IfOk c.walk_violations-3.result (λ f. f ≡ reported (violation_findings violations))) c.skipped_violations.ensures c.walk_violations-3.ensures))
     c.walk_items_at.ensures)
     c.walk_list-2.ensures)
-    c.walk_unread.ensures)
+    c.walk_ignored.ensures)

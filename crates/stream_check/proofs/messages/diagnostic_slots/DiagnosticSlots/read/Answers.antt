@@ -1,5 +1,5 @@
 use Rattle.apply_json.specs.declared.read_fault.ReadFault.TheVariants.{NotJson}
-use Rattle.apply_json.proofs.Keeping.{as_whole}
+use Rattle.apply_json.proofs.VerbatimValues.{as_whole}
 use Rattle.stream_check.proofs.Slots.{no_fault, same_fault}
 use Rattle.stream_check.proofs.messages.diagnostic_slots.DiagnosticSlots.read.Goals as goal
 

@@ -1,6 +1,6 @@
 use Rattle.std.proofs.Common.{ap₂}
 use Rattle.apply_json.specs.declared.read_fault.ReadFault.TheVariants.{NotJson}
-use Rattle.apply_json.proofs.Keeping.{as_whole}
+use Rattle.apply_json.proofs.VerbatimValues.{as_whole}
 use Rattle.stream_check.proofs.Slots.{no_fault, same_fault}
 use Rattle.stream_check.proofs.messages.inner_slot.InnerSlot.read.Goals as goal
 
@@ -8,7 +8,7 @@ pub returns-in-Ok : goal.returns-in-Ok
 returns-in-Ok c =
     let done = c.in-Ok.ensures.ok in
     record {
-      ok = (done.0, as_whole c.args.depth c.args.reader.now done.0 c.read_object.new.reader done.1, ap₂ (λ p o. (p, o)) (c.of.ensures done.0 done.2) done.3.found);
+      ok = (done.0, as_whole c.args.depth c.args.reader.now done.0 c.read_object.new.reader done.1, ap₂ (λ p o. (p, o)) (c.of.ensures done.0 done.2) done.3.value);
       shorter = c.in-Ok.ensures.shorter;
       err = no_fault tt NotJson;
     }

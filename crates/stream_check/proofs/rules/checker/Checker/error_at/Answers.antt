@@ -1,9 +1,9 @@
 use Rattle.std.proofs.Common.{◌≡◌, ℕ, ◌∷◌, ◌∙◌, ap, cond, refl, true, Some}
 use Rattle.std.specs.BTreeMap.{get_by_text}
 use Rattle.std.specs.Str.{bytes_eq}
-use Rattle.stream_check.specs.declared.rules.standing.Standing.{Standing}
+use Rattle.stream_check.specs.declared.rules.address_state.AddressState.{AddressState}
 use Rattle.stream_check.specs.Message.{diagnostic}
-use Rattle.stream_check.specs.Standing.{explained, standing_of, unless_idle}
+use Rattle.stream_check.specs.AddressState.{failures_cleared, state_of, unless_idle}
 use Rattle.stream_check.specs.Tallied.{with_error_at}
 use Rattle.stream_check.specs.Tally.{failure_count}
 use Rattle.stream_check.proofs.Continuing.{error_read, looked_up}
@@ -12,13 +12,13 @@ use Rattle.stream_check.proofs.rules.checker.Checker.error_at.Goals as goal
 pub returns : goal.returns
 returns c = λ messages read.
     let a = c.args.address.now in
-    let before : c.at-standing.result ≡ standing_of a messages = looked_up c.args.self.now messages a c.at-standing.result read c.at-standing.ensures in
-    let there : c.explained.result ≡ explained true (standing_of a messages) = c.explained.ensures ∙ ap (explained true) before in
-    let count : c.failure_count-count.result ≡ failure_count (standing_of a messages).failures = c.failure_count-count.ensures ∙ ap (λ (s : Standing). failure_count s.failures) before in (
+    let before : c.at-state.result ≡ state_of a messages = looked_up c.args.self.now messages a c.at-state.result read c.at-state.ensures in
+    let there : c.failures_cleared.result ≡ failures_cleared true (state_of a messages) = c.failures_cleared.ensures ∙ ap (failures_cleared true) before in
+    let count : c.failure_count-count.result ≡ failure_count (state_of a messages).failures = c.failure_count-count.ensures ∙ ap (λ (s : AddressState). failure_count s.failures) before in (
       diagnostic true (Some a) ∷ messages,
       refl,
       error_read c.args.self.now _ messages a read
-          (λ b. c.in-Ok.ensures.ok b ∙ ap (λ (s : Standing). cond (bytes_eq a b) (unless_idle s) (get_by_text c.args.self.now.pending.standings b)) there)
+          (λ b. c.in-Ok.ensures.ok b ∙ ap (λ (s : AddressState). cond (bytes_eq a b) (unless_idle s) (get_by_text c.args.self.now.pending.states b)) there)
           (c.with_error_at-self.ensures.value ∙ ap (λ (n : ℕ). with_error_at n c.args.self.now.tally) count),
     )
 

@@ -1,6 +1,6 @@
-use Rattle.stream_check.specs.Standing.{standing_of}
+use Rattle.stream_check.specs.AddressState.{state_of}
 use Rattle.stream_check.proofs.rules.checker.Checker.new.Goals as goal
 
 pub returns : goal.returns
-unfolding standing_of
-returns c = record { tally = c.new.ensures.value; standing = λ a. c.new-2.ensures a }
+unfolding state_of
+returns c = record { tally = c.new.ensures.value; state = λ a. c.new-2.ensures a }

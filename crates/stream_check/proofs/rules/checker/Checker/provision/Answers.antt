@@ -1,7 +1,7 @@
 use Rattle.std.proofs.Common.{◌≡◌, ◌+◌, ◌∷◌, ◌∙◌, length, Ok}
 use Rattle.stream_check.specs.Message.{provision}
-use Rattle.stream_check.specs.Standing.{provision_on, standing_of}
-use Rattle.stream_check.proofs.Continuing.{after_summary, no_summary, one_more, provision_after, provision_read}
+use Rattle.stream_check.specs.AddressState.{provision_on, state_of}
+use Rattle.stream_check.proofs.Continuing.{after_summary, no_summary, with_one, provision_after, provision_read}
 use Rattle.stream_check.proofs.Summing.{provision_faulty, provision_fits}
 use Rattle.stream_check.proofs.rules.checker.Checker.provision.Goals as goal
 
@@ -15,18 +15,18 @@ returns-in-Err c = λ messages read. (
 pub returns : goal.returns
 returns c = λ messages read.
     let a = c.args.address.now in
-    let e : provision_on c.args.stage (length messages + 1) (standing_of a messages) ≡ Ok c.in-Ok.standing =
+    let e : provision_on c.args.stage (length messages + 1) (state_of a messages) ≡ Ok c.in-Ok.state =
     provision_after c.args.self.now messages a c.args.stage c.at.result c.provision_on.result read c.at.ensures c.provision_on.ensures ∙ c.in-Ok.is in (
       provision a c.args.stage ∷ messages,
-      provision_fits messages a c.args.stage c.in-Ok.standing (no_summary c.args.self.now messages read c.in_default.not-Some) e,
-      provision_read c.args.self.now _ messages a c.args.stage c.in-Ok.standing read c.in-Ok-set.ensures.ok c.with_line-self.ensures.value e,
+      provision_fits messages a c.args.stage c.in-Ok.state (no_summary c.args.self.now messages read c.in_default.not-Some) e,
+      provision_read c.args.self.now _ messages a c.args.stage c.in-Ok.state read c.in-Ok-set.ensures.ok c.with_line-self.ensures.value e,
     )
 
 pub returns-in-Some : goal.returns-in-Some
 returns-in-Some c = λ messages read. after_summary c.args.self.now messages c.in-Some.line _ read c.in-Some.is
 
 pub overflow_add-self : goal.overflow_add-self
-overflow_add-self c = one_more c.args.self.now.tally.lines c.requires
+overflow_add-self c = with_one c.args.self.now.tally.lines c.requires
 
 pub invariant_of-self : goal.invariant_of-self
 invariant_of-self c = record { small = c.args.self.now.small }

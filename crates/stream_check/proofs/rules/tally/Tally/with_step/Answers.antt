@@ -4,7 +4,7 @@ use Rattle.stream_check.specs.declared.messages.action.Action.TheVariants.{Creat
 use Rattle.stream_check.specs.declared.messages.timed_stage.TimedStage.{TimedStage}
 use Rattle.stream_check.specs.declared.messages.timed_stage.TimedStage.TheVariants.{Start, Progress, Complete, Errored}
 use Rattle.stream_check.specs.declared.messages.totals.Totals.{Totals}
-use Rattle.stream_check.specs.Counted.{begun_counted, counted, failures_counted, one_more}
+use Rattle.stream_check.specs.Counted.{begun_counted, counted, failures_counted, with_one}
 use Rattle.stream_check.proofs.rules.tally.Tally.with_step.Goals as goal
 
 -- totals that are no greater than a number
@@ -14,7 +14,7 @@ AreWithin n t = (t.added ≤ n) × (t.changed ≤ n) × (t.removed ≤ n)
 same_totals : (n : ℕ) (t : Totals) → AreWithin n t → AreWithin (n + 1) t
 same_totals n t h = let a = h.0 in let b = h.1 in let d = h.2 in (omega arith, omega arith, omega arith)
 
-one_within : (n : ℕ) (k : Action) (t : Totals) → AreWithin n t → AreWithin (n + 1) (one_more k t)
+one_within : (n : ℕ) (k : Action) (t : Totals) → AreWithin n t → AreWithin (n + 1) (with_one k t)
 one_within n Create t h = let a = h.0 in let b = h.1 in let d = h.2 in (omega arith, omega arith, omega arith)
 one_within n Update t h = let a = h.0 in let b = h.1 in let d = h.2 in (omega arith, omega arith, omega arith)
 one_within n Delete t h = let a = h.0 in let b = h.1 in let d = h.2 in (omega arith, omega arith, omega arith)

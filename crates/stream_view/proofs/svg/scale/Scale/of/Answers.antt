@@ -12,7 +12,7 @@ pub returns : goal.returns
 unfolding axis_of
 returns c =
     let picture = c.args.picture.now in
-    let labels = widest (column_text column.Label) picture.told.now.steps picture.rows.places.items in
+    let labels = widest (column_text column.Label) picture.timeline.now.steps picture.rows.places.items in
     let columns : c.min-columns.result ≡ min (max labels 8) 64 = omega (arith, c.in_ok-widest.ensures, c.max.ensures, c.min-columns.ensures) in
     let left : 160 + (c.min-columns.result + 2) * 72 + 120 ≡ 280 + (c.min-columns.result + 2) * 72 = omega arith in
     ap (λ (l : ℕ). record { left = l; right = 11280 }) left ∙ ap axis columns

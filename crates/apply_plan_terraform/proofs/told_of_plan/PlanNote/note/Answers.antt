@@ -1,4 +1,0 @@
-use Rattle.apply_plan_terraform.proofs.told_of_plan.PlanNote.note.Goals as goal
-
-pub returns-in-Partial : goal.returns-in-Partial
-returns-in-Partial c = rw c.in-Partial.is c.note_of.ensures

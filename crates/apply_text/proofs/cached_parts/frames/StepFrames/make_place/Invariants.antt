@@ -1,5 +1,0 @@
-use Rattle.std.proofs.Common.{◌-◌, length}
-use Rattle.apply_text.proofs.cached_parts.frames.StepFrames.make_place.Given as goal
-
-abbrev pub decreases-loop-self : goal.decreases-loop-self
-decreases-loop-self g l = 64 - length l.self.frames.items

@@ -1,8 +1,0 @@
-use Rattle.std.proofs.Common.{◌++◌, codes, ap, ◌∙◌}
-use Rattle.apply_text.proofs.HookLines.{middle_is}
-use Rattle.apply_text.proofs.cached_parts.hook_frame.hook_middle.Goals as goal
-
-pub returns : goal.returns
-returns c =
-    let begun = c.in_ok-push_str.ensures.bytes ∙ ap (λ s. s ++ codes "Z\",\"hook\":{\"action\":\"") c.clear.ensures.bytes in
-    middle_is _ _ _ c.new.result.action.now c.args.step begun c.in_ok-push_str-2.ensures.bytes c.new.ensures.action c.in_ok-push_str-3.ensures.bytes

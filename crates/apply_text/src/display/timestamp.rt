@@ -1,0 +1,52 @@
+//! Timestamps in UTC.
+
+ghost use Rattle.std.specs.Prelude.{◌≡◌, ◌+◌, ◌≤◌, Some};
+ghost use Rattle.apply_events.specs.Fits.{latest_second};
+ghost use Rattle.apply_text.specs.UtcTimestamp.{timestamp_text};
+
+use crate::start::Start;
+use jiff::Timestamp;
+use jiff::civil::DateTime;
+use jiff::tz::Offset;
+use std::fmt;
+use std::marker::Model;
+
+/// A timestamp in UTC, printed as in RFC 3339 (section 5.6): `1970-01-01T00:00:00Z`.
+///
+/// Contracts see its text.
+#[derive(Drop)]
+pub struct UtcTimestamp {
+    civil: DateTime,
+}
+
+impl Model for UtcTimestamp {
+    ghost use Rattle.std.specs.Prelude.{ℕ, List, ◌++◌, codes};
+    ghost use Rattle.jiff.specs.Words.{iso_datetime_text};
+
+    ghost Value = { List ℕ };
+
+    ghost view = { λ timestamp. iso_datetime_text timestamp.civil ++ codes "Z" };
+}
+
+impl UtcTimestamp {
+    /// The timestamp `clock` seconds after `start`.
+    pub fn new(start: Start, clock: u64) -> UtcTimestamp
+        requires { clock ≤ latest_second }
+        ensures { result ≡ timestamp_text (start + clock) }
+    {
+        let seconds = start.seconds() + clock;
+        let instant = Timestamp::from_second(seconds as i64).unwrap();
+        UtcTimestamp {
+            civil: Offset::UTC.to_datetime(instant),
+        }
+    }
+}
+
+impl fmt::Display for UtcTimestamp {
+    ghost output = { λ timestamp. Some timestamp };
+
+    fn fmt<W: fmt::Write>(&self, f: &mut fmt::Formatter<W>) -> fmt::Result {
+        let civil = self.civil;
+        write!(f, "{civil}Z")
+    }
+}

@@ -1,8 +1,0 @@
-use Rattle.std.proofs.Common.{◌∙◌, sym, arith}
-use Rattle.apply_writer.proofs.Streams.Pieces.{pieces_count}
-use Rattle.apply_writer.proofs.forms.terraform_lines.TerraformLinesFormLines.pieces_of_head.Goals as goal
-
-pub returns-clause-count : goal.returns-clause-count
-returns-clause-count c =
-    let s = c.args.self.now in
-    omega (arith, c.len.ensures.len, pieces_count s.plan.now s.besides.details.now s.start)

@@ -1,4 +1,0 @@
-use Rattle.input_validate.proofs.findings.want.Want.is_met.Goals as goal
-
-pub returns-in-None : goal.returns-in-None
-returns-in-None c = rw c.in-None.is c.may_be_absent.ensures

@@ -1,4 +1,0 @@
-use Rattle.input_validate.proofs.reading.refused_with.Goals as goal
-
-pub returns : goal.returns
-returns c = c.joined.ensures _ _ (c.joined-all.ensures _ _ c.refused_for-first.ensures c.stuck_behind_first.ensures) c.waits_said.ensures

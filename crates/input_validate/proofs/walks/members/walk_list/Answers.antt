@@ -1,8 +1,0 @@
-use Rattle.serde_json.specs.View.{view}
-use Rattle.input_validate.specs.Walks.{fault_of, in_items, inside}
-use Rattle.input_validate.proofs.walks.members.walk_list.Goals as goal
-
-pub returns : goal.returns
-returns g c =
-    let d = view c.args.value.now in
-    c.joined.ensures (fault_of d c.args.known) (inside (in_items (g.W.Walk.found c.args.walk.now)) c.args.known.name d) c.fault-itself.ensures c.walk_items_at.ensures

@@ -1,5 +1,0 @@
-use Rattle.laws_check.proofs.FormWhole.{front_taken}
-use Rattle.laws_check.proofs.in_form.every_message_before_the_end_is_taken.Goals as goal
-
-pub returns : goal.returns
-returns c = front_taken

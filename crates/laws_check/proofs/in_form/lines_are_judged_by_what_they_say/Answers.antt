@@ -1,5 +1,0 @@
-use Rattle.laws_check.proofs.LinesAccepted.{lines_accepted}
-use Rattle.laws_check.proofs.in_form.lines_are_judged_by_what_they_say.Goals as goal
-
-pub returns : goal.returns
-returns c plans lines messages whole say short is = lines_accepted plans lines messages whole say short is

@@ -1,5 +1,0 @@
-use Rattle.apply_events.proofs.Joined.{own-worker}
-use Rattle.laws_run.proofs.events.a_worker_names_itself.Goals as goal
-
-pub returns : goal.returns
-returns c work worker changes = own-worker work worker changes

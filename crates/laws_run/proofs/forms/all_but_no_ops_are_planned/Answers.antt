@@ -1,5 +1,0 @@
-use Rattle.laws_run.proofs.PlannedElements.{all_but_no_ops}
-use Rattle.laws_run.proofs.forms.all_but_no_ops_are_planned.Goals as goal
-
-pub returns : goal.returns
-returns c = all_but_no_ops

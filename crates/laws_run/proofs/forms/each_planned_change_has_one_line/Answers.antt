@@ -1,5 +1,0 @@
-use Rattle.laws_run.proofs.PlannedLines.{each_told, lines, pieces}
-use Rattle.laws_run.proofs.forms.each_planned_change_has_one_line.Goals as goal
-
-pub returns : goal.returns
-returns c = record { pieces = pieces; planned = each_told; lines = lines }

@@ -1,5 +1,0 @@
-use Rattle.laws_run.proofs.Latest.{own_of_hook_message}
-use Rattle.laws_run.proofs.lines.a_hook_message_has_its_events_own_moment.Goals as goal
-
-pub returns : goal.returns
-returns c = own_of_hook_message

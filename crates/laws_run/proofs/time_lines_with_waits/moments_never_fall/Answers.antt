@@ -1,6 +1,0 @@
-use Rattle.apply_events.specs.Waits.Schedule.{schedule}
-use Rattle.laws_run.proofs.Along.{never_fall}
-use Rattle.laws_run.proofs.time_lines_with_waits.moments_never_fall.Goals as goal
-
-pub returns : goal.returns
-returns c w n events line = never_fall (schedule w n) events line.in_order

@@ -1,5 +1,0 @@
-use Rattle.laws_run.proofs.Queued.{is_next}
-use Rattle.laws_run.proofs.time_lines_with_waits.who_is_ready_first_goes_first.Goals as goal
-
-pub returns : goal.returns
-returns c w n later before one some is = is_next w n some later before one is

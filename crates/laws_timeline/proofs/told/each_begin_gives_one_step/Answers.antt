@@ -1,5 +1,0 @@
-use Rattle.laws_timeline.proofs.BeginLines.{step_lines}
-use Rattle.laws_timeline.proofs.told.each_begin_gives_one_step.Goals as goal
-
-pub returns : goal.returns
-returns c = step_lines

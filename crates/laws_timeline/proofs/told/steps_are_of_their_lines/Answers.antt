@@ -1,5 +1,0 @@
-use Rattle.laws_timeline.proofs.ItsLines.{steps_known}
-use Rattle.laws_timeline.proofs.told.steps_are_of_their_lines.Goals as goal
-
-pub returns : goal.returns
-returns c = steps_known

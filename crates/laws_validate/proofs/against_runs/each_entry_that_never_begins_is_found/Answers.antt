@@ -1,5 +1,0 @@
-use Rattle.laws_validate.proofs.StuckTold.{each_stuck}
-use Rattle.laws_validate.proofs.against_runs.each_entry_that_never_begins_is_found.Goals as goal
-
-pub returns : goal.returns
-returns c = each_stuck

@@ -1,5 +1,0 @@
-use Rattle.laws_validate.proofs.ScriptRefusals.{refusal_of_script}
-use Rattle.laws_validate.proofs.against_runs.the_refusal_of_a_script_is_found.Goals as goal
-
-pub returns : goal.returns
-returns c = refusal_of_script

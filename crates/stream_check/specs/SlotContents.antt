@@ -1,0 +1,219 @@
+-- What the slots of a line hold, and the message that they make, for private types.
+use Rattle.std.specs.Prelude.{◌≡◌, ⊤, ℕ, List, codes, Bool, Option, Some, None, option_map, Result, Ok, Err}
+use Rattle.std.specs.Option.{option_and_then, option_map_or}
+use Rattle.std.specs.Str.{bytes_eq}
+use Rattle.serde_json.specs.Data.{Data, null, boolean, number, string, array, object, Members, no_members}
+use Rattle.serde_json.specs.Find.{get_member}
+use Rattle.apply_json.specs.ShallowView.{ShallowView, members_in, shallow_view, shallow_of, shallow_text, shallow_whole}
+use Rattle.stream_check.specs.declared.messages.action.Action.TheVariants.{Refresh}
+use Rattle.stream_check.specs.declared.messages.changes_slots.ChangesSlots.{ChangesSlots}
+use Rattle.stream_check.specs.declared.messages.diagnostic_slots.DiagnosticSlots.{DiagnosticSlots}
+use Rattle.stream_check.specs.declared.messages.hook_slots.HookSlots.{HookSlots}
+use Rattle.stream_check.specs.declared.messages.inner_slot.InnerSlot.{InnerSlot}
+use Rattle.stream_check.specs.declared.messages.kind.Kind.{Kind}
+use Rattle.stream_check.specs.declared.messages.kind.Kind.TheVariants as kind
+use Rattle.stream_check.specs.declared.messages.member_fault.MemberFault.TheVariants as member_fault
+use Rattle.stream_check.specs.declared.messages.line_slots.LineSlots.{LineSlots}
+use Rattle.stream_check.specs.declared.messages.named_slot.NamedSlot.{NamedSlot}
+use Rattle.stream_check.specs.declared.messages.path.Path.{Path}
+use Rattle.stream_check.specs.declared.messages.path.Path.TheVariants as path
+use Rattle.stream_check.specs.declared.messages.presence.Presence.{Presence}
+use Rattle.stream_check.specs.declared.messages.presence.Presence.TheVariants.{Missing, NoObject, Object}
+use Rattle.stream_check.specs.declared.messages.timed_stage.Stage.{Stage}
+use Rattle.stream_check.specs.declared.messages.timed_stage.TimedStage.{TimedStage}
+use Rattle.stream_check.specs.declared.messages.timed_stage.TimedStage.TheVariants.{Start}
+use Rattle.stream_check.specs.declared.messages.totals.Totals.{Totals}
+use Rattle.stream_check.specs.declared.rules.fault.Fault.{Fault}
+use Rattle.stream_check.specs.declared.rules.fault.Fault.TheVariants.{Malformed}
+use Rattle.stream_check.specs.About.{About, of_provisioner, of_step}
+use Rattle.stream_check.specs.Lines.{untyped_message}
+use Rattle.stream_check.specs.MessageKinds.{kind_named}
+use Rattle.stream_check.specs.Message.{Message, version, step, provision, planned, plan_summary, summary, diagnostic, outputs, other, foreign, intent_named, step_or_other, summary_named, timed_stage_of}
+use Rattle.stream_check.specs.Results.{◌>>=◌, or_refuse}
+
+-- ---- the contents of slots
+
+-- the members of an optional value; only an object has any
+abbrev pub inside : Option Data → Members
+inside None = no_members
+inside (Some d) = members_in d
+
+-- an optional value without its inner values; it may be `null`
+abbrev pub shallow_value : Option Data → Option ShallowView
+shallow_value value = option_map (λ d. shallow_of (Some d)) value
+
+-- the presence of an object
+abbrev pub presence_of : Option Data → Presence
+presence_of None = Missing
+presence_of (Some null) = NoObject
+presence_of (Some (boolean b)) = NoObject
+presence_of (Some (number n)) = NoObject
+presence_of (Some (string s)) = NoObject
+presence_of (Some (array ds)) = NoObject
+presence_of (Some (object ms)) = Object
+
+-- the presence of an object, and its member of that name without inner values
+abbrev pub inner_of : (name : List ℕ) → Option Data → Presence × Option ShallowView
+inner_of name value = (presence_of value, shallow_value (get_member name (inside value)))
+
+abbrev pub inner_view : InnerSlot → Presence × Option ShallowView
+inner_view slot = (slot.is, option_map shallow_view slot.value)
+
+pub record HoldsNamed (name : List ℕ) (slot : NamedSlot) (ms : Members) : Type 0 where
+  pub named : slot.name.now ≡ name
+  pub value : option_map shallow_view slot.value ≡ shallow_value (get_member name ms)
+
+pub record HoldsHook (slots : HookSlots) (ms : Members) : Type 0 where
+  pub resource : inner_view slots.resource ≡ inner_of (codes "addr") (get_member (codes "resource") ms)
+  pub action : option_map shallow_view slots.action ≡ shallow_value (get_member (codes "action") ms)
+  pub seconds : option_map shallow_view slots.seconds ≡ shallow_value (get_member (codes "elapsed_seconds") ms)
+  pub provisioner : option_map shallow_view slots.provisioner ≡ shallow_value (get_member (codes "provisioner") ms)
+
+pub record HoldsChanges (slots : ChangesSlots) (ms : Members) : Type 0 where
+  pub operation : option_map shallow_view slots.operation ≡ shallow_value (get_member (codes "operation") ms)
+  pub added : option_map shallow_view slots.added ≡ shallow_value (get_member (codes "add") ms)
+  pub changed : option_map shallow_view slots.changed ≡ shallow_value (get_member (codes "change") ms)
+  pub removed : option_map shallow_view slots.removed ≡ shallow_value (get_member (codes "remove") ms)
+
+pub record HoldsDiagnostic (slots : DiagnosticSlots) (ms : Members) : Type 0 where
+  pub severity : option_map shallow_view slots.severity ≡ shallow_value (get_member (codes "severity") ms)
+  pub address : option_map shallow_view slots.address ≡ shallow_value (get_member (codes "address") ms)
+
+-- slots of an optional value
+abbrev pub IsHook : HookSlots → Option Data → Type 0
+IsHook slots value = (slots.is ≡ presence_of value) × HoldsHook slots (inside value)
+
+abbrev pub AreChanges : ChangesSlots → Option Data → Type 0
+AreChanges slots value = (slots.is ≡ presence_of value) × HoldsChanges slots (inside value)
+
+abbrev pub IsDiagnostic : DiagnosticSlots → Option Data → Type 0
+IsDiagnostic slots value = (slots.is ≡ presence_of value) × HoldsDiagnostic slots (inside value)
+
+pub record HoldsLine (slots : LineSlots) (ms : Members) : Type 0 where
+  pub type_name : shallow_view slots.type_name ≡ shallow_of (get_member (codes "type") ms)
+  pub hook : IsHook slots.hook (get_member (codes "hook") ms)
+  pub change : inner_view slots.change ≡ inner_of (codes "action") (get_member (codes "change") ms)
+  pub changes : AreChanges slots.changes (get_member (codes "changes") ms)
+  pub diagnostic : IsDiagnostic slots.diagnostic (get_member (codes "diagnostic") ms)
+
+-- ---- required members
+
+-- the object that holds the member; without the object, the member is missing
+abbrev pub required_object : (member : Path) → (container : Path) → Presence → Result ⊤ Fault
+required_object member container Missing = Err (Malformed member member_fault.Missing)
+required_object member container NoObject = Err (Malformed container member_fault.NoObject)
+required_object member container Object = Ok tt
+
+abbrev pub required_text : (member : Path) → Option ShallowView → Result (List ℕ) Fault
+required_text member None = Err (Malformed member member_fault.Missing)
+required_text member (Some s) = or_refuse (Malformed member member_fault.NoText) (shallow_text s)
+
+abbrev pub required_count : (member : Path) → Option ShallowView → Result ℕ Fault
+required_count member None = Err (Malformed member member_fault.Missing)
+required_count member (Some s) = or_refuse (Malformed member member_fault.NoWholeNumber) (shallow_whole s)
+
+-- the text, where there is one
+abbrev pub optional_text : Option ShallowView → Option (List ℕ)
+optional_text value = option_and_then shallow_text value
+
+abbrev pub required_inner_text : (member : Path) → (container : Path) → InnerSlot → Result (List ℕ) Fault
+required_inner_text member container slot =
+    required_object member container slot.is >>= λ there. required_text member (option_map shallow_view slot.value)
+
+-- ---- the message of the slots, or the fault of a member
+
+abbrev pub subject_of_slots : HookSlots → Result (List ℕ × List ℕ) Fault
+subject_of_slots hook = do
+  address ← required_inner_text path.Address path.Resource hook.resource
+  word ← required_text path.Action (option_map shallow_view hook.action)
+  Ok (address, word)
+
+abbrev pub address_of_slots : HookSlots → Result (List ℕ) Fault
+address_of_slots hook =
+    required_object path.Address path.Hook hook.is >>= λ there. required_inner_text path.Address path.Resource hook.resource
+
+abbrev pub start_of_slots : HookSlots → Result Message Fault
+start_of_slots hook = do
+  there ← required_object path.Address path.Hook hook.is
+  subject ← subject_of_slots hook
+  Ok (step_or_other subject Start)
+
+abbrev pub timed_of_slots : (ℕ → TimedStage) → HookSlots → Result Message Fault
+timed_of_slots stage hook = do
+  there ← required_object path.Address path.Hook hook.is
+  subject ← subject_of_slots hook
+  seconds ← required_count path.Seconds (option_map shallow_view hook.seconds)
+  Ok (step_or_other subject (stage seconds))
+
+abbrev pub provision_of_slots : Stage → HookSlots → Result Message Fault
+provision_of_slots stage hook = do
+  address ← address_of_slots hook
+  Ok (provision address stage)
+
+abbrev pub refresh_of_slots : TimedStage → HookSlots → Result Message Fault
+refresh_of_slots stage hook = do
+  address ← address_of_slots hook
+  Ok (step address Refresh stage)
+
+abbrev pub planned_of_slots : LineSlots → Result Message Fault
+planned_of_slots line = do
+  word ← required_inner_text path.ChangeAction path.Change line.change
+  Ok (planned (intent_named word))
+
+abbrev pub totals_of_slots : ChangesSlots → Result Totals Fault
+totals_of_slots changes = do
+  added ← required_count path.Added (option_map shallow_view changes.added)
+  changed ← required_count path.Changed (option_map shallow_view changes.changed)
+  removed ← required_count path.Removed (option_map shallow_view changes.removed)
+  Ok (record { added = added; changed = changed; removed = removed })
+
+abbrev pub summary_of_slots : ChangesSlots → Result Message Fault
+summary_of_slots changes = do
+  there ← required_object path.Operation path.Changes changes.is
+  operation ← required_text path.Operation (option_map shallow_view changes.operation)
+  totals ← totals_of_slots changes
+  Ok (summary_named operation totals)
+
+abbrev pub diagnostic_of_slots : DiagnosticSlots → Result Message Fault
+diagnostic_of_slots members = do
+  there ← required_object path.Severity path.Diagnostic members.is
+  severity ← required_text path.Severity (option_map shallow_view members.severity)
+  Ok (diagnostic (bytes_eq severity (codes "error")) (optional_text (option_map shallow_view members.address)))
+
+-- the message of that kind
+abbrev pub kind_of_slots : Kind → LineSlots → Result Message Fault
+kind_of_slots kind.Version line = Ok version
+kind_of_slots kind.Start line = start_of_slots line.hook
+kind_of_slots (kind.Timed stage) line = timed_of_slots (timed_stage_of stage) line.hook
+kind_of_slots (kind.Refresh stage) line = refresh_of_slots (timed_stage_of stage 0) line.hook
+kind_of_slots (kind.Provision stage) line = provision_of_slots stage line.hook
+kind_of_slots kind.Planned line = planned_of_slots line
+kind_of_slots kind.Summary line = summary_of_slots line.changes
+kind_of_slots kind.Diagnostic line = diagnostic_of_slots line.diagnostic
+kind_of_slots kind.Outputs line = Ok outputs
+kind_of_slots kind.Other line = Ok other
+
+-- a line without a type is a message only in a log
+abbrev pub message_of_slots : (find : Bool) → LineSlots → Result Message Fault
+message_of_slots find line =
+    option_map_or (λ name. kind_of_slots (kind_named name) line) (shallow_text (shallow_view line.type_name)) (untyped_message find)
+
+-- ---- what the message is about
+
+abbrev pub about_result : (provisioner : Option ShallowView) → Result Message Fault → Option About
+about_result provisioner (Ok (step address action stage)) = Some (of_step action address)
+about_result provisioner (Ok (provision address stage)) = Some (of_provisioner (optional_text provisioner) address)
+about_result provisioner (Ok version) = None
+about_result provisioner (Ok (planned intent)) = None
+about_result provisioner (Ok (plan_summary totals)) = None
+about_result provisioner (Ok (summary totals)) = None
+about_result provisioner (Ok (diagnostic is_error address)) = None
+about_result provisioner (Ok outputs) = None
+about_result provisioner (Ok other) = None
+about_result provisioner (Ok foreign) = None
+about_result provisioner (Err fault) = None
+
+abbrev pub about_of_slots : LineSlots → Option About
+about_of_slots line =
+    option_and_then (λ name. about_result (option_map shallow_view line.hook.provisioner) (kind_of_slots (kind_named name) line))
+    (shallow_text (shallow_view line.type_name))

@@ -1,3 +1,0 @@
-//! Finding messages in the lines of a log.
-
-pub(crate) mod found;

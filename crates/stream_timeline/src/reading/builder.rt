@@ -1,0 +1,279 @@
+//! Builds a time line from the lines of a stream.
+
+ghost use Rattle.std.specs.Prelude.{◌≡◌, ◌<◌, ◌^◌, ◌↔◌, ℕ, List, None, codes, IfErr, IfOk, false};
+ghost use Rattle.apply_json.specs.Tree.{text_of};
+ghost use Rattle.serde_json.specs.View.{view};
+
+use crate::reading::content::{Content, time_of};
+use crate::reading::details::is_blank_line;
+use crate::reading::limits::MAX_LINES;
+use crate::reading::line_shape::LineShape;
+use crate::reading::line_slots::time_in;
+use crate::reading::open_places::OpenPlaces;
+use crate::reading::timeline::Timeline;
+use crate::reading::timeline_fault::TimelineFault;
+use apply_json::{JsonFault, Scratch};
+use apply_json_tree::members::text_member;
+use apply_json_tree::parse_trimmed;
+use serde_json::Value;
+use std::alloc::Global;
+
+/// Builds a time line from the lines of a stream, one line after another. It stores the time line
+/// so far and an index of the open steps.
+#[derive(Drop)]
+pub struct TimelineBuilder {
+    pub(crate) timeline: Timeline,
+    pub(crate) opened: OpenPlaces,
+    // Reused from line to line, so that reading a line takes no memory of its own.
+    scratch: Scratch,
+}
+
+impl TimelineBuilder {
+    ghost use Rattle.stream_timeline.specs.Details.{diagnostic_of};
+    ghost use Rattle.stream_timeline.specs.Messages.{message_of};
+    ghost use Rattle.stream_timeline.specs.Steps.{first_of, is_open_at, is_open_with, last_of, places};
+    ghost use Rattle.stream_timeline.specs.TimelineRead.{TimelineRead, max_lines, empty_timeline, with_begin, with_end, with_error, with_line, with_message_or_passed_over, with_provisioner_begin, with_provisioner_end, with_content, with_tree};
+    ghost use Rattle.stream_timeline.specs.Building.{ReadsMore, HasRead, IsReadingLine};
+    ghost use Rattle.stream_timeline.specs.ContentViews.{content_view};
+    ghost use Rattle.stream_timeline.specs.declared.reading.timeline_fault.TimelineFault.TheVariants.{NoMessage};
+
+    /// A builder that has read no line.
+    pub fn new(alloc: Global) -> TimelineBuilder
+        ensures { HasRead result empty_timeline }
+    {
+        TimelineBuilder {
+            timeline: Timeline::new(alloc),
+            opened: OpenPlaces::new(alloc),
+            scratch: Scratch::new(alloc),
+        }
+    }
+
+    /// Whether the builder has read 4,294,967,296 lines, and accepts no more.
+    pub fn is_full(&self) -> bool
+        ensures { result ≡ false ↔ self.now.timeline.lines < max_lines }
+    {
+        self.timeline.lines() >= MAX_LINES
+    }
+
+    /// Reads the next line, without its line feed.
+    ///
+    /// `TimelineFault::TooManySteps` if a step or a provisioner begins after 100,000 others.
+    /// `TimelineFault::Memory` if memory is refused. After an `Err` the time line is no longer
+    /// defined.
+    pub fn line(&mut self, alloc: Global, line: &[u8]) -> Result<(), TimelineFault>
+        requires { self.old.timeline.lines < max_lines }
+        ensures { ReadsMore (HasRead self.old) self.new (with_line line.now) result }
+    {
+        self.timeline.count_line();
+        if is_blank_line(line) {
+            return Ok(());
+        }
+        match time_in(alloc, &mut self.scratch, line) {
+            Some(time) => {
+                self.timeline.add_time(time);
+                Ok(())
+            }
+            None => self.line_as_tree(alloc, line),
+        }
+    }
+
+    /// Reads a line by parsing it into a tree. This covers every line for which the slots do not
+    /// suffice. The errors are those of `line`.
+    fn line_as_tree(&mut self, alloc: Global, line: &[u8]) -> Result<(), TimelineFault>
+        ensures { ReadsMore (IsReadingLine self.old) self.new (with_message_or_passed_over (message_of line.now)) result }
+    {
+        match parse_trimmed(alloc, &mut self.scratch, line, line.len(), LineShape::Line) {
+            Ok(tree) => self.tree(alloc, &tree),
+            Err(JsonFault::Memory) => Err(TimelineFault::Memory),
+            Err(JsonFault::TooLarge | JsonFault::NotJson) => {
+                self.timeline.pass_over();
+                Ok(())
+            }
+        }
+    }
+
+    /// The time line of the lines that were read. `TimelineFault::NoMessage` if no line was a
+    /// message.
+    pub fn end(self) -> Result<Timeline, TimelineFault>
+        ensures timeline { IfOk result (λ timeline. timeline ≡ self.timeline) }
+        ensures none { IfErr result (λ fault. (fault ≡ NoMessage) × (self.timeline.time_range ≡ None)) }
+    {
+        if self.timeline.time_range().is_none() {
+            return Err(TimelineFault::NoMessage);
+        }
+        Ok(self.timeline)
+    }
+
+    /// Reads a line that is a JSON tree. A tree without a text `type` or without a valid
+    /// `@timestamp` is passed over.
+    fn tree(&mut self, alloc: Global, tree: &Value) -> Result<(), TimelineFault>
+        ensures { ReadsMore (IsReadingLine self.old) self.new (with_tree (view tree.now)) result }
+    {
+        let Some(name) = text_member(tree, "type") else {
+            self.timeline.pass_over();
+            return Ok(());
+        };
+        let Some(time) = time_of(tree) else {
+            self.timeline.pass_over();
+            return Ok(());
+        };
+        self.timeline.add_time(time);
+        self.take(alloc, time, Content::of(name, tree))
+    }
+
+    /// Applies what a message states to the time line.
+    fn take(&mut self, alloc: Global, time: i64, content: Content<'_>) -> Result<(), TimelineFault>
+        ensures { ReadsMore (IsReadingLine self.old) self.new (with_content time (content_view content.entry)) result }
+    {
+        match content {
+            Content::Begins { address, action } => self.begin(alloc, address, action, time),
+            Content::Ends {
+                address,
+                action,
+                failed,
+            } => {
+                self.finish(address, action, failed, time);
+                Ok(())
+            }
+            Content::BeginsProvisioner { address, name } => {
+                self.begin_provisioner(alloc, address, name, time)
+            }
+            Content::EndsProvisioner { address, failed } => {
+                self.end_provisioner(address, failed, time);
+                Ok(())
+            }
+            Content::Error { members } => self.error(alloc, members),
+            Content::Warning { members } => {
+                self.timeline.add_warning(alloc, members)?;
+                Ok(())
+            }
+            Content::Version { text } => {
+                self.timeline.set_version(alloc, text)?;
+                Ok(())
+            }
+            Content::PlanSummary => {
+                self.timeline.add_plan_summary();
+                Ok(())
+            }
+            Content::Summary { totals } => {
+                self.timeline.set_totals(totals);
+                Ok(())
+            }
+            Content::Other => Ok(()),
+            Content::Unusable => {
+                self.timeline.pass_over();
+                Ok(())
+            }
+        }
+    }
+
+    /// Begins a step. `TimelineFault::TooManySteps` after 100,000 others.
+    fn begin(
+        &mut self,
+        alloc: Global,
+        address: &str,
+        action: &str,
+        time: i64,
+    ) -> Result<(), TimelineFault>
+        ensures { ReadsMore (IsReadingLine self.old) self.new (with_begin address.now action.now time) result }
+    {
+        if self.timeline.is_full() {
+            return Err(TimelineFault::TooManySteps);
+        }
+        let place = self.timeline.steps().len();
+        self.timeline.begin(alloc, address, action, time)?;
+        self.opened.add(alloc, address, place)?;
+        Ok(())
+    }
+
+    /// Ends the oldest open step with this address and action. If there is none, the line counts as
+    /// passed over.
+    fn finish(&mut self, address: &str, action: &str, failed: bool, time: i64)
+        ensures { (timeline : TimelineRead) → IsReadingLine self.old timeline
+            → HasRead self.new (with_end address.now action.now failed time timeline) }
+    {
+        match self.first_open(address, action) {
+            Some(place) => {
+                self.timeline.end(place, failed, time);
+                self.opened.take(address, place);
+            }
+            None => self.timeline.pass_over(),
+        }
+    }
+
+    /// The index of the oldest open step with this address and action.
+    fn first_open(&self, address: &str, action: &str) -> Option<usize>
+        ensures { (timeline : TimelineRead) → IsReadingLine self.now timeline → result
+            ≡ first_of (places (is_open_with address.now action.now) timeline.steps) }
+    {
+        for place in self.opened.at(address) {
+            if self.timeline.has_action(*place, action) {
+                return Some(*place);
+            }
+        }
+        None
+    }
+
+    /// The index of the newest open step at this address.
+    fn last_open(&self, address: &str) -> Option<usize>
+        ensures { (timeline : TimelineRead) → IsReadingLine self.now timeline → result
+            ≡ last_of (places (is_open_at address.now) timeline.steps) }
+    {
+        let places = self.opened.at(address);
+        let count = places.len();
+        if count == 0 {
+            return None;
+        }
+        Some(places[count - 1])
+    }
+
+    /// Begins a provisioner in the newest open step at this address. If there is none, the line
+    /// counts as passed over.
+    fn begin_provisioner(
+        &mut self,
+        alloc: Global,
+        address: &str,
+        name: &str,
+        time: i64,
+    ) -> Result<(), TimelineFault>
+        ensures { ReadsMore (IsReadingLine self.old) self.new (with_provisioner_begin address.now name.now time) result }
+    {
+        let Some(place) = self.last_open(address) else {
+            self.timeline.pass_over();
+            return Ok(());
+        };
+        if self.timeline.is_full() {
+            return Err(TimelineFault::TooManySteps);
+        }
+        self.timeline.begin_provisioner(alloc, place, name, time)?;
+        Ok(())
+    }
+
+    /// Ends the newest provisioner of the newest open step at this address. If none is open, the
+    /// line counts as passed over.
+    fn end_provisioner(&mut self, address: &str, failed: bool, time: i64)
+        ensures { (timeline : TimelineRead) → IsReadingLine self.old timeline
+            → HasRead self.new (with_provisioner_end address.now failed time timeline) }
+    {
+        match self.last_open(address) {
+            Some(place) => if self.timeline.has_open_provisioner(place) {
+                self.timeline.end_provisioner(place, failed, time);
+            } else {
+                self.timeline.pass_over();
+            },
+            None => self.timeline.pass_over(),
+        }
+    }
+
+    /// Stores an error, and marks the steps that are open at its address as failed.
+    fn error(&mut self, alloc: Global, members: &Value) -> Result<(), TimelineFault>
+        ensures { ReadsMore (IsReadingLine self.old) self.new (with_error (text_of (codes "address") (view members.now)) (diagnostic_of (view members.now)))
+            result }
+    {
+        self.timeline.add_error(alloc, members)?;
+        if let Some(address) = text_member(members, "address") {
+            self.timeline.mark_all(self.opened.at(address));
+        }
+        Ok(())
+    }
+}

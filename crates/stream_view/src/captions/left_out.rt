@@ -1,0 +1,24 @@
+//! The line about the steps without a row.
+
+ghost use Rattle.std.specs.Prelude.{◌≡◌, None};
+ghost use Rattle.stream_view.specs.LeftOut.{left_out_words};
+ghost use Rattle.stream_view.specs.MessageTexts.{HasText};
+
+use crate::picture::Picture;
+use crate::words::message_text::MessageText;
+use std::alloc::Global;
+
+/// How many steps have no row, their greatest length, and the sum of their lengths.
+pub fn left_out(alloc: Global, picture: &Picture<'_>) -> MessageText
+    ensures { HasText result (left_out_words picture.now.rows) }
+{
+    let mut message = MessageText::new(alloc);
+    message.text("and ");
+    message.things(picture.rows.left_out as u64, "step");
+    message.text(" more, each ");
+    message.duration(picture.rows.longest as u128);
+    message.text(" at most, ");
+    message.duration(picture.rows.total_length);
+    message.text(" together");
+    message
+}

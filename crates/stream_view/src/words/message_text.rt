@@ -1,0 +1,259 @@
+//! A message that is put together piece by piece.
+
+ghost use Rattle.std.specs.Prelude.{◌≡◌, ◌<◌, ◌++◌, [], IfOk, codes};
+ghost use Rattle.std.specs.Fmt.{decimal};
+ghost use Rattle.term_text.specs.Fitting.{fitted};
+ghost use Rattle.term_text.specs.Fitted.{shown_characters};
+ghost use Rattle.stream_view.specs.MessageTexts.{HasText, AppendsText};
+ghost use Rattle.stream_view.specs.Words.{duration_words, grouped, grouped_within, long_words, number_words, short_words, three_digits, two_digits};
+
+use std::alloc::{AllocError, Global};
+use term_text::{ShownText, fitted};
+
+/// A number of 64 bits has at most six groups of three digits after the first.
+const GROUPS: u32 = 6;
+
+/// How many microseconds a second has.
+const SECOND: u128 = 1_000_000;
+
+/// A message that is put together piece by piece. If memory is refused, `is_whole` records that
+/// until the message is shown, so that adding to a message can't fail.
+#[derive(Drop)]
+pub struct MessageText {
+    alloc: Global,
+    bytes: Vec<u8>,
+    /// Whether nothing was lost for want of memory.
+    is_whole: bool,
+}
+
+impl MessageText {
+    /// An empty message.
+    pub fn new(alloc: Global) -> MessageText
+        ensures { HasText result [] }
+    {
+        MessageText {
+            alloc,
+            bytes: Vec::new(alloc),
+            is_whole: true,
+        }
+    }
+
+    /// The bytes of the message.
+    pub fn as_bytes(&self) -> &[u8]
+        ensures { result.now ≡ self.now.bytes.items }
+    {
+        self.bytes.as_slice()
+    }
+
+    /// Whether nothing was lost for want of memory.
+    pub fn is_whole(&self) -> bool
+        ensures { result ≡ self.now.is_whole }
+    {
+        self.is_whole
+    }
+
+    /// The message as it is shown. `Err` means that memory is refused, or was while the message was
+    /// made.
+    pub fn shown(&self) -> Result<ShownText, AllocError>
+        ensures { (words : _) → HasText self.now words → IfOk result (λ text. text ≡ shown_characters words) }
+    {
+        if self.is_whole {
+            ShownText::of(self.alloc, &self.bytes)
+        } else {
+            Err(AllocError)
+        }
+    }
+
+    /// The message as it is shown, fitted to `columns` columns. The error is that of `shown`.
+    pub fn within(&self, columns: usize) -> Result<ShownText, AllocError>
+        ensures { (words : _) → HasText self.now words → IfOk result (λ text. text ≡ fitted columns (shown_characters words)) }
+    {
+        let text = self.shown()?;
+        fitted(self.alloc, &text, columns)
+    }
+
+    /// Adds bytes.
+    pub fn bytes(&mut self, bytes: &[u8])
+        ensures { AppendsText self.old self.new bytes.now }
+    {
+        self.is_whole &= self.bytes.extend_from_slice(bytes).is_ok();
+    }
+
+    /// Adds another message.
+    pub fn add(&mut self, other: &MessageText) {
+        self.bytes(&other.bytes);
+        self.is_whole &= other.is_whole;
+    }
+
+    /// Adds a text.
+    pub fn text(&mut self, text: &str)
+        ensures { AppendsText self.old self.new text.now }
+    {
+        self.bytes(text.as_bytes());
+    }
+
+    /// Adds a number.
+    pub fn number(&mut self, number: u64)
+        ensures { AppendsText self.old self.new (decimal number) }
+    {
+        match format!(in self.alloc; "{number}") {
+            Ok(text) => self.text(text.as_str()),
+            Err(_) => self.is_whole = false,
+        }
+    }
+
+    /// Adds a number and its unit.
+    pub fn quantity(&mut self, number: u64, unit: &str)
+        ensures { AppendsText self.old self.new (decimal number ++ unit.now) }
+    {
+        self.number(number);
+        self.text(unit);
+    }
+
+    /// Adds a number below 100 with two digits.
+    fn two_digits(&mut self, number: u64)
+        ensures { AppendsText self.old self.new (two_digits number) }
+    {
+        self.number(number / 10);
+        self.number(number % 10);
+    }
+
+    /// Adds a number below 1,000 with three digits.
+    fn three_digits(&mut self, number: u64)
+        ensures { AppendsText self.old self.new (three_digits number) }
+    {
+        self.number(number / 100);
+        self.number(number / 10 % 10);
+        self.number(number % 10);
+    }
+
+    /// Adds a number, with a comma at each thousand.
+    #[tactic(auto, unfolding(crate::specs::Words::grouped))]
+    pub fn count(&mut self, number: u64)
+        ensures { AppendsText self.old self.new (grouped number) }
+    {
+        self.groups(GROUPS, number);
+    }
+
+    /// Adds a number that has at most `groups` groups of three digits after the first.
+    fn groups(&mut self, groups: u32, number: u64)
+        ensures { AppendsText self.old self.new (grouped_within groups number) }
+    {
+        if groups == 0 || number < 1_000 {
+            return self.number(number);
+        }
+        self.groups(groups - 1, number / 1_000);
+        self.text(",");
+        self.three_digits(number % 1_000);
+    }
+
+    /// Adds a count and a noun, as `1 step` or `2 steps`. The noun is given in the singular.
+    #[tactic(auto, unfolding(crate::specs::Words::number_words))]
+    pub fn things(&mut self, count: u64, noun: &str)
+        ensures { AppendsText self.old self.new (number_words count noun.now) }
+    {
+        self.count(count);
+        self.text(" ");
+        self.text(noun);
+        if count != 1 {
+            self.text("s");
+        }
+    }
+
+    /// Adds a duration of so many microseconds, rounded down, as `950ms`, `1.5s`, `1m05s` or
+    /// `2h10m`.
+    #[tactic(auto, unfolding(crate::specs::Words::duration_words))]
+    pub fn duration(&mut self, microseconds: u128)
+        ensures { AppendsText self.old self.new (duration_words microseconds) }
+    {
+        let seconds = u64::try_from(microseconds / SECOND).unwrap_or(u64::MAX);
+        if seconds < 10 {
+            self.short(seconds, (microseconds % SECOND / 1_000) as u64);
+        } else {
+            self.long(seconds);
+        }
+    }
+
+    /// Adds a duration of less than ten seconds.
+    fn short(&mut self, seconds: u64, milliseconds: u64)
+        ensures { AppendsText self.old self.new (short_words seconds milliseconds) }
+    {
+        let tenths = milliseconds / 100;
+        match (seconds, milliseconds) {
+            (0, 0) => self.text("0s"),
+            (0, _) => self.quantity(milliseconds, "ms"),
+            _ if tenths == 0 => self.quantity(seconds, "s"),
+            _ => {
+                self.quantity(seconds, ".");
+                self.number(tenths);
+                self.text("s");
+            }
+        }
+    }
+
+    /// Adds a duration of ten seconds or more.
+    fn long(&mut self, seconds: u64)
+        ensures { AppendsText self.old self.new (long_words seconds) }
+    {
+        let minutes = seconds / 60;
+        let hours = minutes / 60;
+        if minutes == 0 {
+            self.quantity(seconds % 60, "s");
+        } else if hours == 0 {
+            self.quantity(minutes % 60, "m");
+            self.two_digits(seconds % 60);
+            self.text("s");
+        } else {
+            self.quantity(hours, "h");
+            self.two_digits(minutes % 60);
+            self.text("m");
+        }
+    }
+
+    /// Adds the exact time of a tick, in milliseconds.
+    pub fn tick(&mut self, milliseconds: u64) {
+        let seconds = milliseconds / 1_000;
+        let minutes = seconds / 60;
+        let hours = minutes / 60;
+        if minutes == 0 {
+            self.tick_of_seconds(seconds, milliseconds % 1_000);
+        } else if hours == 0 {
+            self.parts(minutes, "m", seconds % 60, "s");
+        } else {
+            self.parts(hours, "h", minutes % 60, "m");
+        }
+    }
+
+    /// Adds `whole` with its unit and, unless it is 0, `rest` with two digits and the next unit.
+    fn parts(&mut self, whole: u64, unit: &str, rest: u64, next: &str) {
+        self.quantity(whole, unit);
+        if rest > 0 {
+            self.two_digits(rest);
+            self.text(next);
+        }
+    }
+
+    /// Adds a time of less than a minute, without zeros at the end of its fraction.
+    fn tick_of_seconds(&mut self, seconds: u64, milliseconds: u64) {
+        if milliseconds == 0 {
+            self.quantity(seconds, "s");
+        } else if seconds == 0 {
+            self.quantity(milliseconds, "ms");
+        } else {
+            self.quantity(seconds, ".");
+            self.fraction(milliseconds);
+        }
+    }
+
+    /// Adds the digits of a fraction of a second, and its unit.
+    fn fraction(&mut self, thousandths: u64) {
+        if thousandths % 100 == 0 {
+            self.number(thousandths / 100);
+        } else if thousandths % 10 == 0 {
+            self.two_digits(thousandths / 10);
+        } else {
+            self.three_digits(thousandths);
+        }
+        self.text("s");
+    }
+}
