@@ -52,9 +52,9 @@ impl Shape for TestShape {
 }
 
 /// Leaks a value until the test ends. A proof grows with each place where a value is dropped.
-fn kept<'a, T: Drop + 'a>(rt: &impl Abort, alloc: Global, value: T) -> &'a T {
-    let kept = Box::new(alloc, value).expect(rt, "memory");
-    &*Box::leak(kept)
+fn leaked<'a, T: Drop + 'a>(rt: &impl Abort, alloc: Global, value: T) -> &'a T {
+    let leaked = Box::new(alloc, value).expect(rt, "memory");
+    &*Box::leak(leaked)
 }
 
 /// Splits a row at its first mark.
@@ -63,8 +63,8 @@ fn parted<'a>(rt: &impl Abort, row: &'a str) -> (&'a str, &'a str) {
 }
 
 /// Fails if the text of the row or case is not the wanted one.
-fn compare(rt: &impl Abort, row: &str, found: &str, wanted: &str) {
-    assert!(rt; found == wanted, "at {row}: {found}");
+fn compare(rt: &impl Abort, row: &str, actual: &str, wanted: &str) {
+    assert!(rt; actual == wanted, "at {row}: {actual}");
 }
 
 /// The name of the fault.
@@ -78,7 +78,7 @@ fn named(fault: JsonFault) -> &'static str {
 
 /// The tree of a valid text.
 fn tree_of(rt: &impl Abort, alloc: Global, text: &str) -> &'static Value {
-    match kept(rt, alloc, parse(alloc, text.as_bytes(), text.len())) {
+    match leaked(rt, alloc, parse(alloc, text.as_bytes(), text.len())) {
         Ok(tree) => tree,
         Err(_) => panic!(rt; "{text}"),
     }
@@ -116,7 +116,7 @@ fn is_text_of(rt: &impl Abort, alloc: Global, tree: &Value, text: &str, wanted: 
 /// Fails if the trimmed tree or the fault of the text is not the wanted one.
 fn is_left(rt: &impl Abort, alloc: Global, text: &str, wanted: &str) {
     let left = trimmed(alloc, text.as_bytes(), 100, TestShape::Object);
-    match kept(rt, alloc, left) {
+    match leaked(rt, alloc, left) {
         Ok(tree) => is_text_of(rt, alloc, tree, text, wanted),
         Err(fault) => compare(rt, text, named(*fault), wanted),
     }
@@ -131,8 +131,8 @@ fn what_is_looked_at_is_left(rt: HostRuntime) {
 }
 
 /// The fault, as text.
-fn refusal(found: Result<Value, JsonFault>) -> &'static str {
-    match found.err() {
+fn refusal(actual: Result<Value, JsonFault>) -> &'static str {
+    match actual.err() {
         Some(fault) => named(fault),
         None => "a tree",
     }
@@ -141,8 +141,8 @@ fn refusal(found: Result<Value, JsonFault>) -> &'static str {
 /// Fails unless both parsers refuse the bytes with the wanted fault.
 fn both_refuse(rt: &impl Abort, alloc: Global, bytes: &[u8], wanted: &str) {
     compare(rt, "a whole tree", refusal(parse(alloc, bytes, 4)), wanted);
-    let found = refusal(trimmed(alloc, bytes, 4, TestShape::List));
-    compare(rt, "a trimmed tree", found, wanted);
+    let actual = refusal(trimmed(alloc, bytes, 4, TestShape::List));
+    compare(rt, "a trimmed tree", actual, wanted);
 }
 
 #[test]
@@ -153,7 +153,7 @@ fn bytes_are_refused(rt: HostRuntime) {
 }
 
 /// A lookup function, the name of a member, and the text that the function gives.
-const FOUND: &str = r#"
+const LOOKUPS: &str = r#"
 text_member => a => b
 text_member => number => nothing
 text_member_or => none => c
@@ -164,7 +164,7 @@ non_empty => a => a
 "#;
 
 /// The text that the named lookup function gives.
-fn found<'a>(tree: &'a Value, function: &str, name: &'a str) -> Option<&'a str> {
+fn actual<'a>(tree: &'a Value, function: &str, name: &'a str) -> Option<&'a str> {
     match function {
         "text_member" => text_member(tree, name),
         "text_member_or" => text_member_or(tree, name, "c"),
@@ -174,11 +174,11 @@ fn found<'a>(tree: &'a Value, function: &str, name: &'a str) -> Option<&'a str> 
 }
 
 /// Fails if a lookup gives another text than the row states.
-fn is_found(rt: &impl Abort, tree: &Value, row: &str) {
+fn compare_lookup(rt: &impl Abort, tree: &Value, row: &str) {
     let (function, rest) = parted(rt, row);
     let (name, wanted) = parted(rt, rest);
-    let found = found(tree, function, name).unwrap_or("nothing");
-    compare(rt, row, found, wanted);
+    let actual = actual(tree, function, name).unwrap_or("nothing");
+    compare(rt, row, actual, wanted);
 }
 
 /// Whether a text counts as a member, and `null` does not.
@@ -187,7 +187,7 @@ fn null_is_absent(tree: &Value) -> bool {
 }
 
 /// Whether the member is the text `word`.
-fn says(rt: &impl Abort, tree: &Value, name: &str, word: &str) -> bool {
+fn member_is(rt: &impl Abort, tree: &Value, name: &str, word: &str) -> bool {
     is_text(tree.get(name).expect(rt, name), word)
 }
 
@@ -200,12 +200,12 @@ fn holds(rt: &impl Abort, case: &str, is_so: bool) {
 fn members_are_found(rt: HostRuntime) {
     let text = r#"{"a":"b","none":null,"empty":"","number":5}"#;
     let tree = tree_of(&rt, rt.alloc(), text);
-    for row in FOUND.trim().lines() {
-        is_found(&rt, tree, row);
+    for row in LOOKUPS.trim().lines() {
+        compare_lookup(&rt, tree, row);
     }
     holds(&rt, "null", null_is_absent(tree));
-    holds(&rt, "b", says(&rt, tree, "a", "b"));
-    holds(&rt, "5", !says(&rt, tree, "number", "5"));
+    holds(&rt, "b", member_is(&rt, tree, "a", "b"));
+    holds(&rt, "5", !member_is(&rt, tree, "number", "5"));
 }
 
 /// Members, and the number of their items.

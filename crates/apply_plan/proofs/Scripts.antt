@@ -1,9 +1,9 @@
 -- Lemmas on scripts.
 pub mod Entries
 pub mod Forgotten
-pub mod Found
+pub mod ValidItems
 pub mod Held
-pub mod Kept
+pub mod VerbatimParts
 pub mod Limits
 pub mod NeverBeginning
 pub mod OneEntry

@@ -4,4 +4,4 @@ use Rattle.apply_json.specs.ShallowView.{ShallowView, shallow_text}
 use Rattle.apply_json.specs.Tree.{◌>>=◌, unless_empty}
 
 abbrev pub filled_read : ShallowView → Option (List ℕ)
-filled_read found = shallow_text found >>= unless_empty
+filled_read input = shallow_text input >>= unless_empty

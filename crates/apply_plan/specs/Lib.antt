@@ -1,6 +1,6 @@
 pub mod Bytes
 pub mod FilledText
-pub mod Found
+pub mod ValidItems
 pub mod ListReading
 pub mod NoTree
 pub mod Plan

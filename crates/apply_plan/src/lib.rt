@@ -3,10 +3,10 @@
 
 mod bytes;
 mod filled_text;
-mod found;
 mod members;
 mod plan;
 mod script;
+mod valid_items;
 mod zip_results;
 
 pub use apply_model::{

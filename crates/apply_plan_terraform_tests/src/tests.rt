@@ -12,9 +12,9 @@ use std::process::Abort;
 
 /// Keeps a value as long as the test runs. A proof grows with each place at which a value is
 /// dropped.
-fn kept<'a, T: Drop + 'a>(rt: &impl Abort, alloc: Global, value: T) -> &'a T {
-    let kept = Box::new(alloc, value).expect(rt, "memory");
-    &*Box::leak(kept)
+fn leaked<'a, T: Drop + 'a>(rt: &impl Abort, alloc: Global, value: T) -> &'a T {
+    let leaked = Box::new(alloc, value).expect(rt, "memory");
+    &*Box::leak(leaked)
 }
 
 fn parted<'a>(rt: &impl Abort, text: &'a str, mark: &str) -> (&'a str, &'a str) {
@@ -23,7 +23,7 @@ fn parted<'a>(rt: &impl Abort, text: &'a str, mark: &str) -> (&'a str, &'a str) 
 
 fn tree_of(rt: &impl Abort, alloc: Global, text: &str) -> &'static Value {
     let tree = parse(alloc, text.as_bytes(), 10_000);
-    kept(rt, alloc, tree.ok().expect(rt, "a tree"))
+    leaked(rt, alloc, tree.ok().expect(rt, "a tree"))
 }
 
 /// The text, or `-` when there is none.
@@ -54,7 +54,7 @@ fn row_of(rt: &impl Abort, alloc: Global, details: &ChangeDetails) -> &'static s
     let config = shown(details.generated_config.as_ref());
     let planned = shown(details.planned_id.as_ref());
     let row = format!(in alloc; "{forgets} {reason} {importing} {config} {planned}");
-    kept(rt, alloc, row.expect(rt, "memory")).as_str()
+    leaked(rt, alloc, row.expect(rt, "memory")).as_str()
 }
 
 /// Elements and their details: whether Terraform forgets the object, the reason, the import, the
@@ -103,9 +103,9 @@ fn each_member_of_another_kind_is_absent(rt: HostRuntime) {
     for row in ELEMENTS.lines() {
         let (element, wanted) = parted(&rt, row, " => ");
         let details = change_details(alloc, tree_of(&rt, alloc, element));
-        let details = kept(&rt, alloc, details.ok().expect(&rt, "memory"));
-        let found = row_of(&rt, alloc, details);
-        assert!(rt; found == wanted, "at {element}: {found}");
+        let details = leaked(&rt, alloc, details.ok().expect(&rt, "memory"));
+        let actual = row_of(&rt, alloc, details);
+        assert!(rt; actual == wanted, "at {element}: {actual}");
     }
 }
 
@@ -120,7 +120,7 @@ const PLANS: &str = r#"{} => nothing
 {"complete":false,"errored":true} => unfinished"#;
 
 /// The name of a note.
-fn said(note: Option<PlanNote>) -> &'static str {
+fn note_name(note: Option<PlanNote>) -> &'static str {
     match note {
         Some(PlanNote::Partial) => "partial",
         Some(PlanNote::Unfinished) => "unfinished",
@@ -134,7 +134,7 @@ fn one_thing_is_said_of_a_plan(rt: HostRuntime) {
     for row in PLANS.lines() {
         let (plan, wanted) = parted(&rt, row, " => ");
         let plan = tree_of(&rt, alloc, plan);
-        assert!(rt; said(plan_note(plan)) == wanted, "at {row}");
+        assert!(rt; note_name(plan_note(plan)) == wanted, "at {row}");
         assert!(rt; is_errored(plan) == (wanted == "unfinished"), "at {row}");
         assert!(rt; is_partial(plan) == (wanted == "partial"), "at {row}");
     }
@@ -180,7 +180,7 @@ fn shown_previous(
             format!(in alloc; "{module}|{resource}|{provider}|{kind}|{name}|{key}")
         }
     };
-    kept(rt, alloc, row.expect(rt, "memory")).as_str()
+    leaked(rt, alloc, row.expect(rt, "memory")).as_str()
 }
 
 #[test]
@@ -189,9 +189,9 @@ fn an_address_from_before_is_taken_apart(rt: HostRuntime) {
     for row in MOVED.lines() {
         let (element, wanted) = parted(&rt, row, " => ");
         let details = change_details(alloc, tree_of(&rt, alloc, element));
-        let details = kept(&rt, alloc, details.ok().expect(&rt, "memory"));
-        let found = shown_previous(&rt, alloc, details.previous.as_ref());
-        assert!(rt; found == wanted, "at {element}: {found}");
+        let details = leaked(&rt, alloc, details.ok().expect(&rt, "memory"));
+        let actual = shown_previous(&rt, alloc, details.previous.as_ref());
+        assert!(rt; actual == wanted, "at {element}: {actual}");
     }
 }
 
@@ -207,17 +207,17 @@ fn shown_notes(rt: &impl Abort, alloc: Global, notes: &[Note]) -> &'static str {
         let written = write!(row, "{severity} {summary};");
         written.ok().expect(rt, "memory");
     }
-    kept(rt, alloc, row).as_str()
+    leaked(rt, alloc, row).as_str()
 }
 
 /// The diagnostics that a stream shows for one diagnostic of a script and the note of a plan.
-fn told_beside(rt: &impl Abort, alloc: Global, plan: Option<PlanNote>) -> &'static str {
+fn notes_with_plan(rt: &impl Abort, alloc: Global, plan: Option<PlanNote>) -> &'static str {
     let own = PlanNote::Partial.note(alloc);
     let mut script = Vec::new(alloc);
     let pushed = script.push(own.ok().expect(rt, "memory"));
     pushed.ok().expect(rt, "memory");
     let notes = written_notes(alloc, plan, script);
-    let notes = kept(rt, alloc, notes.ok().expect(rt, "memory"));
+    let notes = leaked(rt, alloc, notes.ok().expect(rt, "memory"));
     shown_notes(rt, alloc, notes.as_slice())
 }
 
@@ -227,8 +227,8 @@ fn diagnostics_of_a_script_come_first(rt: HostRuntime) {
     let one = "warning Applied changes may be incomplete;";
     let both =
         "warning Applied changes may be incomplete;warning Applied changes may be incomplete;";
-    assert!(rt; told_beside(&rt, alloc, None) == one);
-    assert!(rt; told_beside(&rt, alloc, Some(PlanNote::Partial)) == both);
-    let unfinished = told_beside(&rt, alloc, Some(PlanNote::Unfinished));
+    assert!(rt; notes_with_plan(&rt, alloc, None) == one);
+    assert!(rt; notes_with_plan(&rt, alloc, Some(PlanNote::Partial)) == both);
+    let unfinished = notes_with_plan(&rt, alloc, Some(PlanNote::Unfinished));
     assert!(rt; unfinished == "error Cannot apply incomplete plan;");
 }

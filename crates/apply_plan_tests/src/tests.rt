@@ -10,9 +10,9 @@ mod own_texts;
 mod plain;
 mod plans;
 mod provisioning;
+mod questions;
 mod skipped;
 mod table;
-mod tells;
 
 use self::table::compare;
 use apply_plan::{Plan, Script, Text, read_plan, read_script};
@@ -25,39 +25,39 @@ const ONE_CREATE: &str =
     r#"{"format_version":"1.2","terraform_version":"1.9.0","resource_changes":[{"address":"null_resource.a","mode":"managed","type":"null_resource","name":"a","change":{"actions":["create"]}}]}"#;
 
 /// Leaks a value until the test ends. A proof grows with each place where a value is dropped.
-fn kept<'a, T: Drop + 'a>(rt: &impl Abort, alloc: Global, value: T) -> &'a T {
-    let kept = Box::new(alloc, value).expect(rt, "memory");
-    &*Box::leak(kept)
+fn leaked<'a, T: Drop + 'a>(rt: &impl Abort, alloc: Global, value: T) -> &'a T {
+    let leaked = Box::new(alloc, value).expect(rt, "memory");
+    &*Box::leak(leaked)
 }
 
 /// Leaks a text until the test ends.
-fn kept_text(rt: &impl Abort, alloc: Global, text: String) -> &'static str {
-    kept(rt, alloc, text).as_str()
+fn leaked_text(rt: &impl Abort, alloc: Global, text: String) -> &'static str {
+    leaked(rt, alloc, text).as_str()
 }
 
 /// Reads a plan that must be valid.
 fn plan_of(rt: &impl Abort, alloc: Global, text: &str) -> &'static Plan {
     let plan = read_plan(alloc, text.as_bytes());
-    kept(rt, alloc, plan.ok().expect(rt, text))
+    leaked(rt, alloc, plan.ok().expect(rt, text))
 }
 
 /// Reads a script that must be valid.
 fn script_of(rt: &impl Abort, alloc: Global, plan: &str, text: &str) -> &'static Script {
     let plan = plan_of(rt, alloc, plan);
     let script = read_script(alloc, text.as_bytes(), plan);
-    kept(rt, alloc, script.ok().expect(rt, text))
+    leaked(rt, alloc, script.ok().expect(rt, text))
 }
 
 /// The value as `Display` prints it.
 fn shown(rt: &impl Abort, alloc: Global, value: &impl Display) -> &'static str {
-    kept_text(rt, alloc, value.to_string(alloc).expect(rt, "memory"))
+    leaked_text(rt, alloc, value.to_string(alloc).expect(rt, "memory"))
 }
 
 /// The value as `Debug` prints it.
 ///
 /// The lifetime is open: the borrow checker refuses `'static` for a value with several lifetimes.
 fn printed<'a>(rt: &impl Abort, alloc: Global, value: &impl Debug) -> &'a str {
-    kept_text(
+    leaked_text(
         rt,
         alloc,
         format!(in alloc; "{value:?}").expect(rt, "memory"),

@@ -25,7 +25,7 @@ use std::alloc::Global;
 use std::process::Abort;
 
 /// A script without changes.
-const NOTHING_SAID: &str = r#"{"changes":[]}"#;
+const NO_OUTCOMES: &str = r#"{"changes":[]}"#;
 
 /// Fails when `is_so` is false. A call makes a proof grow less than an assertion does.
 fn holds(rt: &impl Abort, case: &str, is_so: bool)
@@ -36,9 +36,9 @@ fn holds(rt: &impl Abort, case: &str, is_so: bool)
 
 /// Keeps a value as long as the test runs. A proof grows with each place at which a value is
 /// dropped.
-fn kept<'a, T: Drop + 'a>(rt: &impl Abort, alloc: Global, value: T) -> &'a T {
-    let kept = Box::new(alloc, value).expect(rt, "memory");
-    &*Box::leak(kept)
+fn leaked<'a, T: Drop + 'a>(rt: &impl Abort, alloc: Global, value: T) -> &'a T {
+    let leaked = Box::new(alloc, value).expect(rt, "memory");
+    &*Box::leak(leaked)
 }
 
 /// The texts before and after the first mark.
@@ -47,20 +47,20 @@ fn parted<'a>(rt: &impl Abort, text: &'a str, mark: &str) -> (&'a str, &'a str) 
 }
 
 /// Fails when the bytes differ.
-fn compare(rt: &impl Abort, case: &str, found: &[u8], wanted: &str) {
-    assert!(rt; found == wanted.as_bytes(), "at {case}");
+fn compare(rt: &impl Abort, case: &str, actual: &[u8], wanted: &str) {
+    assert!(rt; actual == wanted.as_bytes(), "at {case}");
 }
 
 /// Reads a plan. Fails when it is refused.
 fn plan_of(rt: &impl Abort, alloc: Global, text: &str) -> &'static Plan {
     let plan = read_plan(alloc, text.as_bytes());
-    kept(rt, alloc, plan.ok().expect(rt, "a plan"))
+    leaked(rt, alloc, plan.ok().expect(rt, "a plan"))
 }
 
 /// Reads a script. Fails when it is refused.
 fn script_of(rt: &impl Abort, alloc: Global, text: &str, plan: &Plan) -> &'static Script {
     let script = read_script(alloc, text.as_bytes(), plan);
-    kept(rt, alloc, script.ok().expect(rt, "a script"))
+    leaked(rt, alloc, script.ok().expect(rt, "a script"))
 }
 
 fn text_of(rt: &impl Abort, alloc: Global, text: &str) -> Text {

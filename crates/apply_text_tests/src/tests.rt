@@ -25,7 +25,7 @@ use std::fmt::Display;
 use std::process::Abort;
 
 /// A script without changes.
-const NOTHING_SAID: &str = r#"{"changes":[]}"#;
+const NO_OUTCOMES: &str = r#"{"changes":[]}"#;
 
 /// Fails when `is_so` is false. A call makes a proof grow less than an assertion does.
 fn holds(rt: &impl Abort, case: &str, is_so: bool)
@@ -36,9 +36,9 @@ fn holds(rt: &impl Abort, case: &str, is_so: bool)
 
 /// Keeps a value as long as the test runs. A proof grows with each place at which a value is
 /// dropped.
-fn kept<'a, T: Drop + 'a>(rt: &impl Abort, alloc: Global, value: T) -> &'a T {
-    let kept = Box::new(alloc, value).expect(rt, "memory");
-    &*Box::leak(kept)
+fn leaked<'a, T: Drop + 'a>(rt: &impl Abort, alloc: Global, value: T) -> &'a T {
+    let leaked = Box::new(alloc, value).expect(rt, "memory");
+    &*Box::leak(leaked)
 }
 
 /// The texts before and after the first mark.
@@ -53,7 +53,7 @@ fn number_of(rt: &impl Abort, text: &str) -> u32 {
 /// The `Display` text of a value.
 fn shown(rt: &impl Abort, alloc: Global, value: &impl Display) -> &'static str {
     let text = value.to_string(alloc).expect(rt, "memory");
-    kept(rt, alloc, text).as_str()
+    leaked(rt, alloc, text).as_str()
 }
 
 /// Appends text.
@@ -64,17 +64,17 @@ fn push(rt: &impl Abort, text: &mut String, more: &str) {
 /// Replaces each mark by another text.
 fn put(rt: &impl Abort, alloc: Global, text: &str, mark: &str, other: &str) -> &'static str {
     let text = text.replace(alloc, mark, other).expect(rt, "memory");
-    kept(rt, alloc, text).as_str()
+    leaked(rt, alloc, text).as_str()
 }
 
 /// Fails when the texts differ.
-fn compare(rt: &impl Abort, case: &str, found: &str, wanted: &str) {
-    assert!(rt; found == wanted, "at {case}: {found}");
+fn compare(rt: &impl Abort, case: &str, actual: &str, wanted: &str) {
+    assert!(rt; actual == wanted, "at {case}: {actual}");
 }
 
 /// Fails when the text is not this line with its line feed.
-fn compare_line(rt: &impl Abort, case: &str, found: &str, wanted: &str) {
-    let line = found
+fn compare_line(rt: &impl Abort, case: &str, actual: &str, wanted: &str) {
+    let line = actual
         .strip_suffix("\n")
         .expect(rt, "a line feed at the end");
     compare(rt, case, line, wanted);
@@ -83,18 +83,18 @@ fn compare_line(rt: &impl Abort, case: &str, found: &str, wanted: &str) {
 /// Reads a plan. Fails when it is refused.
 fn plan_of(rt: &impl Abort, alloc: Global, text: &str) -> &'static Plan {
     let plan = read_plan(alloc, text.as_bytes());
-    kept(rt, alloc, plan.ok().expect(rt, "a plan"))
+    leaked(rt, alloc, plan.ok().expect(rt, "a plan"))
 }
 
 /// Reads a script. Fails when it is refused.
 fn script_of(rt: &impl Abort, alloc: Global, text: &str, plan: &Plan) -> &'static Script {
     let script = read_script(alloc, text.as_bytes(), plan);
-    kept(rt, alloc, script.ok().expect(rt, "a script"))
+    leaked(rt, alloc, script.ok().expect(rt, "a script"))
 }
 
 /// A script that gives nothing.
 fn empty_script(rt: &impl Abort, alloc: Global) -> &'static Script {
-    kept(rt, alloc, Script::empty())
+    leaked(rt, alloc, Script::empty())
 }
 
 /// Reads a start. Fails when it is refused.
@@ -115,7 +115,7 @@ fn line_of(
     holds(rt, "in time", latest <= LATEST);
     check_step(rt, plan, event);
     let line = event_line(alloc, plan, script, start, latest, event);
-    kept(rt, alloc, line.expect(rt, "memory")).as_str()
+    leaked(rt, alloc, line.expect(rt, "memory")).as_str()
 }
 
 /// Fails when the plan does not have the event's step.
@@ -138,5 +138,5 @@ fn summary_of(
 ) -> &'static str {
     holds(rt, "in time", latest <= LATEST);
     let line = summary_line(alloc, start, latest, operation, counts);
-    kept(rt, alloc, line.expect(rt, "memory")).as_str()
+    leaked(rt, alloc, line.expect(rt, "memory")).as_str()
 }

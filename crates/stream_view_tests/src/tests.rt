@@ -232,7 +232,7 @@ fn leaves_the_input(
 
 /// Nothing of the input is read if a file is viewed, whole or not: a job may hold the input open.
 #[test]
-fn input_beside_a_file(rt: HostRuntime) {
+fn input_next_to_a_file(rt: HostRuntime) {
     leaves_the_input(&rt, rt.alloc(), false, 0, "", ONE_CREATE_TEXT);
     let expected = "applystream: the file stream.jsonl could not be read: ";
     leaves_the_input(&rt, rt.alloc(), true, 2, expected, "");

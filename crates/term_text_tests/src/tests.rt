@@ -74,8 +74,8 @@ fn made(rt: &impl Abort, text: Result<String, AllocError>) -> &'static [u8] {
 }
 
 /// Fails where the bytes differ from the expected ones.
-fn compare(rt: &impl Abort, row: &str, found: &[u8], wanted: &[u8]) {
-    assert!(rt; found == wanted, "at {row}");
+fn compare(rt: &impl Abort, row: &str, actual: &[u8], wanted: &[u8]) {
+    assert!(rt; actual == wanted, "at {row}");
 }
 
 /// Bytes, and their escaped text: plain text, controls, invisible characters, codes that are no
@@ -157,8 +157,8 @@ fn long_texts_are_cut_between_characters(rt: HostRuntime) {
     let alloc = rt.alloc();
     for row in WITHIN.trim().lines() {
         let (limit, bytes, wanted) = limited(&rt, alloc, row);
-        let found = made(&rt, escape_controls_within(alloc, limit, bytes));
-        compare(&rt, row, found, wanted);
+        let actual = made(&rt, escape_controls_within(alloc, limit, bytes));
+        compare(&rt, row, actual, wanted);
     }
 }
 

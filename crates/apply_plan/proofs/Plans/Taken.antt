@@ -45,14 +45,14 @@ module _ (k q : List ℕ) (d : Data) (ms : Members) (here : bytes_eq k q ≡ tru
 
 module _ (slots : ElementSlots) (k : List ℕ) (d : Data) (ms : Members) (holds : HoldsElement slots ms) where
   -- a scalar
-  pub takes_scalar : (which : ElementMember) (found : Shallow) → bytes_eq k (name_of which) ≡ true → shallow_view found ≡ shallow_of (Some d) → HoldsElement (with_scalar slots which found) (put k d ms)
-  takes_scalar member.Address found here is = element_behind k (codes "address") d ms here _ is holds.mode holds.kind_name holds.name holds.module_address holds.index holds.deposed holds.change
-  takes_scalar member.Mode found here is = element_behind k (codes "mode") d ms here _ holds.address is holds.kind_name holds.name holds.module_address holds.index holds.deposed holds.change
-  takes_scalar member.Type found here is = element_behind k (codes "type") d ms here _ holds.address holds.mode is holds.name holds.module_address holds.index holds.deposed holds.change
-  takes_scalar member.Name found here is = element_behind k (codes "name") d ms here _ holds.address holds.mode holds.kind_name is holds.module_address holds.index holds.deposed holds.change
-  takes_scalar member.ModuleAddress found here is = element_behind k (codes "module_address") d ms here _ holds.address holds.mode holds.kind_name holds.name is holds.index holds.deposed holds.change
-  takes_scalar member.Index found here is = element_behind k (codes "index") d ms here _ holds.address holds.mode holds.kind_name holds.name holds.module_address is holds.deposed holds.change
-  takes_scalar member.Deposed found here is = element_behind k (codes "deposed") d ms here _ holds.address holds.mode holds.kind_name holds.name holds.module_address holds.index is holds.change
+  pub takes_scalar : (which : ElementMember) (input : Shallow) → bytes_eq k (name_of which) ≡ true → shallow_view input ≡ shallow_of (Some d) → HoldsElement (with_scalar slots which input) (put k d ms)
+  takes_scalar member.Address input here is = element_behind k (codes "address") d ms here _ is holds.mode holds.kind_name holds.name holds.module_address holds.index holds.deposed holds.change
+  takes_scalar member.Mode input here is = element_behind k (codes "mode") d ms here _ holds.address is holds.kind_name holds.name holds.module_address holds.index holds.deposed holds.change
+  takes_scalar member.Type input here is = element_behind k (codes "type") d ms here _ holds.address holds.mode is holds.name holds.module_address holds.index holds.deposed holds.change
+  takes_scalar member.Name input here is = element_behind k (codes "name") d ms here _ holds.address holds.mode holds.kind_name is holds.module_address holds.index holds.deposed holds.change
+  takes_scalar member.ModuleAddress input here is = element_behind k (codes "module_address") d ms here _ holds.address holds.mode holds.kind_name holds.name is holds.index holds.deposed holds.change
+  takes_scalar member.Index input here is = element_behind k (codes "index") d ms here _ holds.address holds.mode holds.kind_name holds.name holds.module_address is holds.deposed holds.change
+  takes_scalar member.Deposed input here is = element_behind k (codes "deposed") d ms here _ holds.address holds.mode holds.kind_name holds.name holds.module_address holds.index is holds.change
 
   -- the member `change`
   pub takes_change : (new : ElementSlots) → bytes_eq k (codes "change") ≡ true → option_map planned_change_view new.change ≡ change_member (Some d) → new ≡ record slots { change = new.change } → HoldsElement new (put k d ms)

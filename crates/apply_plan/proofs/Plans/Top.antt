@@ -57,10 +57,10 @@ top_is (Some format) (Some version) false elements = refl
 header_is : (slots : PlanSlots) (d : Data) → HoldsPlan slots (members_in d) → header_of d ≡ with_elements (items_at (get_member (codes "resource_changes") (members_in d))) (version_read slots)
 unfolding header_of
 header_is slots d holds =
-    let found = get_member (codes "resource_changes") (members_in d) in
+    let located = get_member (codes "resource_changes") (members_in d) in
     rw (holds.format_version, holds.terraform_version, holds.resource_changes, ← text_in (codes "format_version") d, ← text_or_in (codes "0.0.0") (codes "terraform_version") d)
-    (ap (from_members (text_of (codes "format_version") d) (text_or (codes "0.0.0") (member_of (codes "terraform_version") d))) (ap items_or_empty (member_in (codes "resource_changes") d) ∙ elements_are found)
-    ∙ top_is (text_of (codes "format_version") d) (text_or (codes "0.0.0") (member_of (codes "terraform_version") d)) (may_list (kind_of found)) (items_at found))
+    (ap (from_members (text_of (codes "format_version") d) (text_or (codes "0.0.0") (member_of (codes "terraform_version") d))) (ap items_or_empty (member_in (codes "resource_changes") d) ∙ elements_are located)
+    ∙ top_is (text_of (codes "format_version") d) (text_or (codes "0.0.0") (member_of (codes "terraform_version") d)) (may_list (kind_of located)) (items_at located))
 
 abbrev from_top : Option Header → Result SavedPlan PlanError
 from_top h = results.◌>>=◌ (or_refuse NotAPlan h) λ h. cond (ltb max_changes (items_len h.elements)) (Err TooMany) (results.◌>>=◌ (changes_of (list_of h.elements)) λ changes. Ok (record { version = h.version; changes = changes }))

@@ -34,9 +34,9 @@ names_same n d made change e =
     let formed = bind_ok (or_refuse (BadChange n) (element_of d)) _ made e in
     let stepped = bind_ok (or_refuse (BadActions n) (steps_of_actions formed.0.actions)) _ made formed.2 in
     let placed = bind_ok (or_refuse (BadAddress n) (relative_address formed.0.module_address formed.0.address)) _ made stepped.2 in
-    let found = or_refuse_ok (BadChange n) (element_of d) formed.0 formed.1 in
+    let located = or_refuse_ok (BadChange n) (element_of d) formed.0 formed.1 in
     subst (λ (c : ResourceChange). names_object_of change d ≡ is_same_object change c) (ok_is {E = PlanError} (change_of formed.0 stepped.0) made placed.2)
-    (ap (λ (o : Option Element). option_map_or (λ e. bytes_eq e.address change.address && option_eq bytes_eq e.deposed change.deposed) o false) found)
+    (ap (λ (o : Option Element). option_map_or (λ e. bytes_eq e.address change.address && option_eq bytes_eq e.deposed change.deposed) o false) located)
 
 AreChangesOf-push : (before : List Data) (earlier : List ResourceChange) (d : Data) (made : ResourceChange) → AreChangesOf before earlier → planned_at (length earlier) d ≡ Ok made
     → AreChangesOf (before ++ d ∷ []) (earlier ++ made ∷ [])

@@ -32,16 +32,16 @@ record IsFirst (p : ResourceChange → Bool) (changes : List ResourceChange) (s 
   passes : p change ≡ true
 
 found_from : (p : ResourceChange → Bool) (s : ℕ) (changes : List ResourceChange) (n : ℕ) (change : ResourceChange) → find (λ e. p e.1) (enumerate_from s changes) ≡ Some (n, change) → IsFirst p changes s n change
-found_from p s [] n change found = absurd cc
-found_from p s (first ∷ others) n change found =
+found_from p s [] n change located = absurd cc
+found_from p s (first ∷ others) n change located =
     ⊎_elim
     (λ (yes : p first ≡ true).
-    let here : cond true (Some (s, first)) (find (λ e. p e.1) (enumerate_from (s + 1) others)) ≡ Some (n, change) = rw yes at found in
+    let here : cond true (Some (s, first)) (find (λ e. p e.1) (enumerate_from (s + 1) others)) ≡ Some (n, change) = rw yes at located in
     let parts = some_pair_parts s n first change here in
     let number = parts.0 in
     record { place = 0; number = omega (arith, number); stands = ap (λ (c : ResourceChange). Some c) parts.1; passes = ap p (sym parts.1) ∙ yes })
     (λ (no : p first ≡ false).
-    let later : find (λ e. p e.1) (enumerate_from (s + 1) others) ≡ Some (n, change) = rw no at found in
+    let later : find (λ e. p e.1) (enumerate_from (s + 1) others) ≡ Some (n, change) = rw no at located in
     let rest = found_from p (s + 1) others n change later in
     let number = rest.number in
     record { place = suc rest.place; number = omega (arith, number); stands = rest.stands; passes = rest.passes })
@@ -49,15 +49,15 @@ found_from p s (first ∷ others) n change found =
 
 -- the entry is about the change with this number
 pub record IsChangeOf (changes : List ResourceChange) (entry : Entry) (number : ℕ) (change : ResourceChange) : Type 0 where
-  pub found : change_of_entry changes entry ≡ Some (number, change)
+  pub located : change_of_entry changes entry ≡ Some (number, change)
   pub stands : slice_get changes number ≡ Some change
   pub about : is_about change entry ≡ true
 
 pub change_is : (changes : List ResourceChange) (entry : Entry) (number : ℕ) (change : ResourceChange) → change_of_entry changes entry ≡ Some (number, change) → IsChangeOf changes entry number change
-change_is changes entry number change found =
-    let first = found_from (λ c. is_about c entry) 0 changes number change found in
+change_is changes entry number change located =
+    let first = found_from (λ c. is_about c entry) 0 changes number change located in
     let same : first.place ≡ number = omega (arith, first.number) in
-    record { found = found; stands = subst (λ (i : ℕ). slice_get changes i ≡ Some change) same first.stands; about = first.passes }
+    record { located = located; stands = subst (λ (i : ℕ). slice_get changes i ≡ Some change) same first.stands; about = first.passes }
 
 -- the entry is about the change, if the number is known
 numbered : (o : Option (ℕ × ResourceChange)) (number : ℕ) → option_map (λ p. p.0) o ≡ Some number → (change : ResourceChange) × (o ≡ Some (number, change))
@@ -117,8 +117,8 @@ about_same changes entry other number at change theirs is are =
     (λ (yes : is_about change other ≡ true).
     let mine = about_object change entry is.about in
     let its = about_object change other yes in
-    let found : change_of_entry changes entry ≡ change_of_entry changes other = rw (← mine.0, ← mine.1, its.0, its.1) refl in
-    let parts = some_pair_parts number at change theirs (sym is.found ∙ found ∙ are.found) in
+    let located : change_of_entry changes entry ≡ change_of_entry changes other = rw (← mine.0, ← mine.1, its.0, its.1) refl in
+    let parts = some_pair_parts number at change theirs (sym is.located ∙ located ∙ are.located) in
     absurd (apart.1 (sym parts.0)))
     (λ (no : is_about change other ≡ false). no ∙ sym apart.0)
     (cases_Bool (is_about change other)))
@@ -180,8 +180,8 @@ by_number-append count made one below none =
     or_none None = refl
     or_none (Some x) = refl
 
-pub nothing_said : (count : ℕ) → by_number (count + 1) [] ≡ by_number count [] ++ None ∷ []
-nothing_said count = ap (λ (n : ℕ). by_number n []) (add-one count) ∙ from 0 count
+pub nothing_stated : (count : ℕ) → by_number (count + 1) [] ≡ by_number count [] ++ None ∷ []
+nothing_stated count = ap (λ (n : ℕ). by_number n []) (add-one count) ∙ from 0 count
   where
     from : (a n : ℕ) → map (outcomes_of []) (range_with_len a (suc n)) ≡ map (outcomes_of []) (range_with_len a n) ++ None ∷ []
     from a zero = refl
@@ -240,14 +240,14 @@ waits_at n steps k None are at = All-nil (IsPlaced n)
 waits_at n steps k (Some step) are at =
     subst (λ (x : ScriptStep). All (IsPlaced n) (after_of x)) (get_or_from_slice_get steps k step step at) (are.placed k step (slice_get_within steps k step at))
 
-said_placed : (n : ℕ) (outcomes : Option (List ScriptStep)) (k : ℕ) → IfSome outcomes (ArePlaced n) → All (IsPlaced n) (option_map_or after_of (option_and_then (λ steps. slice_get steps k) outcomes) [])
-said_placed n None k h = All-nil (IsPlaced n)
-said_placed n (Some steps) k h = waits_at n steps k (slice_get steps k) h refl
+stated_placed : (n : ℕ) (outcomes : Option (List ScriptStep)) (k : ℕ) → IfSome outcomes (ArePlaced n) → All (IsPlaced n) (option_map_or after_of (option_and_then (λ steps. slice_get steps k) outcomes) [])
+stated_placed n None k h = All-nil (IsPlaced n)
+stated_placed n (Some steps) k h = waits_at n steps k (slice_get steps k) h refl
 
 named_placed : (count : ℕ) (made : List ResolvedEntry) → AllResolved (ArePlaced count) made → (c k : ℕ) → c < count → All (IsPlaced count) (named_for (by_number count made) c k)
 named_placed count made says c k below =
     subst (λ (outcomes : Option (List ScriptStep)). All (IsPlaced count) (option_map_or after_of (option_and_then (λ steps. slice_get steps k) outcomes) []))
-    (sym (at_number count made c below)) (said_placed count (outcomes_of made c) k (says c))
+    (sym (at_number count made c below)) (stated_placed count (outcomes_of made c) k (says c))
 
 waits_placed : (count : ℕ) (made : List ResolvedEntry) → AllResolved (ArePlaced count) made → (c k : ℕ) → c < count → k < 2 → All (IsPlaced count) (stated_waits (by_number count made) c k)
 waits_placed count made says c zero below low = named_placed count made says c zero below

@@ -202,7 +202,7 @@ entry_is slots d holds =
 
 -- ---- scalars
 
-pub not_text : (found : Shallow) → ((x : Bor (List ℕ)) → found ≡ scalar.Text x → ⊥) → (t : List ℕ) → s.text t ≡ shallow_view found → ⊥
+pub not_text : (input : Shallow) → ((x : Bor (List ℕ)) → input ≡ scalar.Text x → ⊥) → (t : List ℕ) → s.text t ≡ shallow_view input → ⊥
 not_text scalar.Absent never t is = absurd cc
 not_text (scalar.Bool b) never t is = absurd cc
 not_text (scalar.Number n) never t is = absurd cc
@@ -210,7 +210,7 @@ not_text (scalar.Text x) never t is = never x refl
 not_text scalar.Array never t is = absurd cc
 not_text scalar.Object never t is = absurd cc
 
-pub not_absent : (found : Shallow) → (found ≡ scalar.Absent → ⊥) → s.absent ≡ shallow_view found → ⊥
+pub not_absent : (input : Shallow) → (input ≡ scalar.Absent → ⊥) → s.absent ≡ shallow_view input → ⊥
 not_absent scalar.Absent never is = never refl
 not_absent (scalar.Bool b) never is = absurd cc
 not_absent (scalar.Number n) never is = absurd cc

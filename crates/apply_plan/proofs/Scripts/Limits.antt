@@ -28,7 +28,7 @@ use Rattle.apply_plan.proofs.Scripts.Refusals.{list_any-map}
 none_passes : {X : Type 0} (p : X → Bool) (xs : List X) → list_any p xs ≡ false → (k : ℕ) (d : X) → k < length xs → p (get_or xs k d) ≡ false
 none_passes p xs none k d below =
     ⊎_elim
-    (λ (yes : p (get_or xs k d) ≡ true). let found : list_any p xs ≡ true = list_any_at p xs k d below yes in absurd cc)
+    (λ (yes : p (get_or xs k d) ≡ true). let located : list_any p xs ≡ true = list_any_at p xs k d below yes in absurd cc)
     (λ (no : p (get_or xs k d) ≡ false). no)
     (cases_Bool (p (get_or xs k d)))
 

@@ -14,14 +14,14 @@ use Rattle.apply_plan.specs.declared.script.script_error.ScriptError.{ScriptErro
 use Rattle.apply_plan.specs.declared.script.script_error.ScriptError.TheVariants.{TooLarge, NotJson, BadShape, NeverBegins}
 use Rattle.apply_plan.specs.Bytes.{max_bytes}
 use Rattle.apply_plan.specs.Results.{◌>>=◌, all_or_first, each_with_earlier, or_refuse, unless_refused}
-use Rattle.apply_plan.specs.Script.EntriesView.{HasResolved, kept_of}
+use Rattle.apply_plan.specs.Script.EntriesView.{HasResolved, step_count_of}
 use Rattle.apply_plan.specs.Script.Entry.{is_verbatim_name}
 use Rattle.apply_plan.specs.Script.NeverBeginning.{elements_in, elements_of_tree, never_beginning_in, never_beginning_of, refusal_of}
 use Rattle.apply_plan.specs.Script.OutcomeMap.{ResolvedEntry, by_number, elements_of, entry_at, is_stuck, script_of, script_of_entries, script_of_tree, unless_stuck}
 
 -- ---- the numbers
 
-same_numbers : (script : OutcomeMap) (made : List ResolvedEntry) (n : ℕ) → numbers_from n (is_unreachable_at script) (map kept_of made) ≡ numbers_from n (is_stuck script) made
+same_numbers : (script : OutcomeMap) (made : List ResolvedEntry) (n : ℕ) → numbers_from n (is_unreachable_at script) (map step_count_of made) ≡ numbers_from n (is_stuck script) made
 same_numbers script [] n = refl
 same_numbers script (one ∷ made) n = ⊎_elim
     (λ (yes : is_stuck script one ≡ true). rw yes (ap (λ (ns : List ℕ). n ∷ ns) (same_numbers script made (n + 1))))
@@ -42,12 +42,12 @@ pub refused_numbers : (plan : SavedPlan) (elements : Items) (e : ScriptError) �
 unfolding never_beginning_in
 refused_numbers plan elements e fault = rw fault refl
 
-pub made_numbers : (plan : SavedPlan) (elements : Items) (outcomes : OutcomeMap) (waits n : ℕ) (made : List ResolvedEntry) (kept : List (ℕ × ℕ)) (stuck : List ℕ) → HasResolved plan.changes outcomes waits n made
-    → kept ≡ map kept_of made → stuck ≡ numbers_from 0 (is_unreachable_at outcomes) kept
+pub made_numbers : (plan : SavedPlan) (elements : Items) (outcomes : OutcomeMap) (waits n : ℕ) (made : List ResolvedEntry) (step_counts : List (ℕ × ℕ)) (stuck : List ℕ) → HasResolved plan.changes outcomes waits n made
+    → step_counts ≡ map step_count_of made → stuck ≡ numbers_from 0 (is_unreachable_at outcomes) step_counts
     → all_or_first (each_with_earlier (entry_at plan.changes) (list_of elements)) ≡ Ok made → never_beginning_in plan (list_of elements) ≡ Ok stuck
 unfolding never_beginning_in
-made_numbers plan elements outcomes waits n made kept stuck has kept_is stuck_is e =
-    let same : numbers_from 0 (is_stuck outcomes) made ≡ stuck = sym (same_numbers outcomes made 0) ∙ ap (numbers_from 0 (is_unreachable_at outcomes)) (sym kept_is) ∙ sym stuck_is in
+made_numbers plan elements outcomes waits n made step_counts stuck has counts_are stuck_is e =
+    let same : numbers_from 0 (is_stuck outcomes) made ≡ stuck = sym (same_numbers outcomes made 0) ∙ ap (numbers_from 0 (is_unreachable_at outcomes)) (sym counts_are) ∙ sym stuck_is in
     rw e (rw (← has.outcomes_are) (ap (λ (ns : List ℕ). Ok ns) same))
 
 -- a script is refused for the first such entry

@@ -27,18 +27,18 @@ use Rattle.apply_plan.proofs.Results.{unless_refused_ok}
 use Rattle.apply_plan.proofs.Scripts.Entries.{IsChangeOf}
 use Rattle.apply_plan.proofs.Scripts.Limits.{not_refused}
 
-pub entry_found : (d : Data) (found : Option RawEntry) (entry : RawEntry) → option_map entry_view found ≡ entry_of d → found ≡ Some entry → Some (entry_view entry) ≡ entry_of d
-entry_found d found entry is some = sym (ap (λ (o : Option RawEntry). option_map entry_view o) some) ∙ is
+pub entry_found : (d : Data) (located : Option RawEntry) (entry : RawEntry) → option_map entry_view located ≡ entry_of d → located ≡ Some entry → Some (entry_view entry) ≡ entry_of d
+entry_found d located entry is some = sym (ap (λ (o : Option RawEntry). option_map entry_view o) some) ∙ is
 
-pub malformed : (changes : List ResourceChange) (outcomes : OutcomeMap) (earlier n : ℕ) (d : Data) (found : Option RawEntry) → option_map entry_view found ≡ entry_of d → found ≡ None
+pub malformed : (changes : List ResourceChange) (outcomes : OutcomeMap) (earlier n : ℕ) (d : Data) (located : Option RawEntry) → option_map entry_view located ≡ entry_of d → located ≡ None
     → resolved_next changes outcomes earlier n d ≡ Err (BadShape (Some n))
 unfolding resolved_next
-malformed changes outcomes earlier n d found is none = rw (← is, none) refl
+malformed changes outcomes earlier n d located is none = rw (← is, none) refl
 
-pub unknown : (changes : List ResourceChange) (outcomes : OutcomeMap) (earlier n : ℕ) (d : Data) (found : Option RawEntry) (entry : RawEntry) → option_map entry_view found ≡ entry_of d → found ≡ Some entry
+pub unknown : (changes : List ResourceChange) (outcomes : OutcomeMap) (earlier n : ℕ) (d : Data) (located : Option RawEntry) (entry : RawEntry) → option_map entry_view located ≡ entry_of d → located ≡ Some entry
     → change_of_entry changes (entry_view entry) ≡ None → resolved_next changes outcomes earlier n d ≡ Err (UnknownChange n)
 unfolding resolved_next
-unknown changes outcomes earlier n d found entry is some none = rw (← is, some, none) refl
+unknown changes outcomes earlier n d located entry is some none = rw (← is, some, none) refl
 
 -- the tests that are left for an entry with a known change
 abbrev asked : List ResourceChange → OutcomeMap → (earlier n number : ℕ) → ResourceChange → Entry → Result ResolvedEntry ScriptError
@@ -46,27 +46,27 @@ asked changes outcomes earlier n number change entry =
     cond (is_some (stated_steps outcomes number)) (Err (Duplicate n)) (unless_refused (fault_of_entry n changes earlier change entry.steps) (resolved_by changes number entry.steps))
 
 -- a reader has located the entry and its change
-pub record IsFound (changes : List ResourceChange) (outcomes : OutcomeMap) (d : Data) (entry : RawEntry) (number : ℕ) (change : ResourceChange) (there : Option (List ScriptStep)) : Type 0 where
+pub record IsLocated (changes : List ResourceChange) (outcomes : OutcomeMap) (d : Data) (entry : RawEntry) (number : ℕ) (change : ResourceChange) (there : Option (List ScriptStep)) : Type 0 where
   pub entry_is : Some (entry_view entry) ≡ entry_of d
   pub change_is : IsChangeOf changes (entry_view entry) number change
   pub below : number < length outcomes
   pub there_is : there ≡ get_or outcomes number there
 
-known : (changes : List ResourceChange) (outcomes : OutcomeMap) (earlier n : ℕ) (d : Data) (entry : RawEntry) (number : ℕ) (change : ResourceChange) (there : Option (List ScriptStep)) → IsFound changes outcomes d entry number change there
+known : (changes : List ResourceChange) (outcomes : OutcomeMap) (earlier n : ℕ) (d : Data) (entry : RawEntry) (number : ℕ) (change : ResourceChange) (there : Option (List ScriptStep)) → IsLocated changes outcomes d entry number change there
     → resolved_next changes outcomes earlier n d ≡ asked changes outcomes earlier n number change (entry_view entry)
 unfolding resolved_next
-known changes outcomes earlier n d entry number change there is = rw (← is.entry_is, is.change_is.found) refl
+known changes outcomes earlier n d entry number change there is = rw (← is.entry_is, is.change_is.located) refl
 
 said_there : (outcomes : OutcomeMap) (number : ℕ) (there : Option (List ScriptStep)) → number < length outcomes → there ≡ get_or outcomes number there → stated_steps outcomes number ≡ there
 said_there outcomes number there below is = ap (λ (o : Option (Option (List ScriptStep))). option_and_then (λ outcomes. outcomes) o) (slice_get_read outcomes (length outcomes) number there refl below is)
 
-pub repeats : (changes : List ResourceChange) (outcomes : OutcomeMap) (earlier n : ℕ) (d : Data) (entry : RawEntry) (number : ℕ) (change : ResourceChange) (there : Option (List ScriptStep)) → IsFound changes outcomes d entry number change there
+pub repeats : (changes : List ResourceChange) (outcomes : OutcomeMap) (earlier n : ℕ) (d : Data) (entry : RawEntry) (number : ℕ) (change : ResourceChange) (there : Option (List ScriptStep)) → IsLocated changes outcomes d entry number change there
     → is_some there ≡ true → resolved_next changes outcomes earlier n d ≡ Err (Duplicate n)
 repeats changes outcomes earlier n d entry number change there is some =
     known changes outcomes earlier n d entry number change there is ∙ rw (said_there outcomes number there is.below is.there_is, some) refl
 
 -- the result for a change without outcomes
-pub answered : (changes : List ResourceChange) (outcomes : OutcomeMap) (earlier n : ℕ) (d : Data) (entry : RawEntry) (number : ℕ) (change : ResourceChange) (there : Option (List ScriptStep)) (fault : Option ScriptError) → IsFound changes outcomes d entry number change there
+pub answered : (changes : List ResourceChange) (outcomes : OutcomeMap) (earlier n : ℕ) (d : Data) (entry : RawEntry) (number : ℕ) (change : ResourceChange) (there : Option (List ScriptStep)) (fault : Option ScriptError) → IsLocated changes outcomes d entry number change there
     → is_some there ≡ false → fault_of_entry n changes earlier change (entry_view entry).steps ≡ fault → resolved_next changes outcomes earlier n d ≡ unless_refused fault (resolved_by changes number (entry_view entry).steps)
 answered changes outcomes earlier n d entry number change there fault is none asked_is =
     known changes outcomes earlier n d entry number change there is ∙ rw (said_there outcomes number there is.below is.there_is, none, asked_is) refl

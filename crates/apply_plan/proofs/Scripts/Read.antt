@@ -27,24 +27,24 @@ use Rattle.apply_resolve.specs.Placed.{ArePlaced}
 use Rattle.apply_plan.proofs.ListReading.{list_of-items_of, made_more, one_more}
 use Rattle.apply_plan.proofs.Scripts.Entries.{length-by_number}
 use Rattle.apply_plan.proofs.Scripts.NeverBeginning.{made_numbers, refused_numbers}
-use Rattle.apply_plan.proofs.Scripts.WholeList.{entries_one_by_one, made_script, nothing_kept, nothing_said, one_kept, refused_script, said_more, same_entry}
+use Rattle.apply_plan.proofs.Scripts.WholeList.{entries_one_by_one, made_script, no_step_counts, nothing_stated, one_step_count, refused_script, stated_more, same_entry}
 
 -- ---- the entries
 
 pub long : (entries : Entries) (ds : List Data) (holds : HoldsEntries entries ds) → length entries.outcomes.items ≡ length entries.plan.now.changes
 long entries ds holds = ap length holds.outcomes.outcomes_are ∙ length-by_number (length entries.plan.now.changes) holds.made
 
-pub holds_none : (entries : Entries) → length entries.plan.now.changes ≤ max_changes → AreNumbersOf entries.numbers entries.plan.now.changes → entries.outcomes.items ≡ by_number (length entries.plan.now.changes) [] → entries.kept.items ≡ [] → entries.waits ≡ 0 → entries.fault ≡ None
+pub holds_none : (entries : Entries) → length entries.plan.now.changes ≤ max_changes → AreNumbersOf entries.numbers entries.plan.now.changes → entries.outcomes.items ≡ by_number (length entries.plan.now.changes) [] → entries.step_counts.items ≡ [] → entries.waits ≡ 0 → entries.fault ≡ None
     → HoldsEntries entries []
 unfolding made_after
-holds_none entries few numbered outcomes kept waits fault =
+holds_none entries few numbered outcomes step_counts waits fault =
     let changes = entries.plan.now.changes in
     record {
       made = [];
       few_changes = few;
       numbered = numbered;
-      outcomes = rw (waits, kept) (nothing_said changes entries.outcomes.items outcomes);
-      kept = nothing_kept (length changes) entries.kept.items kept;
+      outcomes = rw (waits, step_counts) (nothing_stated changes entries.outcomes.items outcomes);
+      step_counts = no_step_counts (length changes) entries.step_counts.items step_counts;
       few = omega (arith, waits);
       so_far = λ not. rw fault refl;
     }
@@ -58,7 +58,7 @@ holds_past entries ds d some holds =
       few_changes = holds.few_changes;
       numbered = holds.numbered;
       outcomes = holds.outcomes;
-      kept = holds.kept;
+      step_counts = holds.step_counts;
       few = holds.few;
       so_far = λ not. made_more (entry_after changes) [] ds d ∙ ap (λ r. r >>= one_more (entry_after changes) d) (holds.so_far not) ∙ stays entries.fault some;
     }
@@ -77,34 +77,34 @@ no_want (Some x) h = absurd cc
 
 -- one entry more, if there was no fault
 next_entry : (entries : Entries) (ds : List Data) (d : Data) (holds : HoldsEntries entries ds) → is_some entries.fault ≡ false → (answer : Result ResolvedEntry ScriptError)
-    → resolved_next entries.plan.now.changes entries.outcomes.items entries.waits (length entries.kept.items) d ≡ answer
+    → resolved_next entries.plan.now.changes entries.outcomes.items entries.waits (length entries.step_counts.items) d ≡ answer
     → made_after (entry_after entries.plan.now.changes) [] (items_of (ds ++ d ∷ [])) ≡ (answer >>= λ one. Ok (holds.made ++ one ∷ []))
 next_entry entries ds d holds none answer is =
     let changes = entries.plan.now.changes in
     made_more (entry_after changes) [] ds d ∙ ap (λ r. r >>= one_more (entry_after changes) d) (holds.so_far (no_want entries.fault none) ∙ ap (λ (o : Option ScriptError). unless_refused o holds.made) (none_there entries.fault none))
-    ∙ ap (λ (r : Result ResolvedEntry ScriptError). r >>= λ one. Ok (holds.made ++ one ∷ [])) (same_entry changes entries.outcomes.items entries.waits (length entries.kept.items) holds.made d answer holds.outcomes is)
+    ∙ ap (λ (r : Result ResolvedEntry ScriptError). r >>= λ one. Ok (holds.made ++ one ∷ [])) (same_entry changes entries.outcomes.items entries.waits (length entries.step_counts.items) holds.made d answer holds.outcomes is)
 
 pub holds_more : (old new : Entries) (ds : List Data) (d : Data) (change : ℕ) (steps : List ScriptStep) (waits : ℕ) → HoldsEntries old ds → is_some old.fault ≡ false
-    → resolved_next old.plan.now.changes old.outcomes.items old.waits (length old.kept.items) d ≡ Ok (record { change = change; steps = steps; waits = waits })
+    → resolved_next old.plan.now.changes old.outcomes.items old.waits (length old.step_counts.items) d ≡ Ok (record { change = change; steps = steps; waits = waits })
     → change < length old.outcomes.items → ArePlaced (length old.outcomes.items) steps → old.waits + waits ≤ max_waits
     → StoresOneMore old change steps waits new → HoldsEntries new (ds ++ d ∷ [])
 holds_more old new ds d change steps waits holds none is below placed few keeps =
     let changes = old.plan.now.changes in
     let one : ResolvedEntry = record { change = change; steps = steps; waits = waits } in
-    let more = said_more changes old.outcomes.items old.waits (length old.kept.items) holds.made d one holds.outcomes is placed in
-    let longer : length (old.kept.items ++ (change, length steps) ∷ []) ≡ length old.kept.items + 1 = omega (arith, length-append old.kept.items ((change, length steps) ∷ [])) in
+    let more = stated_more changes old.outcomes.items old.waits (length old.step_counts.items) holds.made d one holds.outcomes is placed in
+    let longer : length (old.step_counts.items ++ (change, length steps) ∷ []) ≡ length old.step_counts.items + 1 = omega (arith, length-append old.step_counts.items ((change, length steps) ∷ [])) in
     record {
       made = holds.made ++ one ∷ [];
       few_changes = rw keeps.plan holds.few_changes;
       numbered = rw (keeps.numbers, keeps.plan) holds.numbered;
-      outcomes = rw (keeps.plan, keeps.outcomes, keeps.waits, keeps.kept, longer) more;
-      kept = rw (keeps.plan, keeps.kept) (one_kept (length changes) old.kept.items holds.made one holds.kept (omega (arith, below, long old ds holds)) placed.few);
+      outcomes = rw (keeps.plan, keeps.outcomes, keeps.waits, keeps.step_counts, longer) more;
+      step_counts = rw (keeps.plan, keeps.step_counts) (one_step_count (length changes) old.step_counts.items holds.made one holds.step_counts (omega (arith, below, long old ds holds)) placed.few);
       few = rw keeps.waits few;
       so_far = λ not. rw (keeps.plan, keeps.fault) (next_entry old ds d holds none (Ok one) is ∙ ap (λ (o : Option ScriptError). unless_refused o (holds.made ++ one ∷ [])) (sym (none_there old.fault none)));
     }
 
 pub holds_refused : (old new : Entries) (ds : List Data) (d : Data) (fault : ScriptError) → HoldsEntries old ds → is_some old.fault ≡ false
-    → (fault ≢ Memory → resolved_next old.plan.now.changes old.outcomes.items old.waits (length old.kept.items) d ≡ Err fault)
+    → (fault ≢ Memory → resolved_next old.plan.now.changes old.outcomes.items old.waits (length old.step_counts.items) d ≡ Err fault)
     → new ≡ record old { fault = Some fault } → HoldsEntries new (ds ++ d ∷ [])
 holds_refused old new ds d fault holds none is same = rw same
     (record {
@@ -112,7 +112,7 @@ holds_refused old new ds d fault holds none is same = rw same
       few_changes = holds.few_changes;
       numbered = holds.numbered;
       outcomes = holds.outcomes;
-      kept = holds.kept;
+      step_counts = holds.step_counts;
       few = holds.few;
       so_far = λ not. next_entry old ds d holds none (Err fault) (is (λ want. not (ap (λ (e : ScriptError). Some e) want)));
     })
@@ -128,12 +128,12 @@ refused_entries entries ds fault holds is known =
     same : {x y : ScriptError} → Some x ≡ Some y → x ≡ y
     same e = cc
 
-pub made_entries : (entries : Entries) (ds : List Data) (stuck : Option ℕ) → HoldsEntries entries ds → entries.fault ≡ None → stuck ≡ position_from (is_unreachable_at entries.outcomes.items) 0 entries.kept.items
+pub made_entries : (entries : Entries) (ds : List Data) (stuck : Option ℕ) → HoldsEntries entries ds → entries.fault ≡ None → stuck ≡ position_from (is_unreachable_at entries.outcomes.items) 0 entries.step_counts.items
     → script_of_entries entries.plan.now ds ≡ unless_refused (option_map NeverBegins stuck) entries.outcomes.items
 made_entries entries ds stuck holds none is =
     let plan = entries.plan.now in
     ap (script_of_entries plan) (sym (list_of-items_of ds))
-    ∙ made_script plan (items_of ds) entries.outcomes.items entries.waits (length entries.kept.items) holds.made entries.kept.items stuck holds.outcomes holds.kept.kept_is is
+    ∙ made_script plan (items_of ds) entries.outcomes.items entries.waits (length entries.step_counts.items) holds.made entries.step_counts.items stuck holds.outcomes holds.step_counts.counts_are is
     (sym (entries_one_by_one plan.changes (items_of ds)) ∙ holds.so_far (λ want. absurd (let never : None ≡ Some Memory = sym none ∙ want in cc)) ∙ rw none refl)
 
 -- the entries with a step that can never start
@@ -146,18 +146,18 @@ refused_beginning entries ds fault holds is known =
     same : {x y : ScriptError} → Some x ≡ Some y → x ≡ y
     same e = cc
 
-pub made_beginning : (entries : Entries) (ds : List Data) (stuck : List ℕ) → HoldsEntries entries ds → entries.fault ≡ None → stuck ≡ numbers_from 0 (is_unreachable_at entries.outcomes.items) entries.kept.items
+pub made_beginning : (entries : Entries) (ds : List Data) (stuck : List ℕ) → HoldsEntries entries ds → entries.fault ≡ None → stuck ≡ numbers_from 0 (is_unreachable_at entries.outcomes.items) entries.step_counts.items
     → never_beginning_in entries.plan.now ds ≡ Ok stuck
 made_beginning entries ds stuck holds none is =
     let plan = entries.plan.now in
     ap (never_beginning_in plan) (sym (list_of-items_of ds))
-    ∙ made_numbers plan (items_of ds) entries.outcomes.items entries.waits (length entries.kept.items) holds.made entries.kept.items stuck holds.outcomes holds.kept.kept_is is
+    ∙ made_numbers plan (items_of ds) entries.outcomes.items entries.waits (length entries.step_counts.items) holds.made entries.step_counts.items stuck holds.outcomes holds.step_counts.counts_are is
     (sym (entries_one_by_one plan.changes (items_of ds)) ∙ holds.so_far (λ want. absurd (let never : None ≡ Some Memory = sym none ∙ want in cc)) ∙ rw none refl)
 
 -- ---- the top level
 
 abbrev from_found : Option Data → Result (List Data) ScriptError
-from_found found = or_refuse (BadShape None) (json.◌>>=◌ (json.◌>>=◌ found unless_null) as_array) >>= λ elements. Ok (list_of elements)
+from_found located = or_refuse (BadShape None) (json.◌>>=◌ (json.◌>>=◌ located unless_null) as_array) >>= λ elements. Ok (list_of elements)
 
 found_at : (d : Data) → elements_of_tree d ≡ from_found (get_member (codes "changes") (members_in d))
 found_at d = ap (λ (o : Option Data). or_refuse (BadShape None) (json.◌>>=◌ o as_array) >>= λ elements. Ok (list_of elements)) (member_in (codes "changes") d)

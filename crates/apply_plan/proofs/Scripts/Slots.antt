@@ -61,7 +61,7 @@ module _ (k q : List ℕ) (d : Data) (ms : Members) (here : bytes_eq k q ≡ tru
       → option_map (λ waits. waits_view waits.items) slots.after ≡ (each_member wait_from) (located_after q d ms (codes "after"))
       → shallow_view slots.id ≡ shallow_of (located_after q d ms (codes "id")) → slots.warning ≡ diag_member (located_after q d ms (codes "warning"))
       → failure_option_view slots.failed ≡ failure_member (located_after q d ms (codes "failed"))
-      → option_map (λ found. map provisioner_view found.items) slots.provisioners ≡ (each_member provisioner_from) (located_after q d ms (codes "provisioners"))
+      → option_map (λ input. map provisioner_view input.items) slots.provisioners ≡ (each_member provisioner_from) (located_after q d ms (codes "provisioners"))
       → shallow_view slots.skipped ≡ shallow_of (located_after q d ms (codes "skipped")) → HoldsStep slots (put k d ms)
   step_behind slots seconds after id warning failed provisioners skipped = record {
     seconds = after_member shallow_of (codes "seconds") k q d ms _ here seconds;

@@ -61,14 +61,14 @@ is_of_none changes items i item below is none =
 
 -- the step that the next item names, if its change is known
 record Names (changes : List ResourceChange) (name : WaitName) (number : ℕ) (change : ResourceChange) : Type 0 where
-  found : change_waited changes name ≡ Some (number, change)
+  located : change_waited changes name ≡ Some (number, change)
 
 names : (changes : List ResourceChange) (item : RawWait) (number : ℕ) (change : ResourceChange) → Some number ≡ option_map (λ p. p.0) (change_waited changes (wait_view item)) → Some change ≡ slice_get changes number
     → Names changes (wait_view item) number change
-names changes item number change known stands = record { found = (change_numbered changes (as_entry (wait_view item)) number change known stands).found }
+names changes item number change known stands = record { located = (change_numbered changes (as_entry (wait_view item)) number change known stands).located }
 
 is_known : (changes : List ResourceChange) (name : WaitName) (number : ℕ) (change : ResourceChange) → Names changes name number change → is_unknown changes name ≡ false
-is_known changes name number change has = ap (λ (o : Option (ℕ × ResourceChange)). is_none o) has.found
+is_known changes name number change has = ap (λ (o : Option (ℕ × ResourceChange)). is_none o) has.located
 
 -- whether the change lacks the stated step, by whether it has the named one
 has_it : (step : Option ℕ) (count : ℕ) → nat_lt (unwrap_or step (count - 1)) count ≡ true → option_map_or (λ (number : ℕ). nat_le count number) step false ≡ false
@@ -82,10 +82,10 @@ lacks_it (Some k) count has = le-leb count k (ltb-false k count has)
 lacks_here : (changes : List ResourceChange) (name : WaitName) (number : ℕ) (change : ResourceChange) → Names changes name number change
     → lacks_step changes name ≡ option_map_or (λ (number : ℕ). nat_le (length change.steps) number) name.step false
 lacks_here changes name number change has =
-    ap (λ (o : Option (ℕ × ResourceChange)). option_map_or (λ (found : ℕ × ResourceChange). option_map_or (λ (number : ℕ). nat_le (length found.1.steps) number) name.step false) o false) has.found
+    ap (λ (o : Option (ℕ × ResourceChange)). option_map_or (λ (located : ℕ × ResourceChange). option_map_or (λ (number : ℕ). nat_le (length located.1.steps) number) name.step false) o false) has.located
 
 step_here : (changes : List ResourceChange) (name : WaitName) (number : ℕ) (change : ResourceChange) → Names changes name number change → step_waited changes name ≡ step_of_change name (number, change)
-step_here changes name number change has = ap (option_and_then (step_of_change name)) has.found
+step_here changes name number change has = ap (option_and_then (step_of_change name)) has.located
 
 or_false : (b : Bool) → (b || false) ≡ b
 or_false true = refl
@@ -98,8 +98,8 @@ module _ (changes : List ResourceChange) (items : List RawWait) (i : ℕ) (item 
   name : WaitName
   name = wait_view item
 
-  found : Names changes (wait_view item) number change
-  found = names changes item number change known stands
+  located : Names changes (wait_view item) number change
+  located = names changes item number change known stands
 
   -- the item names this step
   pub names_step : (step : ℕ) → Some step ≡ cond (nat_lt (number_waited count (wait_view item)) count) (Some (number_waited count (wait_view item))) None
@@ -108,10 +108,10 @@ module _ (changes : List ResourceChange) (items : List RawWait) (i : ℕ) (item 
       (λ (yes : nat_lt (number_waited count (wait_view item)) count ≡ true).
       let same : step ≡ number_waited count (wait_view item) = (let some : Some step ≡ cond true (Some (number_waited count (wait_view item))) None = rw yes at told in cc) in
       let here : step_of_change (wait_view item) (number, change) ≡ Some (record { change = number; step = step }) = rw (← count_is, yes, ← same) refl in
-      let named : step_waited changes (wait_view item) ≡ Some (record { change = number; step = step }) = step_here changes (wait_view item) number change found ∙ here in
-      let has : lacks_step changes (wait_view item) ≡ false = lacks_here changes (wait_view item) number change found ∙ rw (← count_is) (has_it item.step count yes) in
+      let named : step_waited changes (wait_view item) ≡ Some (record { change = number; step = step }) = step_here changes (wait_view item) number change located ∙ here in
+      let has : lacks_step changes (wait_view item) ≡ false = lacks_here changes (wait_view item) number change located ∙ rw (← count_is) (has_it item.step count yes) in
       record {
-        known = rw (one_more items i item below is, list_any-append (is_unknown changes) (waits_view (take i items)) (wait_view item ∷ []), before.known, is_known changes (wait_view item) number change found) refl;
+        known = rw (one_more items i item below is, list_any-append (is_unknown changes) (waits_view (take i items)) (wait_view item ∷ []), before.known, is_known changes (wait_view item) number change located) refl;
         waits_are = rw (one_more items i item below is, filter_map-append (step_waited changes) (waits_view (take i items)) (wait_view item ∷ []), named, ← before.waits_are) refl;
         lacks_is = rw (one_more items i item below is, list_any-append (lacks_step changes) (waits_view (take i items)) (wait_view item ∷ []), has, ← before.lacks_is) (sym (or_false lacks));
         placed = All-append (IsPlaced (length changes)) waits (record { change = number; step = step } ∷ []) before.placed
@@ -129,10 +129,10 @@ module _ (changes : List ResourceChange) (items : List RawWait) (i : ℕ) (item 
       (λ (yes : nat_lt (number_waited count (wait_view item)) count ≡ true). let some : None ≡ cond true (Some (number_waited count (wait_view item))) None = rw yes at told in absurd cc)
       (λ (no : nat_lt (number_waited count (wait_view item)) count ≡ false).
       let here : step_of_change (wait_view item) (number, change) ≡ None = rw (← count_is, no) refl in
-      let named : step_waited changes (wait_view item) ≡ None = step_here changes (wait_view item) number change found ∙ here in
-      let misses : lacks_step changes (wait_view item) ≡ is_some item.step = lacks_here changes (wait_view item) number change found ∙ rw (← count_is) (lacks_it item.step count no) in
+      let named : step_waited changes (wait_view item) ≡ None = step_here changes (wait_view item) number change located ∙ here in
+      let misses : lacks_step changes (wait_view item) ≡ is_some item.step = lacks_here changes (wait_view item) number change located ∙ rw (← count_is) (lacks_it item.step count no) in
       record {
-        known = rw (one_more items i item below is, list_any-append (is_unknown changes) (waits_view (take i items)) (wait_view item ∷ []), before.known, is_known changes (wait_view item) number change found) refl;
+        known = rw (one_more items i item below is, list_any-append (is_unknown changes) (waits_view (take i items)) (wait_view item ∷ []), before.known, is_known changes (wait_view item) number change located) refl;
         waits_are = rw (one_more items i item below is, filter_map-append (step_waited changes) (waits_view (take i items)) (wait_view item ∷ []), named, ← before.waits_are) (sym (append-nil waits));
         lacks_is = rw (one_more items i item below is, list_any-append (lacks_step changes) (waits_view (take i items)) (wait_view item ∷ []), misses, ← before.lacks_is) (ap (λ (b : Bool). lacks || b) (sym (or_false (is_some item.step))));
         placed = before.placed;
@@ -193,8 +193,8 @@ next_step steps i step below is = rw (take_more steps i step below, ← is) (map
 pub one_step : (changes : List ResourceChange) (steps : List RawStep) (i : ℕ) (step : RawStep) (outcomes : List ScriptStep) (lacks : Bool) (waited : Waited) (one : ScriptStep) → HasSteps changes steps i outcomes lacks
     → i < length steps → step ≡ get_or steps i step → Some waited ≡ waited_by changes (waits_view step.after.items) → All (IsPlaced (length changes)) waited.waits
     → one ≡ with_waits (step_view step) waited.waits → HasSteps changes steps (i + 1) (outcomes ++ one ∷ []) (lacks || waited.lacks_step)
-one_step changes steps i step outcomes lacks waited one before below is found placed made =
-    let parts = waited_parts changes (waits_view step.after.items) waited found in
+one_step changes steps i step outcomes lacks waited one before below is located placed made =
+    let parts = waited_parts changes (waits_view step.after.items) waited located in
     let P = λ (step : ScriptStep). All (IsPlaced (length changes)) (after_of step) in
     let told : one ≡ resolved_step changes (entry_step_view step) = made ∙ ap (with_waits (step_view step)) parts.1 in
     record {

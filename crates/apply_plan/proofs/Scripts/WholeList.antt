@@ -17,7 +17,7 @@ use Rattle.apply_plan.specs.ListReading.{made_after}
 use Rattle.apply_model.specs.Plan.ResourceChange.{ResourceChange}
 use Rattle.apply_model.specs.Plan.SavedPlan.{SavedPlan}
 use Rattle.apply_plan.specs.Results.{◌>>=◌, all_or_first, each_with_earlier, or_refuse, unless_refused}
-use Rattle.apply_plan.specs.Script.EntriesView.{HasKept, HasResolved, IsWithin, kept_of}
+use Rattle.apply_plan.specs.Script.EntriesView.{HasStepCounts, HasResolved, IsWithin, step_count_of}
 use Rattle.apply_plan.specs.Script.Entry.{Entry, entry_of}
 use Rattle.apply_plan.specs.Script.NextEntry.{count_waits, entry_after, resolved_next}
 use Rattle.apply_model.specs.Script.OutcomeMap.{IsInRange, OutcomeMap, stated_steps}
@@ -48,7 +48,7 @@ accepted changes outcomes earlier n d one e =
     let formed = bind_ok (or_refuse (BadShape (Some n)) (entry_of d)) _ one e in
     let entry_is = or_refuse_ok (BadShape (Some n)) (entry_of d) formed.0 formed.1 in
     let known = bind_ok (or_refuse (UnknownChange n) (change_of_entry changes formed.0)) _ one formed.2 in
-    let found = or_refuse_ok (UnknownChange n) (change_of_entry changes formed.0) known.0 known.1 in
+    let located = or_refuse_ok (UnknownChange n) (change_of_entry changes formed.0) known.0 known.1 in
     let new = guard_ok (is_some (stated_steps outcomes known.0.0)) (Duplicate n) _ one known.2 in
     let fault = fault_of_entry n changes earlier known.0.1 formed.0.steps in
     let clear = unless_refused_ok fault (resolved_by changes known.0.0 formed.0.steps) one new.1 in
@@ -57,7 +57,7 @@ accepted changes outcomes earlier n d one e =
       entry = formed.0;
       change = known.0.1;
       entry_is = entry_is;
-      change_of = change_is changes formed.0 known.0.0 known.0.1 found;
+      change_of = change_is changes formed.0 known.0.0 known.0.1 located;
       new = new.0;
       within = said_is_within n changes earlier known.0.1 formed.0.steps clear.0;
       counted = refl;
@@ -98,8 +98,8 @@ unfolding resolved_next entry_at
 same_answer changes before made d are =
     rw (are.same_length, are.same_waits)
     (bind_same (or_refuse (BadShape (Some (length before))) (entry_of d)) _ _ (λ entry.
-    bind_found (change_of_entry changes entry) (UnknownChange (length before)) _ _ (λ p found.
-    let of_entry = change_is changes entry p.0 p.1 found in
+    bind_found (change_of_entry changes entry) (UnknownChange (length before)) _ _ (λ p located.
+    let of_entry = change_is changes entry p.0 p.1 located in
     let below = slice_get_within changes p.0 p.1 of_entry.stands in
     let named : is_some (stated_steps (by_number (length changes) made) p.0) ≡ list_any (names_change p.1) before = ap is_some (at_number (length changes) made p.0 below) ∙ sym (are.same_changes entry p.0 p.1 of_entry) in
     rw named refl)))
@@ -116,8 +116,8 @@ entries_one_by_one changes elements = read_one_by_one (entry_after changes) (ent
 
 -- ---- the steps of a reader
 
-pub nothing_said : (changes : List ResourceChange) (outcomes : OutcomeMap) → outcomes ≡ by_number (length changes) [] → HasResolved changes outcomes 0 0 []
-nothing_said changes outcomes is =
+pub nothing_stated : (changes : List ResourceChange) (outcomes : OutcomeMap) → outcomes ≡ by_number (length changes) [] → HasResolved changes outcomes 0 0 []
+nothing_stated changes outcomes is =
     record { count = refl; waits_are = refl; outcomes_are = is; counted = ap (λ (s : OutcomeMap). count_by is_some s) is ∙ none_counted (length changes); in_range = λ number. tt; placed = λ number. tt }
 
 pub few_entries : (changes : List ResourceChange) (outcomes : OutcomeMap) (waits n : ℕ) (made : List ResolvedEntry) → HasResolved changes outcomes waits n made → n ≤ length changes
@@ -127,9 +127,9 @@ pub same_entry : (changes : List ResourceChange) (outcomes : OutcomeMap) (waits 
     → resolved_next changes outcomes waits n d ≡ answer → entry_after changes made d ≡ answer
 same_entry changes outcomes waits n made d answer has e = rw (has.count, has.waits_are, ← has.outcomes_are) e
 
-pub said_more : (changes : List ResourceChange) (outcomes : OutcomeMap) (waits n : ℕ) (made : List ResolvedEntry) (d : Data) (one : ResolvedEntry) → HasResolved changes outcomes waits n made
+pub stated_more : (changes : List ResourceChange) (outcomes : OutcomeMap) (waits n : ℕ) (made : List ResolvedEntry) (d : Data) (one : ResolvedEntry) → HasResolved changes outcomes waits n made
     → resolved_next changes outcomes waits n d ≡ Ok one → ArePlaced (length outcomes) one.steps → HasResolved changes (set outcomes one.change (Some one.steps)) (waits + one.waits) (n + 1) (made ++ one ∷ [])
-said_more changes outcomes waits n made d one has e placed =
+stated_more changes outcomes waits n made d one has e placed =
     let is = accepted changes outcomes waits n d one e in
     let below = slice_get_within changes one.change is.change is.change_of.stands in
     let long : length outcomes ≡ length changes = ap length has.outcomes_are ∙ length-by_number (length changes) made in
@@ -149,26 +149,26 @@ said_more changes outcomes waits n made d one has e placed =
     none_there None h = refl
     none_there (Some x) h = absurd cc
 
-pub said_in_range : (changes : List ResourceChange) (outcomes : OutcomeMap) (waits n : ℕ) (made : List ResolvedEntry) → HasResolved changes outcomes waits n made → IsInRange outcomes
-said_in_range changes outcomes waits n made has = subst (λ (s : OutcomeMap). IsInRange s) (sym has.outcomes_are) (is_in_range (length changes) made has.in_range)
+pub stated_in_range : (changes : List ResourceChange) (outcomes : OutcomeMap) (waits n : ℕ) (made : List ResolvedEntry) → HasResolved changes outcomes waits n made → IsInRange outcomes
+stated_in_range changes outcomes waits n made has = subst (λ (s : OutcomeMap). IsInRange s) (sym has.outcomes_are) (is_in_range (length changes) made has.in_range)
 
-pub said_placed : (changes : List ResourceChange) (outcomes : OutcomeMap) (waits n : ℕ) (made : List ResolvedEntry) → HasResolved changes outcomes waits n made → AreAllPlaced outcomes
-said_placed changes outcomes waits n made has = subst AreAllPlaced (sym has.outcomes_are) (are_all_placed (length changes) made has.placed)
+pub stated_placed : (changes : List ResourceChange) (outcomes : OutcomeMap) (waits n : ℕ) (made : List ResolvedEntry) → HasResolved changes outcomes waits n made → AreAllPlaced outcomes
+stated_placed changes outcomes waits n made has = subst AreAllPlaced (sym has.outcomes_are) (are_all_placed (length changes) made has.placed)
 
 -- ---- the stored entries, and which of them can never start
 
-pub nothing_kept : (n : ℕ) (kept : List (ℕ × ℕ)) → kept ≡ [] → HasKept n kept []
-nothing_kept n kept none = let P = λ (entry : ℕ × ℕ). (entry.0 < n) × (entry.1 ≤ 2) in record { kept_is = none; within = subst (All P) (sym none) (All-nil P) }
+pub no_step_counts : (n : ℕ) (step_counts : List (ℕ × ℕ)) → step_counts ≡ [] → HasStepCounts n step_counts []
+no_step_counts n step_counts none = let P = λ (entry : ℕ × ℕ). (entry.0 < n) × (entry.1 ≤ 2) in record { counts_are = none; within = subst (All P) (sym none) (All-nil P) }
 
-pub one_kept : (n : ℕ) (kept : List (ℕ × ℕ)) (made : List ResolvedEntry) (one : ResolvedEntry) → HasKept n kept made → one.change < n → length one.steps ≤ 2 → HasKept n (kept ++ kept_of one ∷ []) (made ++ one ∷ [])
-one_kept n kept made one has below few =
+pub one_step_count : (n : ℕ) (step_counts : List (ℕ × ℕ)) (made : List ResolvedEntry) (one : ResolvedEntry) → HasStepCounts n step_counts made → one.change < n → length one.steps ≤ 2 → HasStepCounts n (step_counts ++ step_count_of one ∷ []) (made ++ one ∷ [])
+one_step_count n step_counts made one has below few =
     let P = λ (entry : ℕ × ℕ). (entry.0 < n) × (entry.1 ≤ 2) in
     record {
-      kept_is = rw (map-append kept_of made (one ∷ []), has.kept_is) refl;
-      within = All-append P kept (kept_of one ∷ []) has.within (All-cons P (kept_of one) [] (below, few) (All-nil P));
+      counts_are = rw (map-append step_count_of made (one ∷ []), has.counts_are) refl;
+      within = All-append P step_counts (step_count_of one ∷ []) has.within (All-cons P (step_count_of one) [] (below, few) (All-nil P));
     }
 
-pub same_stuck : (script : OutcomeMap) (made : List ResolvedEntry) (n : ℕ) → position_from (is_unreachable_at script) n (map kept_of made) ≡ position_from (is_stuck script) n made
+pub same_stuck : (script : OutcomeMap) (made : List ResolvedEntry) (n : ℕ) → position_from (is_unreachable_at script) n (map step_count_of made) ≡ position_from (is_stuck script) n made
 same_stuck script [] n = refl
 same_stuck script (one ∷ made) n = ap (λ (o : Option ℕ). cond (is_stuck script one) (Some n) o) (same_stuck script made (n + 1))
 
@@ -179,10 +179,10 @@ unfolding script_of_entries
 refused_script plan elements e fault = rw fault refl
 
 -- the script of all entries, by which of them can never start
-pub made_script : (plan : SavedPlan) (elements : Items) (outcomes : OutcomeMap) (waits n : ℕ) (made : List ResolvedEntry) (kept : List (ℕ × ℕ)) (stuck : Option ℕ) → HasResolved plan.changes outcomes waits n made
-    → kept ≡ map kept_of made → stuck ≡ position_from (is_unreachable_at outcomes) 0 kept
+pub made_script : (plan : SavedPlan) (elements : Items) (outcomes : OutcomeMap) (waits n : ℕ) (made : List ResolvedEntry) (step_counts : List (ℕ × ℕ)) (stuck : Option ℕ) → HasResolved plan.changes outcomes waits n made
+    → step_counts ≡ map step_count_of made → stuck ≡ position_from (is_unreachable_at outcomes) 0 step_counts
     → all_or_first (each_with_earlier (entry_at plan.changes) (list_of elements)) ≡ Ok made → script_of_entries plan (list_of elements) ≡ unless_refused (option_map NeverBegins stuck) outcomes
 unfolding script_of_entries
-made_script plan elements outcomes waits n made kept stuck has kept_is stuck_is e =
-    let same : position_from (is_stuck outcomes) 0 made ≡ stuck = sym (same_stuck outcomes made 0) ∙ ap (position_from (is_unreachable_at outcomes) 0) (sym kept_is) ∙ sym stuck_is in
+made_script plan elements outcomes waits n made step_counts stuck has counts_are stuck_is e =
+    let same : position_from (is_stuck outcomes) 0 made ≡ stuck = sym (same_stuck outcomes made 0) ∙ ap (position_from (is_unreachable_at outcomes) 0) (sym counts_are) ∙ sym stuck_is in
     rw e (rw (← has.outcomes_are) (ap (λ (o : Option ℕ). unless_refused (option_map NeverBegins o) outcomes) same))

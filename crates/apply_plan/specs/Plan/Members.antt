@@ -30,23 +30,23 @@ use Rattle.apply_plan.specs.Results.{or_refuse}
 
 -- the `id` of `before`; none if it is not a text or is empty
 abbrev pub id_member : Option Data → Option (List ℕ)
-id_member found = (found >>= unless_null) >>= λ before. non_empty_text_of (codes "id") before
+id_member input = (input >>= unless_null) >>= λ before. non_empty_text_of (codes "id") before
 
 -- whether `before_sensitive` hides the id
 abbrev pub sensitive_member : Option Data → Bool
-sensitive_member found = hides_id (found >>= unless_null)
+sensitive_member input = hides_id (input >>= unless_null)
 
 -- the steps of an action list, if it is valid; none if there is no list
 abbrev pub actions_member : Option Data → Option (Option (List StepKind))
-actions_member found = do
-  list ← found >>= unless_null
+actions_member input = do
+  list ← input >>= unless_null
   actions ← as_array list
   Some (steps_of_actions actions)
 
 -- what `change` states: the steps, and the id before the change
 abbrev pub change_member : Option Data → Option (Option (List StepKind) × Option (List ℕ))
-change_member found = do
-  change ← found >>= unless_null
+change_member input = do
+  change ← input >>= unless_null
   list ← member_of (codes "actions") change
   actions ← as_array list
   Some (steps_of_actions actions, prior_id_of change)
@@ -62,7 +62,7 @@ is_true_read an_array = false
 is_true_read an_object = false
 
 abbrev pub mode_read : ShallowView → Option Mode
-mode_read found = shallow_text found >>= mode_named
+mode_read input = shallow_text input >>= mode_named
 
 abbrev pub key_read : ShallowView → Option Key
 key_read absent = Some key.None
@@ -83,13 +83,13 @@ name_of member.Deposed = codes "deposed"
 
 -- the slots with this scalar stored
 abbrev pub with_scalar : ElementSlots → ElementMember → Shallow → ElementSlots
-with_scalar slots member.Address found = record slots { address = found }
-with_scalar slots member.Mode found = record slots { mode = found }
-with_scalar slots member.Type found = record slots { kind_name = found }
-with_scalar slots member.Name found = record slots { name = found }
-with_scalar slots member.ModuleAddress found = record slots { module_address = found }
-with_scalar slots member.Index found = record slots { index = found }
-with_scalar slots member.Deposed found = record slots { deposed = found }
+with_scalar slots member.Address input = record slots { address = input }
+with_scalar slots member.Mode input = record slots { mode = input }
+with_scalar slots member.Type input = record slots { kind_name = input }
+with_scalar slots member.Name input = record slots { name = input }
+with_scalar slots member.ModuleAddress input = record slots { module_address = input }
+with_scalar slots member.Index input = record slots { index = input }
+with_scalar slots member.Deposed input = record slots { deposed = input }
 
 -- ---- the slots hold what the members state
 
@@ -142,6 +142,6 @@ element_read slots = do
 
 -- the change of element n, or the first fault of the element by itself
 abbrev pub planned_read : ℕ → Option ReadElement → Result ResourceChange PlanError
-planned_read n found =
-    results.◌>>=◌ (or_refuse (BadChange n) found) λ e. results.◌>>=◌ (or_refuse (BadActions n) e.steps) λ steps.
+planned_read n input =
+    results.◌>>=◌ (or_refuse (BadChange n) input) λ e. results.◌>>=◌ (or_refuse (BadActions n) e.steps) λ steps.
     results.◌>>=◌ (or_refuse (BadAddress n) (relative_address e.module_address e.address)) λ relative. Ok (change_with_steps e steps)

@@ -45,13 +45,13 @@ pub record HasResolved (changes : List ResourceChange) (outcomes : OutcomeMap) (
   pub placed : AllResolved (ArePlaced (length changes)) made
 
 -- an entry as its reader stores it: its change, and how many steps it states
-abbrev pub kept_of : ResolvedEntry → ℕ × ℕ
-kept_of entry = (entry.change, length entry.steps)
+abbrev pub step_count_of : ResolvedEntry → ℕ × ℕ
+step_count_of entry = (entry.change, length entry.steps)
 
 -- the stored entries are those that were resolved
-pub record HasKept (n : ℕ) (kept : List (ℕ × ℕ)) (made : List ResolvedEntry) : Type 0 where
-  pub kept_is : kept ≡ map kept_of made
-  pub within : All (λ entry. (entry.0 < n) × (entry.1 ≤ 2)) kept
+pub record HasStepCounts (n : ℕ) (step_counts : List (ℕ × ℕ)) (made : List ResolvedEntry) : Type 0 where
+  pub counts_are : step_counts ≡ map step_count_of made
+  pub within : All (λ entry. (entry.0 < n) × (entry.1 ≤ 2)) step_counts
 
 -- the numbers are those of the changes, by their objects
 abbrev pub AreNumbersOf : ChangeNumbers → List ResourceChange → Type 0
@@ -64,8 +64,8 @@ pub record HoldsEntries (entries : Entries) (ds : List Data) : Type 0 where
   pub made : List ResolvedEntry
   pub few_changes : length entries.plan.now.changes ≤ max_changes
   pub numbered : AreNumbersOf entries.numbers entries.plan.now.changes
-  pub outcomes : HasResolved entries.plan.now.changes entries.outcomes.items entries.waits (length entries.kept.items) made
-  pub kept : HasKept (length entries.plan.now.changes) entries.kept.items made
+  pub outcomes : HasResolved entries.plan.now.changes entries.outcomes.items entries.waits (length entries.step_counts.items) made
+  pub step_counts : HasStepCounts (length entries.plan.now.changes) entries.step_counts.items made
   pub few : entries.waits ≤ max_waits
   pub so_far : entries.fault ≢ Some Memory → made_after (entry_after entries.plan.now.changes) [] (items_of ds) ≡ unless_refused entries.fault made
 
@@ -74,14 +74,14 @@ pub record StoresOneMore (old : Entries) (change : ℕ) (steps : List ScriptStep
   pub plan : new.plan ≡ old.plan
   pub numbers : new.numbers ≡ old.numbers
   pub outcomes : new.outcomes.items ≡ set old.outcomes.items change (Some steps)
-  pub kept : new.kept.items ≡ old.kept.items ++ (change, length steps) ∷ []
+  pub step_counts : new.step_counts.items ≡ old.step_counts.items ++ (change, length steps) ∷ []
   pub waits : new.waits ≡ old.waits + more
   pub fault : new.fault ≡ old.fault
 
 -- each change with outcomes has a stored entry
-pub record AreCovered (outcomes : OutcomeMap) (kept : List (ℕ × ℕ)) : Type 0 where
-  pub within : All (λ entry. (entry.0 < length outcomes) × (entry.1 ≤ 2)) kept
-  pub covered : (number : ℕ) → number < length outcomes → is_some (get_or outcomes number None) ≡ true → list_any (λ entry. entry.0 == number) kept ≡ true
+pub record AreCovered (outcomes : OutcomeMap) (step_counts : List (ℕ × ℕ)) : Type 0 where
+  pub within : All (λ entry. (entry.0 < length outcomes) × (entry.1 ≤ 2)) step_counts
+  pub covered : (number : ℕ) → number < length outcomes → is_some (get_or outcomes number None) ≡ true → list_any (λ entry. entry.0 == number) step_counts ≡ true
 
 -- whether the member `changes` is an array
 abbrev pub kind_of : Option Data → ArrayPresence

@@ -123,15 +123,15 @@ ending_of d = do
 -- all values; none if one is missing
 abbrev pub all_some : {A : Type 0} → List (Option A) → Option (List A)
 all_some [] = Some []
-all_some (found ∷ others) = do
-  x ← found
+all_some (input ∷ others) = do
+  x ← input
   xs ← all_some others
   Some (x ∷ xs)
 
 -- the items of an array, each as `part` reads it; an absent array is empty
 abbrev pub each_of : {A : Type 0} → (Data → Option A) → Option Data → Option (List A)
-each_of part found = do
-  items ← items_or_empty found
+each_of part input = do
+  items ← items_or_empty input
   all_some (map part (list_of items))
 
 -- a number that may be absent: a whole number that fits 64 bits

@@ -24,32 +24,32 @@ use Rattle.apply_plan.specs.Script.RawView.{entry_step_view, failure_view, provi
 -- ---- members that are no scalars; `null` counts as absent
 
 abbrev pub diag_member : Option Data → Option (Option Diag)
-diag_member found = diag_or_none (found >>= unless_null)
+diag_member input = diag_or_none (input >>= unless_null)
 
 abbrev pub failure_member : Option Data → Option (Option Failure)
-failure_member found = failure_or_none (found >>= unless_null)
+failure_member input = failure_or_none (input >>= unless_null)
 
 -- an object as raw JSON text
 abbrev pub object_member : Option Data → Option (Option (List ℕ))
-object_member found = object_or_none (found >>= unless_null)
+object_member input = object_or_none (input >>= unless_null)
 
 abbrev pub each_member : {A : Type 0} → (Data → Option A) → Option Data → Option (List A)
-each_member part found = each_of part (found >>= unless_null)
+each_member part input = each_of part (input >>= unless_null)
 
 -- the items of an array that must not be absent
 abbrev pub needed_member : {A : Type 0} → (Data → Option A) → Option Data → Option (List A)
-needed_member part found = do
-  list ← found >>= unless_null
+needed_member part input = do
+  list ← input >>= unless_null
   items ← as_array list
   all_some (map part (list_of items))
 
 abbrev pub steps_member : Option Data → Option (List EntryStep)
-steps_member found = needed_member step_from found
+steps_member input = needed_member step_from input
 
 -- ---- the slots hold what the members state
 
 abbrev pub text_view : Option (Option (String Global)) → Option (Option (List ℕ))
-text_view found = option_map (λ text. option_map string_bytes text) found
+text_view input = option_map (λ text. option_map string_bytes text) input
 
 pub record HoldsDiag (slots : DiagSlots) (ms : Members) : Type 0 where
   pub summary : shallow_view slots.summary ≡ shallow_of (get_member (codes "summary") ms)
@@ -68,7 +68,7 @@ pub record HoldsOutput (slots : OutputSlots) (ms : Members) : Type 0 where
   pub text : shallow_view slots.text ≡ shallow_of (get_member (codes "text") ms)
 
 abbrev pub failure_option_view : Option (Option RawFailure) → Option (Option Failure)
-failure_option_view found = option_map (λ failure. option_map failure_view failure) found
+failure_option_view input = option_map (λ failure. option_map failure_view failure) input
 
 pub record HoldsProvisioner (slots : ProvisionerSlots) (ms : Members) : Type 0 where
   pub name : shallow_view slots.name ≡ shallow_of (get_member (codes "provisioner") ms)
@@ -83,7 +83,7 @@ pub record HoldsStep (slots : StepSlots) (ms : Members) : Type 0 where
   pub id : shallow_view slots.id ≡ shallow_of (get_member (codes "id") ms)
   pub warning : slots.warning ≡ diag_member (get_member (codes "warning") ms)
   pub failed : failure_option_view slots.failed ≡ failure_member (get_member (codes "failed") ms)
-  pub provisioners : option_map (λ found. map provisioner_view found.items) slots.provisioners
+  pub provisioners : option_map (λ input. map provisioner_view input.items) slots.provisioners
       ≡ each_member provisioner_from (get_member (codes "provisioners") ms)
   pub after : option_map (λ waits. waits_view waits.items) slots.after ≡ each_member wait_from (get_member (codes "after") ms)
 
@@ -117,7 +117,7 @@ word_flag_read set unset an_object = None
 
 -- whether a failure is only a warning, by its `severity`
 abbrev pub only_warns_read : ShallowView → Option Bool
-only_warns_read found = word_flag_read (codes "warning") (codes "error") found
+only_warns_read input = word_flag_read (codes "warning") (codes "error") input
 
 abbrev pub failure_read : DiagSlots → Option Failure
 failure_read slots = do
@@ -148,7 +148,7 @@ output_read slots = do
 
 -- whether a provisioner may fail, by its `on_failure`
 abbrev pub may_fail_read : ShallowView → Option Bool
-may_fail_read found = word_flag_read (codes "continue") (codes "fail") found
+may_fail_read input = word_flag_read (codes "continue") (codes "fail") input
 
 abbrev pub provisioner_read : ProvisionerSlots → Option Provisioner
 provisioner_read slots = do
@@ -202,7 +202,7 @@ abbrev pub step_read : StepSlots → Option EntryStep
 step_read slots = do
   skipped ← flag_read (shallow_view slots.skipped)
   result ← ending_read (shallow_view slots.id) slots.warning slots.failed
-  provisioners ← option_map (λ found. map provisioner_view found.items) slots.provisioners
+  provisioners ← option_map (λ input. map provisioner_view input.items) slots.provisioners
   after ← option_map (λ waits. waits_view waits.items) slots.after
   outcome ← outcome_read skipped (shallow_view slots.seconds) result provisioners
   Some (record { outcome = outcome; after = after })

@@ -16,9 +16,9 @@ use Rattle.apply_plan.specs.Script.WaitedStep.{resolved_step}
 unfoldable pub resolved_next : List ResourceChange → OutcomeMap → (earlier n : ℕ) → Data → Result ResolvedEntry ScriptError
 resolved_next changes outcomes earlier n d = do
   entry ← or_refuse (BadShape (Some n)) (entry_of d)
-  found ← or_refuse (UnknownChange n) (change_of_entry changes entry)
-  if is_some (stated_steps outcomes found.0) then Err (Duplicate n)
-      else unless_refused (fault_of_entry n changes earlier found.1 entry.steps) (resolved_by changes found.0 entry.steps)
+  located ← or_refuse (UnknownChange n) (change_of_entry changes entry)
+  if is_some (stated_steps outcomes located.0) then Err (Duplicate n)
+      else unless_refused (fault_of_entry n changes earlier located.1 entry.steps) (resolved_by changes located.0 entry.steps)
 
 -- how many items the `after` lists of the entries have
 abbrev pub count_waits : List ResolvedEntry → ℕ

@@ -54,11 +54,11 @@ resolved_by changes number steps =
 unfoldable pub entry_at : List ResourceChange → List Data → Data → Result ResolvedEntry ScriptError
 entry_at changes before d = do
   entry ← or_refuse (BadShape (Some (length before))) (entry_of d)
-  found ← or_refuse (UnknownChange (length before)) (change_of_entry changes entry)
-  if list_any (names_change found.1) before then Err (Duplicate (length before))
+  located ← or_refuse (UnknownChange (length before)) (change_of_entry changes entry)
+  if list_any (names_change located.1) before then Err (Duplicate (length before))
       else unless_refused
-      (fault_of_entry (length before) changes (sum_by count_in before) found.1 entry.steps)
-      (resolved_by changes found.0 entry.steps)
+      (fault_of_entry (length before) changes (sum_by count_in before) located.1 entry.steps)
+      (resolved_by changes located.0 entry.steps)
 
 -- the outcomes that the entries state for a change
 abbrev pub outcomes_of : List ResolvedEntry → ℕ → Option (List ScriptStep)

@@ -66,7 +66,7 @@ is_unknown changes name = is_none (change_waited changes name)
 abbrev pub lacks_step : List ResourceChange → WaitName → Bool
 lacks_step changes name =
     option_map_or
-    (λ found. option_map_or (λ number. nat_le (length found.1.steps) number) name.step false)
+    (λ located. option_map_or (λ number. nat_le (length located.1.steps) number) name.step false)
     (change_waited changes name) false
 
 -- the first fault of the names in the `after` lists of entry n

@@ -21,9 +21,9 @@ number_waited count name = of_step.waited_number count name.step
 
 -- the named step of a change; none if the change has no such step
 abbrev pub step_of_change : WaitName → ℕ × ResourceChange → Option Wait
-step_of_change name found =
-    if nat_lt (number_waited (length found.1.steps) name) (length found.1.steps)
-    then Some (record { change = found.0; step = number_waited (length found.1.steps) name })
+step_of_change name located =
+    if nat_lt (number_waited (length located.1.steps) name) (length located.1.steps)
+    then Some (record { change = located.0; step = number_waited (length located.1.steps) name })
     else None
 
 -- the named step; a change without steps has none

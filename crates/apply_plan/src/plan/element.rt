@@ -77,10 +77,10 @@ impl<'a> Element<'a> {
 }
 
 /// The mode, by the member `mode`. `None` means that it is invalid or missing.
-fn mode_of(found: Shallow<'_>) -> Option<Mode>
-    ensures { result ≡ mode_read (shallow_view found.entry) }
+fn mode_of(input: Shallow<'_>) -> Option<Mode>
+    ensures { result ≡ mode_read (shallow_view input.entry) }
 {
-    match found.text() {
+    match input.text() {
         Some(word) => mode_named(word),
         None => None,
     }

@@ -44,17 +44,17 @@ impl<'a> ElementSlots<'a> {
     }
 
     /// Stores a scalar member. It replaces an earlier one.
-    fn set(&mut self, member: ElementMember, found: Shallow<'a>)
-        ensures { self.new ≡ with_scalar self.old member found.entry }
+    fn set(&mut self, member: ElementMember, input: Shallow<'a>)
+        ensures { self.new ≡ with_scalar self.old member input.entry }
     {
         match member {
-            ElementMember::Address => self.address = found,
-            ElementMember::Mode => self.mode = found,
-            ElementMember::Type => self.kind_name = found,
-            ElementMember::Name => self.name = found,
-            ElementMember::ModuleAddress => self.module_address = found,
-            ElementMember::Index => self.index = found,
-            ElementMember::Deposed => self.deposed = found,
+            ElementMember::Address => self.address = input,
+            ElementMember::Mode => self.mode = input,
+            ElementMember::Type => self.kind_name = input,
+            ElementMember::Name => self.name = input,
+            ElementMember::ModuleAddress => self.module_address = input,
+            ElementMember::Index => self.index = input,
+            ElementMember::Deposed => self.deposed = input,
         }
     }
 }
@@ -76,8 +76,8 @@ impl<'a> Slots<'a> for ElementSlots<'a> {
         }
         match scalar_of_name(name) {
             Some(member) => {
-                let found = read_shallow(reader, depth)?;
-                self.set(member, found);
+                let input = read_shallow(reader, depth)?;
+                self.set(member, input);
                 Ok(())
             }
             None => skip_member(reader, depth),

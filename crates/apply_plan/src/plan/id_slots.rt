@@ -98,10 +98,10 @@ pub fn read_hides_id(
 }
 
 /// Whether the value is `true`.
-fn is_true(found: Shallow<'_>) -> bool
-    ensures { result ≡ is_true_read (shallow_view found.entry) }
+fn is_true(input: Shallow<'_>) -> bool
+    ensures { result ≡ is_true_read (shallow_view input.entry) }
 {
-    match found {
+    match input {
         Shallow::Bool(b) => b,
         _ => false,
     }

@@ -26,7 +26,7 @@ pub struct Entries<'a> {
     /// The outcomes of the steps of each change, by the number of the change.
     outcomes: Vec<Option<StepOutcomes>>,
     /// For each entry, the number of its change and how many steps it states.
-    kept: Vec<(u32, u8)>,
+    step_counts: Vec<(u32, u8)>,
     /// How many items all `after` lists have together.
     waits: usize,
     fault: Option<ScriptError>,
@@ -41,12 +41,12 @@ impl<'a> Entries<'a> {
             ChangeNumbers::of(alloc, plan),
             nothing(alloc, plan.len()),
         )?;
-        let kept = Vec::new(alloc);
+        let step_counts = Vec::new(alloc);
         Ok(Entries {
             plan,
             numbers,
             outcomes,
-            kept,
+            step_counts,
             waits: 0,
             fault: None,
         })
@@ -60,7 +60,7 @@ impl<'a> Entries<'a> {
         ensures plan { self.new.plan ≡ self.old.plan }
         ensures none { HoldsEntries self.new [] }
     {
-        clear_outcomes(&mut self.outcomes, &mut self.kept);
+        clear_outcomes(&mut self.outcomes, &mut self.step_counts);
         self.waits = 0;
         self.fault = None;
     }
@@ -72,7 +72,7 @@ impl<'a> Entries<'a> {
         requires waits { self.old.waits + waits ≤ max_waits }
         ensures { OnOk result (StoresOneMore self.old change steps waits self.new) }
     {
-        self.kept.push((change, steps.len() as u8))?;
+        self.step_counts.push((change, steps.len() as u8))?;
         self.waits += waits;
         self.outcomes[change as usize] = Some(steps);
         Ok(())
@@ -91,7 +91,7 @@ impl<'a> Entries<'a> {
             return Err(fault);
         }
         let script = Script::new(self.outcomes);
-        match first_unreachable(alloc, &script, self.plan.len(), &self.kept)? {
+        match first_unreachable(alloc, &script, self.plan.len(), &self.step_counts)? {
             Some(number) => Err(ScriptError::NeverBegins(number)),
             None => Ok(script),
         }
@@ -109,7 +109,7 @@ impl<'a> Entries<'a> {
             return Err(fault);
         }
         let script = Script::new(self.outcomes);
-        Ok(all_unreachable(alloc, &script, self.plan.len(), &self.kept)?)
+        Ok(all_unreachable(alloc, &script, self.plan.len(), &self.step_counts)?)
     }
 }
 
@@ -128,7 +128,7 @@ impl<'a> Collector<'a> for Entries<'a> {
             return skip_member(reader, depth);
         }
         let entry = RawEntry::read(alloc, reader, depth)?;
-        let number = self.kept.len() as u32;
+        let number = self.step_counts.len() as u32;
         let outcomes = resolve_entry(
             alloc,
             number,
@@ -165,13 +165,13 @@ fn nothing(alloc: Global, count: u32) -> Result<Vec<Option<StepOutcomes>>, Alloc
     Ok(outcomes)
 }
 
-/// Removes all outcomes. Each change with outcomes must be in `kept`.
-fn clear_outcomes(outcomes: &mut [Option<StepOutcomes>], kept: &mut Vec<(u32, u8)>)
-    requires { AreCovered outcomes.old kept.old.items }
+/// Removes all outcomes. Each change with outcomes must be in `step_counts`.
+fn clear_outcomes(outcomes: &mut [Option<StepOutcomes>], step_counts: &mut Vec<(u32, u8)>)
+    requires { AreCovered outcomes.old step_counts.old.items }
     ensures outcomes { outcomes.new ≡ by_number (length outcomes.old) [] }
-    ensures kept { kept.new.items ≡ [] }
+    ensures step_counts { step_counts.new.items ≡ [] }
 {
-    while let Some((change, _steps)) = kept.pop() {
+    while let Some((change, _steps)) = step_counts.pop() {
         outcomes[change as usize] = None;
     }
 }

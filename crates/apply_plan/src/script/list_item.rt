@@ -24,8 +24,8 @@ pub trait ListItem<'a>: Drop {
     ///
     /// `Err` means that the text is not JSON, or that memory was refused.
     fn read(alloc: Global, reader: &mut Reader<'a>, depth: usize) -> Result<Option<Self>, ReadFault>
-        ensures ok { IfOk result (λ found. (d : Data) × IsMixedRead is_verbatim_name depth reader.old d reader.new
-            × (option_map Self.see found ≡ Self.part d)) }
+        ensures ok { IfOk result (λ answer. (d : Data) × IsMixedRead is_verbatim_name depth reader.old d reader.new
+            × (option_map Self.see answer ≡ Self.part d)) }
         ensures shorter { OnOk result (length reader.new < length reader.old) }
         ensures err { result ≡ Err ReadFault.NotJson → IsNoValue depth reader.old };
 }

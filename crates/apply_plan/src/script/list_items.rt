@@ -7,7 +7,7 @@ ghost use Rattle.apply_json.specs.Tokens.{IsNoValue};
 ghost use Rattle.apply_plan.specs.Script.Entry.{all_some, is_verbatim_name};
 ghost use Rattle.apply_plan.specs.Script.Members.{each_member, needed_member};
 
-use crate::found::add;
+use crate::items_read::add;
 use crate::script::list_item::ListItem;
 use apply_json::{ArrayPresence, Collector, ReadFault, Reader, read_list};
 use std::alloc::Global;
@@ -21,7 +21,7 @@ struct ListItems<T> {
 impl<'a, T: ListItem<'a>> Collector<'a> for ListItems<T> {
     ghost is_verbatim = { is_verbatim_name };
 
-    ghost holds = { λ _ found ds. option_map (λ made. map T.see made.items) found.items ≡ all_some (map T.part ds) };
+    ghost holds = { λ _ items_read ds. option_map (λ made. map T.see made.items) items_read.items ≡ all_some (map T.part ds) };
 
     fn take(
         &mut self,
@@ -52,12 +52,12 @@ pub fn read_items<'a, T: ListItem<'a>>(
     ensures shorter { OnOk result (length reader.new < length reader.old) }
     ensures err { result ≡ Err ReadFault.NotJson → IsNoValue depth reader.old }
 {
-    let mut found = ListItems {
+    let mut items_read = ListItems {
         items: Some(Vec::new(alloc)),
     };
-    *slot = match read_list(alloc, reader, depth, &mut found)? {
-        ArrayPresence::List => found.items,
-        ArrayPresence::Absent => if are_needed { None } else { found.items },
+    *slot = match read_list(alloc, reader, depth, &mut items_read)? {
+        ArrayPresence::List => items_read.items,
+        ArrayPresence::Absent => if are_needed { None } else { items_read.items },
         ArrayPresence::Other => None,
     };
     Ok(())

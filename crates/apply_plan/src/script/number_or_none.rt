@@ -9,12 +9,12 @@ use apply_json::Shallow;
 /// The whole number from 0 to 2^64 - 1, or `Some(None)` for an absent member.
 ///
 /// `None` means any other value.
-pub fn number_or_none(found: Shallow<'_>) -> Option<Option<u64>>
-    ensures { result ≡ number_read (shallow_view found.entry) }
+pub fn number_or_none(input: Shallow<'_>) -> Option<Option<u64>>
+    ensures { result ≡ number_read (shallow_view input.entry) }
 {
-    match found {
+    match input {
         Shallow::Absent => Some(None),
-        _ => match found.whole() {
+        _ => match input.whole() {
             Some(number) => Some(Some(number)),
             None => None,
         },

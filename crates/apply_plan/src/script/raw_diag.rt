@@ -97,8 +97,8 @@ impl<'a> RawDiag<'a> {
         ensures { result ≡ diag_read slots.entry }
     {
         let texts = slots.summary.text().zip(slots.detail.text_or(""));
-        let kept = slots.range.zip(slots.snippet);
-        let Some(((summary, detail), (range, snippet))) = texts.zip(kept) else {
+        let verbatim_texts = slots.range.zip(slots.snippet);
+        let Some(((summary, detail), (range, snippet))) = texts.zip(verbatim_texts) else {
             return None;
         };
         Some(RawDiag {
@@ -117,11 +117,11 @@ impl<'a> RawDiag<'a> {
             Text::new(alloc, self.summary),
             Text::new(alloc, self.detail),
         );
-        let kept = zip_results(
+        let verbatim_texts = zip_results(
             copied_text(alloc, &self.range),
             copied_text(alloc, &self.snippet),
         );
-        match zip_results(texts, kept) {
+        match zip_results(texts, verbatim_texts) {
             Ok(((summary, detail), (range, snippet))) => Ok(Diag {
                 summary,
                 detail,

@@ -36,8 +36,8 @@ impl<'a> RawEntry<'a> {
         reader: &mut Reader<'a>,
         depth: usize,
     ) -> Result<Option<RawEntry<'a>>, ReadFault>
-        ensures ok { IfOk result (λ found. (d : Data) × IsMixedRead is_verbatim_name depth reader.old d reader.new
-            × (option_map entry_view found ≡ entry_of d)) }
+        ensures ok { IfOk result (λ answer. (d : Data) × IsMixedRead is_verbatim_name depth reader.old d reader.new
+            × (option_map entry_view answer ≡ entry_of d)) }
         ensures shorter { OnOk result (length reader.new < length reader.old) }
         ensures err { result ≡ Err ReadFault.NotJson → IsNoValue depth reader.old }
     {

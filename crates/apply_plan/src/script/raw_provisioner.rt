@@ -65,9 +65,9 @@ impl<'a> RawProvisioner<'a> {
         ensures { option_map provisioner_view result ≡ provisioner_read slots.entry }
     {
         let named = filled_text(slots.name).zip(slots.seconds.whole());
-        let kept = slots.failed.zip(slots.output);
+        let nested = slots.failed.zip(slots.output);
         let may_fail = word_flag(slots.on_failure, "continue", "fail");
-        let Some((((name, seconds), (failed, output)), may_fail)) = named.zip(kept).zip(may_fail)
+        let Some((((name, seconds), (failed, output)), may_fail)) = named.zip(nested).zip(may_fail)
         else {
             return None;
         };

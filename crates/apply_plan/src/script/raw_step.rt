@@ -122,7 +122,7 @@ fn outcome_of<'a>(
 ) -> Option<Option<RawOutcome<'a>>>
     ensures { option_map (λ outcome. option_map outcome_view outcome) result
         ≡ outcome_by skipped (shallow_view seconds.entry) (option_map ending_view ending.entry)
-        (option_map (λ found. map provisioner_view found.items) provisioners.entry) }
+        (option_map (λ input. map provisioner_view input.items) provisioners.entry) }
 {
     // Not joined by `zip`: an ending is large to move.
     let Some(provisioners) = provisioners else {
@@ -150,10 +150,10 @@ fn outcome_of<'a>(
 }
 
 /// The flag, or `false` if it is absent. `None` means a value of another type.
-fn flag_or_false(found: Shallow<'_>) -> Option<bool>
-    ensures { result ≡ flag_read (shallow_view found.entry) }
+fn flag_or_false(input: Shallow<'_>) -> Option<bool>
+    ensures { result ≡ flag_read (shallow_view input.entry) }
 {
-    match found {
+    match input {
         Shallow::Absent => Some(false),
         Shallow::Bool(flag) => Some(flag),
         _ => None,
@@ -161,10 +161,10 @@ fn flag_or_false(found: Shallow<'_>) -> Option<bool>
 }
 
 /// Whether the member is present and not `null`.
-fn is_present(found: Shallow<'_>) -> bool
-    ensures { result ≡ is_present (shallow_view found.entry) }
+fn is_present(input: Shallow<'_>) -> bool
+    ensures { result ≡ is_present (shallow_view input.entry) }
 {
-    match found {
+    match input {
         Shallow::Absent => false,
         _ => true,
     }

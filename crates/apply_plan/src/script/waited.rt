@@ -38,8 +38,8 @@ impl Waited {
         requires numbers { (id : _) → number_of numbers.now id
             ≡ option_map (λ p. p.0) (find (λ p. is_of id p.1) (enumerate_from 0 plan.now.changes)) }
         requires few { length items.now ≤ max_waits }
-        ensures defined { IfOk result (λ found. found ≡ waited_by plan.now.changes (waits_view items.now)) }
-        ensures placed { IfOk result (λ found. IfSome found (λ waited.
+        ensures defined { IfOk result (λ answer. answer ≡ waited_by plan.now.changes (waits_view items.now)) }
+        ensures placed { IfOk result (λ answer. IfSome answer (λ waited.
             All (IsPlaced (length plan.now.changes)) waited.waits)) }
     {
         let mut waits = Vec::with_capacity(alloc, items.len())?;

@@ -9,10 +9,10 @@ use apply_json::{Shallow, is_text};
 /// The flag. The word `set` means true; the word `unset` or an absent member means false.
 ///
 /// `None` means any other value.
-pub fn word_flag(found: Shallow<'_>, set: &str, unset: &str) -> Option<bool>
-    ensures { result ≡ word_flag_read set.now unset.now (shallow_view found.entry) }
+pub fn word_flag(input: Shallow<'_>, set: &str, unset: &str) -> Option<bool>
+    ensures { result ≡ word_flag_read set.now unset.now (shallow_view input.entry) }
 {
-    match found {
+    match input {
         Shallow::Absent => Some(false),
         Shallow::Text(word) => flag_by(word, set, unset),
         _ => None,

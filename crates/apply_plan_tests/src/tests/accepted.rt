@@ -44,25 +44,30 @@ fn parts_of(rt: &impl Abort, alloc: Global, plan: &Plan) -> &'static str {
     for number in 0..plan.len() {
         push_parts(rt, alloc, &mut line, plan.change(number));
     }
-    kept_text(rt, alloc, line)
+    leaked_text(rt, alloc, line)
 }
 
 /// Reads the plan with the cell of the row in place of `CELL`, and compares its values. The plain
 /// reader must read the same.
-fn plan_tells(rt: &impl Abort, alloc: Global, told: &str, plan: &str, row: &str) {
+fn compare_plan(rt: &impl Abort, alloc: Global, result_text: &str, plan: &str, row: &str) {
     let (cell, wanted) = cells(rt, row);
     let text = put(rt, alloc, plan, "CELL", cell);
     reads_as_plainly(rt, alloc, text);
-    let found = parts_of(rt, alloc, plan_of(rt, alloc, text));
-    compare(rt, cell, found, put(rt, alloc, told, "CELL", wanted));
+    let actual = parts_of(rt, alloc, plan_of(rt, alloc, text));
+    compare(
+        rt,
+        cell,
+        actual,
+        put(rt, alloc, result_text, "CELL", wanted),
+    );
 }
 
 /// Compares each row of a block. A block has values and a plan, both with `CELL`, and cells.
-fn plans_tell(rt: &impl Abort, alloc: Global, block: &str) {
-    let (told, rest) = first_line(rt, block);
+fn compare_plans(rt: &impl Abort, alloc: Global, block: &str) {
+    let (result_text, rest) = first_line(rt, block);
     let (plan, table) = first_line(rt, rest);
     for row in rows(rt, table) {
-        plan_tells(rt, alloc, told, plan, row);
+        compare_plan(rt, alloc, result_text, plan, row);
     }
 }
 
@@ -136,7 +141,7 @@ CELL
 #[test]
 fn plans_tell_their_parts(rt: HostRuntime) {
     for block in PARTS.split("\n\n") {
-        plans_tell(&rt, rt.alloc(), block);
+        compare_plans(&rt, rt.alloc(), block);
     }
 }
 
@@ -148,5 +153,5 @@ const DEPOSED: &str =
 
 #[test]
 fn deposed_keys_are_kept(rt: HostRuntime) {
-    plans_tell(&rt, rt.alloc(), DEPOSED);
+    compare_plans(&rt, rt.alloc(), DEPOSED);
 }

@@ -6,7 +6,7 @@ use super::*;
 /// The outcome of the step as `Debug` prints it: seconds, ending, provisioners and waits.
 ///
 /// A step without an outcome in the script gives `default`.
-pub fn said(
+pub fn stated(
     rt: &impl Abort,
     alloc: Global,
     script: &Script,
@@ -15,20 +15,20 @@ pub fn said(
 ) -> &'static str {
     match script.outcome(change, step) {
         Some(outcome) => {
-            let said = (
+            let stated = (
                 outcome.seconds,
                 &outcome.result,
                 &outcome.provisioners,
                 &outcome.after,
             );
-            printed(rt, alloc, &said)
+            printed(rt, alloc, &stated)
         }
         None => "default",
     }
 }
 
 /// The outcome of a step, by the number of its change and its number in the change.
-fn said_at(
+fn stated_at(
     rt: &impl Abort,
     alloc: Global,
     script: &Script,
@@ -37,23 +37,23 @@ fn said_at(
 ) -> &'static str {
     let change = change.parse::<u32>().ok().expect(rt, change);
     let step = step.parse::<u8>().ok().expect(rt, step);
-    said(rt, alloc, script, change, step)
+    stated(rt, alloc, script, change, step)
 }
 
 /// Compares the outcome of the step of each row.
-fn steps_are_said(rt: &impl Abort, alloc: Global, script: &Script, table: &str) {
+fn compare_steps(rt: &impl Abort, alloc: Global, script: &Script, table: &str) {
     for row in rows(rt, table) {
         let (change, rest) = cells(rt, row);
         let (step, wanted) = cells(rt, rest);
-        compare(rt, row, said_at(rt, alloc, script, change, step), wanted);
+        compare(rt, row, stated_at(rt, alloc, script, change, step), wanted);
     }
 }
 
 /// Compares a block: a plan, a script, and rows.
-fn script_says(rt: &impl Abort, alloc: Global, block: &str) {
+fn compare_script(rt: &impl Abort, alloc: Global, block: &str) {
     let (plan, rest) = first_line(rt, block);
     let (script, table) = first_line(rt, rest);
-    steps_are_said(rt, alloc, script_of(rt, alloc, plan, script), table);
+    compare_steps(rt, alloc, script_of(rt, alloc, plan, script), table);
 }
 
 /// Blocks of a plan, a script, and outcomes by the numbers of change and step.
@@ -62,7 +62,7 @@ fn script_says(rt: &impl Abort, alloc: Global, block: &str) {
 ///   no-op, and a create. Its script has another order and no entry for the third change.
 /// - The second script names the deposed object, and the third names nothing.
 /// - In the last, an update waits for a replacement that creates first. A text names its last step.
-const SAID: &str =
+const STATED_OUTCOMES: &str =
     r#"{"format_version":"1.2","resource_changes":[{"address":"a.a","mode":"managed","type":"a","name":"a","change":{"actions":["update"]}},{"address":"a.b","mode":"managed","type":"a","name":"b","change":{"actions":["delete","create"]}},{"address":"a.a","deposed":"00000001","mode":"managed","type":"a","name":"a","change":{"actions":["delete"]}},{"address":"a.c","mode":"managed","type":"a","name":"c","change":{"actions":["no-op"]}},{"address":"a.d","mode":"managed","type":"a","name":"d","change":{"actions":["create"]}}]}
 {"changes":[{"address":"a.d","steps":[{"seconds":5,"failed":{"summary":"boom","detail":"why"}}]},{"address":"a.c","steps":[]},{"address":"a.b","deposed":"","steps":[{"seconds":1},{"seconds":86400,"id":"42","warning":{"summary":"slow","detail":"very"}}]},{"address":"a.a","steps":[{"seconds":3,"id":"i-1"}]}]}
 0 => 0 => (3, Done { id: Some(Text { inner: "i-1" }), warning: None }, Provisioners { provisioners: [] }, Waits { waits: [] })
@@ -106,8 +106,8 @@ const SAID: &str =
 
 #[test]
 fn a_script_says_what_is_written(rt: HostRuntime) {
-    for block in SAID.split("\n\n") {
-        script_says(&rt, rt.alloc(), block);
+    for block in STATED_OUTCOMES.split("\n\n") {
+        compare_script(&rt, rt.alloc(), block);
     }
 }
 
@@ -123,7 +123,7 @@ const NOTHING: &str = r#"
 #[test]
 fn an_empty_script_says_nothing(rt: HostRuntime) {
     let alloc = rt.alloc();
-    let empty = kept(&rt, alloc, Script::empty());
-    steps_are_said(&rt, alloc, empty, NOTHING);
+    let empty = leaked(&rt, alloc, Script::empty());
+    compare_steps(&rt, alloc, empty, NOTHING);
     holds(&rt, "no waits", !empty.has_waits());
 }

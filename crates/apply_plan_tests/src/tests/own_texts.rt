@@ -1,6 +1,6 @@
 //! Objects of a diagnostic that are read as raw JSON text.
 
-use super::tells::scripts_tell;
+use super::questions::compare_blocks;
 use super::*;
 
 /// Ranges, alone or after a snippet, and the raw text of both. Numbers and members stay as written,
@@ -32,5 +32,5 @@ null => None
 /// Compares the raw text of the range and the snippet of each row.
 #[test]
 fn ranges_and_snippets_are_kept_as_they_stand(rt: HostRuntime) {
-    scripts_tell(&rt, rt.alloc(), RANGES);
+    compare_blocks(&rt, rt.alloc(), RANGES);
 }

@@ -13,7 +13,7 @@ use serde_json::Value;
 
 /// The result of the reader for a text.
 fn answer_to(rt: &impl Abort, alloc: Global, text: &str) -> &'static Result<Plan, PlanError> {
-    kept(rt, alloc, read_plan(alloc, text.as_bytes()))
+    leaked(rt, alloc, read_plan(alloc, text.as_bytes()))
 }
 
 /// A line for the object of a change. No line of another change contains it.
@@ -21,7 +21,7 @@ fn object_of(rt: &impl Abort, alloc: Global, change: &Change) -> &'static str {
     let address = change.address();
     let deposed = change.deposed();
     let line = format!(in alloc; "\n{address:?} {deposed:?}\n");
-    kept_text(rt, alloc, line.expect(rt, "memory"))
+    leaked_text(rt, alloc, line.expect(rt, "memory"))
 }
 
 /// Adds a change: the line of its object, and a line of all its values.
@@ -37,11 +37,11 @@ fn lines_of(rt: &impl Abort, alloc: Global, plan: &Plan) -> &'static str {
     for number in 0..plan.len() {
         push_change(rt, alloc, &mut lines, plan.change(number));
     }
-    kept_text(rt, alloc, lines)
+    leaked_text(rt, alloc, lines)
 }
 
 /// The lines of the plan, or the message of the error.
-fn told(rt: &impl Abort, alloc: Global, answer: &Result<Plan, PlanError>) -> &'static str {
+fn result_text(rt: &impl Abort, alloc: Global, answer: &Result<Plan, PlanError>) -> &'static str {
     match answer {
         Ok(plan) => lines_of(rt, alloc, plan),
         Err(error) => shown(rt, alloc, error),
@@ -108,7 +108,12 @@ fn fault_of_count(count: usize) -> Option<PlanError> {
 }
 
 /// The lines of a plan with this version and these elements, or the message of the first fault.
-fn told_of(rt: &impl Abort, alloc: Global, version: &str, elements: &[Value]) -> &'static str {
+fn result_of_elements(
+    rt: &impl Abort,
+    alloc: Global,
+    version: &str,
+    elements: &[Value],
+) -> &'static str {
     let mut lines = String::new(alloc);
     push(rt, &mut lines, printed(rt, alloc, &version));
     let mut fault = fault_of_count(elements.len());
@@ -119,7 +124,7 @@ fn told_of(rt: &impl Abort, alloc: Global, version: &str, elements: &[Value]) ->
         }
         number = number.saturating_add(1);
     }
-    let lines = kept_text(rt, alloc, lines);
+    let lines = leaked_text(rt, alloc, lines);
     match fault {
         Some(fault) => shown(rt, alloc, &fault),
         None => lines,
@@ -139,9 +144,9 @@ fn header_of(tree: &Value) -> Option<(&str, &[Value])> {
 }
 
 /// The result for a tree.
-fn told_of_tree(rt: &impl Abort, alloc: Global, tree: &Value) -> &'static str {
+fn result_of_tree(rt: &impl Abort, alloc: Global, tree: &Value) -> &'static str {
     match header_of(tree) {
-        Some((version, elements)) => told_of(rt, alloc, version, elements),
+        Some((version, elements)) => result_of_elements(rt, alloc, version, elements),
         None => shown(rt, alloc, &PlanError::NotAPlan),
     }
 }
@@ -156,9 +161,9 @@ fn refusal_for(fault: JsonFault) -> PlanError {
 }
 
 /// The result for a text, from its whole tree.
-fn told_plainly(rt: &impl Abort, alloc: Global, text: &str) -> &'static str {
-    match kept(rt, alloc, parse(alloc, text.as_bytes(), MAX_BYTES)) {
-        Ok(tree) => told_of_tree(rt, alloc, tree),
+fn plain_result(rt: &impl Abort, alloc: Global, text: &str) -> &'static str {
+    match leaked(rt, alloc, parse(alloc, text.as_bytes(), MAX_BYTES)) {
+        Ok(tree) => result_of_tree(rt, alloc, tree),
         Err(fault) => shown(rt, alloc, &refusal_for(*fault)),
     }
 }
@@ -168,7 +173,11 @@ fn told_plainly(rt: &impl Abort, alloc: Global, text: &str) -> &'static str {
 /// Gives `accepted`, or the message of the error.
 pub fn reads_as_plainly(rt: &impl Abort, alloc: Global, text: &str) -> &'static str {
     let answer = answer_to(rt, alloc, text);
-    let told = told(rt, alloc, answer);
-    compare(rt, text, told, told_plainly(rt, alloc, text));
-    if answer.is_ok() { "accepted" } else { told }
+    let result_text = result_text(rt, alloc, answer);
+    compare(rt, text, result_text, plain_result(rt, alloc, text));
+    if answer.is_ok() {
+        "accepted"
+    } else {
+        result_text
+    }
 }

@@ -51,6 +51,6 @@ fn has_the_most(rt: &impl Abort, script: &Script) {
 
 /// The most provisioners, each with the most outputs.
 #[test]
-fn the_most_provisioners_are_kept(rt: HostRuntime) {
+fn the_most_provisioners_are_read(rt: HostRuntime) {
     has_the_most(&rt, most_provisioners(&rt, rt.alloc()));
 }

@@ -12,14 +12,14 @@ const NAMED_TWICE: &str =
 
 /// The script for the first change as `Debug` prints it: both steps, the first skipped step, and
 /// whether the script has waits.
-pub fn said(rt: &impl Abort, alloc: Global, script: &Script) -> &'static str {
-    let said = (
+pub fn stated(rt: &impl Abort, alloc: Global, script: &Script) -> &'static str {
+    let stated = (
         script.outcome(0, 0),
         script.outcome(0, 1),
         script.skipped(0),
         script.has_waits(),
     );
-    printed(rt, alloc, &said)
+    printed(rt, alloc, &stated)
 }
 
 /// The second step of the replacement waits for the named steps, skipped or not.

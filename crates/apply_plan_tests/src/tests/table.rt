@@ -32,7 +32,7 @@ pub fn push(rt: &impl Abort, text: &mut String, more: &str) {
 
 /// The text with `other` in place of each mark.
 pub fn put(rt: &impl Abort, alloc: Global, text: &str, mark: &str, other: &str) -> &'static str {
-    kept_text(
+    leaked_text(
         rt,
         alloc,
         text.replace(alloc, mark, other).expect(rt, "memory"),
@@ -64,12 +64,12 @@ pub fn listed(
         let number = if is_reversed { left } else { number };
         push_numbered(rt, alloc, &mut list, text, number);
     }
-    kept_text(rt, alloc, list)
+    leaked_text(rt, alloc, list)
 }
 
 /// Fails if the text for the row of this cell is not the wanted one.
-pub fn compare(rt: &impl Abort, cell: &str, found: &str, wanted: &str) {
-    assert!(rt; found == wanted, "at {cell}: {found}");
+pub fn compare(rt: &impl Abort, cell: &str, actual: &str, wanted: &str) {
+    assert!(rt; actual == wanted, "at {cell}: {actual}");
 }
 
 /// For each row, reads the plan with the first cell in place of `CELL`, and compares the result.

@@ -4,7 +4,7 @@ use super::*;
 
 /// Fails when a used buffer and a new one write different lines for the first step of a change.
 /// Returns the line.
-fn told_alike(
+fn written_alike(
     rt: &impl Abort,
     alloc: Global,
     used: &mut TerraformBuffer,
@@ -19,7 +19,7 @@ fn told_alike(
         what: What::Progress(seconds),
         at: 0,
     };
-    let script = script_of(rt, alloc, NOTHING_SAID, plan);
+    let script = script_of(rt, alloc, NO_OUTCOMES, plan);
     let mut new = TerraformBuffer::new(alloc);
     check_step(rt, plan, &event);
     let pushed = new.push_event(plan, script, Start::zero(), 0, None, &event);
@@ -27,7 +27,7 @@ fn told_alike(
     used.clear();
     let pushed = used.push_event(plan, script, Start::zero(), 0, None, &event);
     pushed.ok().expect(rt, "memory");
-    let alone = kept(rt, alloc, new).as_bytes();
+    let alone = leaked(rt, alloc, new).as_bytes();
     holds(rt, "a line by itself", used.as_bytes() == alone);
     alone
 }
@@ -47,10 +47,10 @@ const LOOK_ALIKES: &str =
 {"format_version":"1.2","resource_changes":[{"address":"module.a.module.b.t_u.n[\">&\u2028\"]","module_address":"module.a","mode":"managed","type":"t_u","name":"n","index":">&\u2028","change":{"actions":["update"]}}]}"#;
 
 /// Fails when the line of a plan's change differs, before or after a line of another plan.
-fn is_told_beside_each(rt: &impl Abort, alloc: Global, used: &mut TerraformBuffer, plan: &Plan) {
+fn compare_with_each(rt: &impl Abort, alloc: Global, used: &mut TerraformBuffer, plan: &Plan) {
     for other in LOOK_ALIKES.lines() {
-        told_alike(rt, alloc, used, plan, 0, 20);
-        told_alike(rt, alloc, used, plan_of(rt, alloc, other), 0, 20);
+        written_alike(rt, alloc, used, plan, 0, 20);
+        written_alike(rt, alloc, used, plan_of(rt, alloc, other), 0, 20);
     }
 }
 
@@ -60,7 +60,7 @@ fn changes_that_look_alike_are_told_apart(rt: HostRuntime) {
     let mut used = TerraformBuffer::new(rt.alloc());
     for plan in LOOK_ALIKES.lines() {
         let plan = plan_of(&rt, rt.alloc(), plan);
-        is_told_beside_each(&rt, rt.alloc(), &mut used, plan);
+        compare_with_each(&rt, rt.alloc(), &mut used, plan);
     }
 }
 
@@ -79,8 +79,8 @@ const UPDATES: u32 = 130;
 /// Replaces each mark by a number.
 fn put(rt: &impl Abort, alloc: Global, text: &str, mark: &str, number: u32) -> &'static str {
     let number = number.to_string(alloc).expect(rt, "memory");
-    let text = text.replace(alloc, mark, kept(rt, alloc, number).as_str());
-    kept(rt, alloc, text.expect(rt, "memory")).as_str()
+    let text = text.replace(alloc, mark, leaked(rt, alloc, number).as_str());
+    leaked(rt, alloc, text.expect(rt, "memory")).as_str()
 }
 
 /// A plan of so many updates.
@@ -94,11 +94,11 @@ fn updates(rt: &impl Abort, alloc: Global) -> &'static Plan {
     }
     let last = put(rt, alloc, UPDATE, "%", UPDATES);
     write!(text, "{last}]}}").expect(rt, "memory");
-    plan_of(rt, alloc, kept(rt, alloc, text).as_str())
+    plan_of(rt, alloc, leaked(rt, alloc, text).as_str())
 }
 
 /// Fails when the line of an update differs.
-fn each_is_told(
+fn compare_updates(
     rt: &impl Abort,
     alloc: Global,
     used: &mut TerraformBuffer,
@@ -108,18 +108,18 @@ fn each_is_told(
     for change in 0..UPDATES {
         let line = put(rt, alloc, UPDATE_LINE, "%", change + 1);
         let line = put(rt, alloc, line, "#", seconds);
-        let told = told_alike(rt, alloc, used, plan, change, seconds);
-        compare(rt, "an update", told, line);
+        let given = written_alike(rt, alloc, used, plan, change, seconds);
+        compare(rt, "an update", given, line);
     }
 }
 
 /// All updates run at once, and report progress again and again.
 #[test]
-fn more_changes_than_are_kept_are_told_in_turn(rt: HostRuntime) {
+fn more_changes_than_slots_are_written_in_turn(rt: HostRuntime) {
     let alloc = rt.alloc();
     let plan = updates(&rt, alloc);
     let mut used = TerraformBuffer::new(alloc);
-    each_is_told(&rt, alloc, &mut used, plan, 10);
-    each_is_told(&rt, alloc, &mut used, plan, 20);
-    each_is_told(&rt, alloc, &mut used, plan, 30);
+    compare_updates(&rt, alloc, &mut used, plan, 10);
+    compare_updates(&rt, alloc, &mut used, plan, 20);
+    compare_updates(&rt, alloc, &mut used, plan, 30);
 }

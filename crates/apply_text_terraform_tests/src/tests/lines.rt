@@ -4,7 +4,7 @@ use super::*;
 
 /// The inputs of a line.
 #[derive(Clone, Copy, Drop)]
-struct Told {
+struct LineInputs {
     plan: &'static Plan,
     script: &'static Script,
 }
@@ -13,24 +13,24 @@ struct Told {
 fn push_event(
     rt: &impl Abort,
     lines: &mut TerraformBuffer,
-    told: &Told,
+    given: &LineInputs,
     details: &ChangeDetails,
     latest: u64,
     event: &Event,
 ) {
-    check_step(rt, told.plan, event);
+    check_step(rt, given.plan, event);
     holds(rt, "in time", latest <= LATEST);
     let planned = details.planned_id();
-    let (plan, script) = (told.plan, told.script);
+    let (plan, script) = (given.plan, given.script);
     let pushed = lines.push_event(plan, script, Start::zero(), latest, planned, event);
     pushed.ok().expect(rt, "memory");
 }
 
 /// The inputs of the lines of a plan and a script.
-fn told_of(rt: &impl Abort, alloc: Global, plan: &str, script: &str) -> &'static Told {
+fn line_inputs(rt: &impl Abort, alloc: Global, plan: &str, script: &str) -> &'static LineInputs {
     let plan = plan_of(rt, alloc, plan);
     let script = script_of(rt, alloc, script, plan);
-    kept(rt, alloc, Told { plan, script })
+    leaked(rt, alloc, LineInputs { plan, script })
 }
 
 /// Details of a change, all of them absent.
@@ -43,7 +43,7 @@ fn no_details(rt: &impl Abort, alloc: Global) -> &'static ChangeDetails {
         planned_id: None,
         previous: None,
     };
-    kept(rt, alloc, details)
+    leaked(rt, alloc, details)
 }
 
 /// A plan with one create.
@@ -58,7 +58,7 @@ const HALTED: &str =
 #[test]
 fn a_halt_has_its_address(rt: HostRuntime) {
     let alloc = rt.alloc();
-    let told = told_of(&rt, alloc, ONE_CREATE, NOTHING_SAID);
+    let given = line_inputs(&rt, alloc, ONE_CREATE, NO_OUTCOMES);
     let details = no_details(&rt, alloc);
     let mut lines = TerraformBuffer::new(alloc);
     let event = Event {
@@ -71,7 +71,7 @@ fn a_halt_has_its_address(rt: HostRuntime) {
         },
         at: 0,
     };
-    push_event(&rt, &mut lines, told, details, 0, &event);
+    push_event(&rt, &mut lines, given, details, 0, &event);
     compare(&rt, "a halt", lines.as_bytes(), HALTED);
 }
 
@@ -93,7 +93,7 @@ fn each_detail_has_its_place(rt: HostRuntime) {
         planned_id: None,
         previous: None,
     };
-    let details = kept(&rt, alloc, details);
+    let details = leaked(&rt, alloc, details);
     let mut lines = TerraformBuffer::new(alloc);
     let pushed = lines.push_planned(Start::zero(), plan.change(0), details);
     pushed.ok().expect(&rt, "memory");
@@ -112,7 +112,7 @@ fn push_note(rt: &impl Abort, lines: &mut TerraformBuffer, note: &Note) {
 
 /// A plan whose planning ended with an error.
 #[test]
-fn an_unfinished_plan_is_told_of(rt: HostRuntime) {
+fn an_unfinished_plan_is_reported(rt: HostRuntime) {
     let alloc = rt.alloc();
     let mut lines = TerraformBuffer::new(alloc);
     let note = Note {
@@ -129,7 +129,7 @@ fn an_unfinished_plan_is_told_of(rt: HostRuntime) {
         },
         address: None,
     };
-    push_note(&rt, &mut lines, kept(&rt, alloc, note));
+    push_note(&rt, &mut lines, leaked(&rt, alloc, note));
     compare(&rt, "a note", lines.as_bytes(), UNFINISHED);
 }
 
@@ -157,7 +157,7 @@ fn placed(
         },
         address: Text::of_option(alloc, address).expect(rt, "memory"),
     };
-    kept(rt, alloc, note)
+    leaked(rt, alloc, note)
 }
 
 /// The verbatim members of a diagnostic come after its address, and have the escapes of the line.
@@ -202,7 +202,7 @@ fn a_moved_object_tells_what_it_was(rt: HostRuntime) {
             key: Key::Number(7),
         }),
     };
-    let details = kept(&rt, alloc, details);
+    let details = leaked(&rt, alloc, details);
     let mut lines = TerraformBuffer::new(alloc);
     let pushed = lines.push_planned(Start::zero(), plan.change(0), details);
     pushed.ok().expect(&rt, "memory");

@@ -23,7 +23,7 @@ fn outputs_of(rt: &impl Abort, alloc: Global, rows: &str) -> &'static Vec<Output
             .ok()
             .expect(rt, "memory");
     }
-    kept(rt, alloc, outputs)
+    leaked(rt, alloc, outputs)
 }
 
 const ROWS: &str =
@@ -38,7 +38,7 @@ const LINE: &str =
 "##;
 
 /// Fails when the line of the outputs differs.
-fn are_told(rt: &impl Abort, alloc: Global, rows: &str, wanted: &str) {
+fn compare_outputs(rt: &impl Abort, alloc: Global, rows: &str, wanted: &str) {
     let outputs = outputs_of(rt, alloc, rows);
     let mut lines = TerraformBuffer::new(alloc);
     let pushed = lines.push_outputs(Start::zero(), 0, outputs.as_slice());
@@ -47,8 +47,8 @@ fn are_told(rt: &impl Abort, alloc: Global, rows: &str, wanted: &str) {
 }
 
 #[test]
-fn outputs_are_told_in_order(rt: HostRuntime) {
-    are_told(&rt, rt.alloc(), ROWS, LINE);
+fn outputs_are_written_in_order(rt: HostRuntime) {
+    compare_outputs(&rt, rt.alloc(), ROWS, LINE);
 }
 
 const QUOTED: &str = r##"a"b plain "number" 0.10000000000000000000001"##;
@@ -60,5 +60,5 @@ const QUOTED_LINE: &str =
 /// Types and values are copied verbatim, so no number is rounded. Names are JSON strings.
 #[test]
 fn numbers_of_outputs_are_not_rounded(rt: HostRuntime) {
-    are_told(&rt, rt.alloc(), QUOTED, QUOTED_LINE);
+    compare_outputs(&rt, rt.alloc(), QUOTED, QUOTED_LINE);
 }

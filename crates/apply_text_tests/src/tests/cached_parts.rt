@@ -36,7 +36,7 @@ fn add(
 }
 
 /// Fails when the line of an event differs, as a single line or as the only line of a used buffer.
-fn is_told(
+fn compare_event_line(
     rt: &impl Abort,
     alloc: Global,
     buffer: &mut LineBuffer,
@@ -82,11 +82,11 @@ fn is_shown(rt: &impl Abort, alloc: Global, buffer: &mut LineBuffer, row: &str) 
     let (plan, wanted) = parted(rt, rest, " => ");
     let plan = plan_of(rt, alloc, plan);
     let event = progress_of(0, 0, 20);
-    is_told(rt, alloc, buffer, plan, Start::zero(), 20, &event, wanted);
+    compare_event_line(rt, alloc, buffer, plan, Start::zero(), 20, &event, wanted);
 }
 
 /// Fails when the line of a row's change differs, before or after a line of another row.
-fn is_shown_beside_each(rt: &impl Abort, alloc: Global, buffer: &mut LineBuffer, row: &str) {
+fn compare_with_each(rt: &impl Abort, alloc: Global, buffer: &mut LineBuffer, row: &str) {
     for other in CHANGES.lines() {
         is_shown(rt, alloc, buffer, row);
         is_shown(rt, alloc, buffer, other);
@@ -98,7 +98,7 @@ fn is_shown_beside_each(rt: &impl Abort, alloc: Global, buffer: &mut LineBuffer,
 fn changes_of_one_number_are_told_apart(rt: HostRuntime) {
     let buffer = new_buffer(&rt, rt.alloc());
     for row in CHANGES.lines() {
-        is_shown_beside_each(&rt, rt.alloc(), buffer, row);
+        compare_with_each(&rt, rt.alloc(), buffer, row);
     }
 }
 
@@ -128,7 +128,7 @@ fn updates(rt: &impl Abort, alloc: Global) -> &'static Plan {
         push_update(rt, alloc, &mut text, number, ",");
     }
     push_update(rt, alloc, &mut text, 128, "]}");
-    plan_of(rt, alloc, kept(rt, alloc, text).as_str())
+    plan_of(rt, alloc, leaked(rt, alloc, text).as_str())
 }
 
 /// Numbers of changes, and seconds. The rows share a row of the cache, once and again, and others
@@ -149,27 +149,21 @@ const PLACES: &str = "0 20
 0 50";
 
 /// Fails when the line of a row's update differs.
-fn is_told_in_turn(
-    rt: &impl Abort,
-    alloc: Global,
-    buffer: &mut LineBuffer,
-    plan: &Plan,
-    row: &str,
-) {
+fn compare_update(rt: &impl Abort, alloc: Global, buffer: &mut LineBuffer, plan: &Plan, row: &str) {
     let (number, seconds) = parted(rt, row, " ");
     let line = put(rt, alloc, UPDATE_LINE, "%", number);
     let line = put(rt, alloc, line, "#", seconds);
     let event = progress_of(number_of(rt, number), 0, number_of(rt, seconds));
-    is_told(rt, alloc, buffer, plan, Start::zero(), 0, &event, line);
+    compare_event_line(rt, alloc, buffer, plan, Start::zero(), 0, &event, line);
 }
 
 #[test]
-fn changes_that_share_a_row_are_told_in_turn(rt: HostRuntime) {
+fn changes_that_share_a_row_are_written_in_turn(rt: HostRuntime) {
     let alloc = rt.alloc();
     let plan = updates(&rt, alloc);
     let buffer = new_buffer(&rt, alloc);
     for row in PLACES.lines() {
-        is_told_in_turn(&rt, alloc, buffer, plan, row);
+        compare_update(&rt, alloc, buffer, plan, row);
     }
 }
 
@@ -204,24 +198,24 @@ fn add_step(
 }
 
 /// Fails when a cleared buffer writes other lines for the replacement.
-fn is_told_again(rt: &impl Abort, alloc: Global, buffer: &mut LineBuffer, plan: &Plan) {
+fn compare_replacement(rt: &impl Abort, alloc: Global, buffer: &mut LineBuffer, plan: &Plan) {
     let mut wanted = String::new(alloc);
     buffer.clear();
     for row in STEPS.lines() {
         add_step(rt, alloc, buffer, &mut wanted, plan, row);
     }
-    let wanted = kept(rt, alloc, wanted).as_str();
+    let wanted = leaked(rt, alloc, wanted).as_str();
     has_lines(rt, "a replacement", buffer, wanted);
 }
 
 /// Line by line, and once more after `clear`.
 #[test]
-fn steps_of_one_change_are_told_apart(rt: HostRuntime) {
+fn steps_of_one_change_are_distinguished(rt: HostRuntime) {
     let alloc = rt.alloc();
     let plan = plan_of(&rt, alloc, REPLACEMENT);
     let buffer = new_buffer(&rt, alloc);
-    is_told_again(&rt, alloc, buffer, plan);
-    is_told_again(&rt, alloc, buffer, plan);
+    compare_replacement(&rt, alloc, buffer, plan);
+    compare_replacement(&rt, alloc, buffer, plan);
 }
 
 /// A start, the seconds after it, and the timestamp: within a day, at its ends, and on an earlier
@@ -251,7 +245,7 @@ fn has_its_day(rt: &impl Abort, alloc: Global, buffer: &mut LineBuffer, plan: &P
     let (start, seconds) = (start_of(rt, start), number_of(rt, seconds) as u64);
     let line = put(rt, alloc, DAY_LINE, "%", wanted);
     let event = progress_of(0, 0, 20);
-    is_told(rt, alloc, buffer, plan, start, seconds, &event, line);
+    compare_event_line(rt, alloc, buffer, plan, start, seconds, &event, line);
 }
 
 #[test]

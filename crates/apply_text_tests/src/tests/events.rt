@@ -14,7 +14,7 @@ fn event_of(change: u32, what: What, at: u64) -> Event {
 }
 
 /// Fails when the line of an event of the only change differs.
-fn is_told(
+fn compare_event_line(
     rt: &impl Abort,
     alloc: Global,
     case: &str,
@@ -59,12 +59,12 @@ fn hooks_halt(rt: HostRuntime) {
     for row in HALTS.lines() {
         let (halt, wanted) = parted(&rt, row, " => ");
         let event = event_of(0, halt_of(&rt, halt), 0);
-        is_told(
+        compare_event_line(
             &rt,
             rt.alloc(),
             halt,
             ONE_REPLACEMENT,
-            NOTHING_SAID,
+            NO_OUTCOMES,
             zero,
             0,
             &event,
@@ -86,7 +86,7 @@ const LATER_LINE: &str =
 #[test]
 fn a_line_has_the_latest_moment(rt: HostRuntime) {
     let event = event_of(0, What::Complete(5), 5);
-    is_told(
+    compare_event_line(
         &rt,
         rt.alloc(),
         "5 seconds, told after 65",

@@ -115,15 +115,15 @@ fn start_read(rt: &impl Abort, alloc: Global, text: &str) -> &'static str {
 /// The `Debug` text of a start.
 fn printed(rt: &impl Abort, alloc: Global, start: &Start) -> &'static str {
     let text = format!(in alloc; "{start:?}").expect(rt, "memory");
-    kept(rt, alloc, text).as_str()
+    leaked(rt, alloc, text).as_str()
 }
 
 #[test]
 fn starts_are_read(rt: HostRuntime) {
     for row in STARTS.lines() {
         let (text, wanted) = parted(&rt, row, " => ");
-        let found = start_read(&rt, rt.alloc(), text);
-        compare(&rt, text, found, wanted);
+        let actual = start_read(&rt, rt.alloc(), text);
+        compare(&rt, text, actual, wanted);
     }
 }
 
@@ -136,9 +136,9 @@ fn is_printed(rt: &impl Abort, alloc: Global, moment: &str, wanted: &str) {
     let (start, seconds) = parted(rt, moment, " ");
     let (start, seconds) = (start_of(rt, start), number_of(rt, seconds) as u64);
     let counts = Counts::new();
-    let found = summary_of(rt, alloc, start, seconds, Operation::Apply, &counts);
+    let actual = summary_of(rt, alloc, start, seconds, Operation::Apply, &counts);
     let wanted = put(rt, alloc, NOTHING_DONE, "%", wanted);
-    compare_line(rt, moment, found, wanted);
+    compare_line(rt, moment, actual, wanted);
 }
 
 #[test]
@@ -152,14 +152,14 @@ fn moments_are_printed(rt: HostRuntime) {
 /// The text of a duration in seconds.
 fn duration_of(rt: &impl Abort, alloc: Global, seconds: &str) -> &'static str {
     let text = elapsed_text(alloc, number_of(rt, seconds)).expect(rt, "memory");
-    kept(rt, alloc, text).as_str()
+    leaked(rt, alloc, text).as_str()
 }
 
 #[test]
 fn durations_are_printed(rt: HostRuntime) {
     for row in DURATIONS.lines() {
         let (seconds, wanted) = parted(&rt, row, " => ");
-        let found = duration_of(&rt, rt.alloc(), seconds);
-        compare(&rt, seconds, found, wanted);
+        let actual = duration_of(&rt, rt.alloc(), seconds);
+        compare(&rt, seconds, actual, wanted);
     }
 }

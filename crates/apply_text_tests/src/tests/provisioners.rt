@@ -7,7 +7,7 @@ const ONE_CREATE: &str =
 
 /// The numbers of a provisioner and an output that the script does not have, the script, and the
 /// line.
-const UNSAID: &str =
+const ABSENT_TEXTS: &str =
     r##"0 0 => {"changes":[]} => {"@level":"info","@message":"null_resource.a: (): ","@module":"terraform.ui","@timestamp":"1970-01-01T00:00:00Z","hook":{"output":"","provisioner":"","resource":{"addr":"null_resource.a","implied_provider":"null","module":"","resource":"null_resource.a","resource_key":null,"resource_name":"a","resource_type":"null_resource"}},"type":"provision_progress"}
 1 0 => {"changes":[{"address":"null_resource.a","steps":[{"seconds":0,"provisioners":[{"provisioner":"a","seconds":0,"output":["x"]}]}]}]} => {"@level":"info","@message":"null_resource.a: (): ","@module":"terraform.ui","@timestamp":"1970-01-01T00:00:00Z","hook":{"output":"","provisioner":"","resource":{"addr":"null_resource.a","implied_provider":"null","module":"","resource":"null_resource.a","resource_key":null,"resource_name":"a","resource_type":"null_resource"}},"type":"provision_progress"}
 0 1 => {"changes":[{"address":"null_resource.a","steps":[{"seconds":0,"provisioners":[{"provisioner":"a","seconds":0,"output":["x"]}]}]}]} => {"@level":"info","@message":"null_resource.a: (a): ","@module":"terraform.ui","@timestamp":"1970-01-01T00:00:00Z","hook":{"output":"","provisioner":"a","resource":{"addr":"null_resource.a","implied_provider":"null","module":"","resource":"null_resource.a","resource_key":null,"resource_name":"a","resource_type":"null_resource"}},"type":"provision_progress"}"##;
@@ -24,10 +24,10 @@ fn is_empty(rt: &impl Abort, alloc: Global, plan: &Plan, row: &str) {
 
 /// Texts that the script does not have are empty.
 #[test]
-fn what_is_not_said_of_provisioners_is_empty(rt: HostRuntime) {
+fn absent_texts_of_provisioners_are_empty(rt: HostRuntime) {
     let alloc = rt.alloc();
     let plan = plan_of(&rt, alloc, ONE_CREATE);
-    for row in UNSAID.lines() {
+    for row in ABSENT_TEXTS.lines() {
         is_empty(&rt, alloc, plan, row);
     }
 }

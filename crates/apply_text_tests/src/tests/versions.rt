@@ -16,11 +16,11 @@ const VERSIONS: &str =
 /// The version line as a single line.
 fn first_line(rt: &impl Abort, alloc: Global, plan: &Plan, start: Start) -> &'static str {
     let line = version_line(alloc, plan, start).expect(rt, "memory");
-    kept(rt, alloc, line).as_str()
+    leaked(rt, alloc, line).as_str()
 }
 
 /// Fails when two calls of `push_version` do not append the line twice.
-fn is_told_twice(rt: &impl Abort, alloc: Global, plan: &Plan, start: Start, line: &str) {
+fn is_written_twice(rt: &impl Abort, alloc: Global, plan: &Plan, start: Start, line: &str) {
     let mut buffer = LineBuffer::new(alloc);
     for _ in 0..2 {
         holds(rt, "memory", buffer.push_version(plan, start).is_ok());
@@ -36,11 +36,11 @@ fn begins_so(rt: &impl Abort, alloc: Global, row: &str) {
     let (plan, start) = (plan_of(rt, alloc, text), start_of(rt, start));
     let line = first_line(rt, alloc, plan, start);
     compare_line(rt, text, line, wanted);
-    is_told_twice(rt, alloc, plan, start, line);
+    is_written_twice(rt, alloc, plan, start, line);
 }
 
 #[test]
-fn versions_are_told_first(rt: HostRuntime) {
+fn versions_are_written_first(rt: HostRuntime) {
     for row in VERSIONS.lines() {
         begins_so(&rt, rt.alloc(), row);
     }

@@ -93,7 +93,7 @@ fn of_lines(lines: u64, has_errors: bool) -> Whole {
 
 /// A faulty line leaves the checker unchanged. Its getters agree with its verdict.
 #[test]
-fn a_checker_says_what_it_has_read(rt: HostRuntime) {
+fn a_checker_reports_what_it_has_read(rt: HostRuntime) {
     let alloc = rt.alloc();
     let checker = leaked(&rt, alloc, Checker::new(alloc));
     line_gives(&rt, alloc, checker, NO_TYPE, Err(Fault::NoType), 0);

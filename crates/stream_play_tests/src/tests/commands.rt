@@ -122,7 +122,7 @@ fn word_leaves(
     let mut input: &[u8] = b"a\n";
     let out = no_bytes(rt, alloc);
     let faults = no_bytes(rt, alloc);
-    let found = follow(
+    let result = follow(
         rt,
         world,
         alloc,
@@ -132,7 +132,7 @@ fn word_leaves(
         out,
         faults,
     );
-    holds(rt, wanted, found.status == status);
+    holds(rt, wanted, result.status == status);
     let message = if status == 0 {
         out.as_slice()
     } else {

@@ -13,7 +13,7 @@ use Rattle.apply_plan.specs.Script.Refusals.{fault_of_entry, fault_of_names, fau
 use Rattle.apply_plan.specs.Script.RawView.{entry_step_view, entry_view, step_view, waits_within}
 use Rattle.apply_plan.specs.Script.WaitedStep.{resolved_step}
 use Rattle.apply_plan.proofs.Scripts.Entries.{change_numbered, is_numbered, not_numbered, some_change}
-use Rattle.apply_plan.proofs.Scripts.OneEntry.{IsFound, accepted, also_refused, answered, count_within, entry_found, fault_of_count, fault_of_items, fault_of_outcomes, few_steps, malformed, repeats, unknown}
+use Rattle.apply_plan.proofs.Scripts.OneEntry.{IsLocated, accepted, also_refused, answered, count_within, entry_found, fault_of_count, fault_of_items, fault_of_outcomes, few_steps, malformed, repeats, unknown}
 use Rattle.apply_plan.proofs.Scripts.Limits.{none_in_tree}
 use Rattle.apply_plan.proofs.script.entry_resolution.resolve_entry.Goals as goal
 use Rattle.apply_plan.proofs.script.entry_resolution.resolve_entry.Goals.{After-change-known, In-Some-get}
@@ -25,8 +25,8 @@ within c =
     (c.in-Some-get.ensures ∙ c.requires.numbers (record { address = c.in-Some.entry.address; deposed = c.in-Some.entry.deposed }))
 
 -- the reader has located the entry and its change
-found : (c : After-change-known) (d : Data) → option_map entry_view c.args.entry.now ≡ entry_of d → IsFound c.args.plan.now.changes c.args.outcomes.now d c.in-Some.entry c.in-Some-get.change c.change-known.result.now c.index-outcomes-change.result
-found c d is =
+located : (c : After-change-known) (d : Data) → option_map entry_view c.args.entry.now ≡ entry_of d → IsLocated c.args.plan.now.changes c.args.outcomes.now d c.in-Some.entry c.in-Some-get.change c.change-known.result.now c.index-outcomes-change.result
+located c d is =
     let known = c.in-Some-get.ensures ∙ c.requires.numbers (record { address = c.in-Some.entry.address; deposed = c.in-Some.entry.deposed }) in
     let below = is_numbered c.args.plan.now.changes (entry_view c.in-Some.entry) c.in-Some-get.change known in
     record {
@@ -68,7 +68,7 @@ returns-then-is_some-clause-defined c = λ d is memory.
 answered_by : (c : After-change-known) (d : Data) → option_map entry_view c.args.entry.now ≡ entry_of d → (fault : Option ScriptError) → is_some c.index-outcomes-change.result ≡ false → fault_of_entry c.args.number c.args.plan.now.changes c.args.earlier c.change-known.result.now (entry_view c.in-Some.entry).steps ≡ fault
     → resolved_next c.args.plan.now.changes c.args.outcomes.now c.args.earlier c.args.number d ≡ unless_refused fault (resolved_by c.args.plan.now.changes c.in-Some-get.change (entry_view c.in-Some.entry).steps)
 answered_by c d read fault none is =
-    answered c.args.plan.now.changes c.args.outcomes.now c.args.earlier c.args.number d c.in-Some.entry c.in-Some-get.change c.change-known.result.now c.index-outcomes-change.result fault (found c d read) none is
+    answered c.args.plan.now.changes c.args.outcomes.now c.args.earlier c.args.number d c.in-Some.entry c.in-Some-get.change c.change-known.result.now c.index-outcomes-change.result fault (located c d read) none is
 
 -- the result, if the items are not too many
 by_items : (c : After-change-known) (d : Data) → option_map entry_view c.args.entry.now ≡ entry_of d → is_some c.index-outcomes-change.result ≡ false → None ≡ fault_of_steps c.args.number (is_some c.change-known.result.now.deposed) c.change-known.result.now.steps (map step_view c.in-Some.entry.steps.items)

@@ -1,7 +1,7 @@
 use Rattle.apply_model.specs.Script.Outcome.{IsSmall}
 use Rattle.apply_plan.specs.Script.RawView.{provisioner_view}
 use Rattle.apply_plan.proofs.Scripts.Limits.{all_seen}
-use Rattle.apply_plan.proofs.Scripts.Found.{copied_more}
+use Rattle.apply_plan.proofs.Scripts.ValidItems.{copied_more}
 use Rattle.apply_plan.proofs.script.raw_outcome.copied_provisioners.Goals as goal
 
 pub copied-requires : goal.copied-requires

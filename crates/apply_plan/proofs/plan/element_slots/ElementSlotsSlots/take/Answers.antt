@@ -20,17 +20,17 @@ returns-then-is_text c =
       err = c.read.ensures.err;
     }
 
-pub returns-in_ok-found-in-Some : goal.returns-in_ok-found-in-Some
-returns-in_ok-found-in-Some c =
-    let done = c.in_ok-found-in-Some.ensures.ok in
+pub returns-in_ok-input-in-Some : goal.returns-in_ok-input-in-Some
+returns-in_ok-input-in-Some c =
+    let done = c.in_ok-input-in-Some.ensures.ok in
     record {
       ok = (
         done.0,
         as_member c.args.depth c.args.reader.now done.0 _ c.args.name.now done.1,
         λ start ms holds.
-            subst (λ slots. HoldsElement slots (put c.args.name.now done.0 ms)) (sym c.set.ensures) (takes_scalar c.args.self.now c.args.name.now done.0 ms holds c.in-Some.member c.in_ok-found-in-Some.found c.in-Some.ensures done.2),
+            subst (λ slots. HoldsElement slots (put c.args.name.now done.0 ms)) (sym c.set.ensures) (takes_scalar c.args.self.now c.args.name.now done.0 ms holds c.in-Some.member c.in_ok-input-in-Some.input c.in-Some.ensures done.2),
       );
-      shorter = c.in_ok-found-in-Some.ensures.shorter;
+      shorter = c.in_ok-input-in-Some.ensures.shorter;
       err = λ never. absurd cc;
     }
 

@@ -5,7 +5,7 @@ use Rattle.json.specs.Json.{value}
 use Rattle.apply_json.specs.ShallowView.{shallow_of}
 use Rattle.apply_json.proofs.Held.{left}
 use Rattle.apply_plan.specs.Script.Members.{object_member}
-use Rattle.apply_plan.proofs.Scripts.Kept.{passed_read, scalar_read, text_read}
+use Rattle.apply_plan.proofs.Scripts.VerbatimParts.{passed_read, scalar_read, text_read}
 use Rattle.apply_plan.proofs.Scripts.Slots.{diag_behind}
 use Rattle.apply_plan.proofs.script.diag_slots.DiagSlotsSlots.take.Goals as goal
 

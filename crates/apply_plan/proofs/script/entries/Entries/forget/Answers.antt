@@ -16,6 +16,6 @@ returns-clause-none c =
     let outcomes = c.args.self.now.outcomes in
     let as_long = ap length c.clear_outcomes.ensures.outcomes ∙ length-by_number (length c.deref_mut.result.now) [] in
     let as_before = ap length c.deref_mut.ensures.value in
-    holds_none (record c.args.self.now { outcomes = with_items outcomes c.clear_outcomes.new.outcomes; kept = c.clear_outcomes.new.kept; waits = 0; fault = None }) holds.few_changes holds.numbered
+    holds_none (record c.args.self.now { outcomes = with_items outcomes c.clear_outcomes.new.outcomes; step_counts = c.clear_outcomes.new.step_counts; waits = 0; fault = None }) holds.few_changes holds.numbered
     (with_items_is outcomes c.clear_outcomes.new.outcomes (omega (arith, as_long, as_before, outcomes.ok.0))
-    ∙ c.clear_outcomes.ensures.outcomes ∙ ap (λ n. by_number n []) (as_before ∙ long c.args.self.now c.requires.0 holds)) c.clear_outcomes.ensures.kept refl refl
+    ∙ c.clear_outcomes.ensures.outcomes ∙ ap (λ n. by_number n []) (as_before ∙ long c.args.self.now c.requires.0 holds)) c.clear_outcomes.ensures.step_counts refl refl

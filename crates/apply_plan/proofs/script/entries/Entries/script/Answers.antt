@@ -1,6 +1,6 @@
 use Rattle.std.proofs.Common.{ap, length, refl, sym, ◌∙◌}
 use Rattle.apply_plan.proofs.Scripts.Read.{long, made_entries, refused_entries}
-use Rattle.apply_plan.proofs.Scripts.WholeList.{said_in_range, said_placed}
+use Rattle.apply_plan.proofs.Scripts.WholeList.{stated_in_range, stated_placed}
 use Rattle.apply_plan.proofs.script.entries.Entries.script.Goals as goal
 
 pub returns-in-Some : goal.returns-in-Some
@@ -10,7 +10,7 @@ pub new-script-requires : goal.new-script-requires
 new-script-requires c =
     let self = c.args.self in
     let holds = c.requires.1 in
-    said_in_range self.plan.now.changes self.outcomes.items self.waits (length self.kept.items) holds.made holds.outcomes
+    stated_in_range self.plan.now.changes self.outcomes.items self.waits (length self.step_counts.items) holds.made holds.outcomes
 
 pub first_unreachable-requires-clause-changes : goal.first_unreachable-requires-clause-changes
 first_unreachable-requires-clause-changes c = c.len.ensures.len ∙ sym (ap length c.new-script.ensures ∙ long c.args.self c.requires.0 c.requires.1)
@@ -19,11 +19,11 @@ pub first_unreachable-requires-clause-placed : goal.first_unreachable-requires-c
 first_unreachable-requires-clause-placed c =
     let self = c.args.self in
     let holds = c.requires.1 in
-    rw c.new-script.ensures (said_placed self.plan.now.changes self.outcomes.items self.waits (length self.kept.items) holds.made holds.outcomes)
+    rw c.new-script.ensures (stated_placed self.plan.now.changes self.outcomes.items self.waits (length self.step_counts.items) holds.made holds.outcomes)
 
 pub first_unreachable-requires-clause-within : goal.first_unreachable-requires-clause-within
 first_unreachable-requires-clause-within c =
-    rw (c.deref.ensures.value, c.new-script.ensures, long c.args.self c.requires.0 c.requires.1) c.requires.1.kept.within
+    rw (c.deref.ensures.value, c.new-script.ensures, long c.args.self c.requires.0 c.requires.1) c.requires.1.step_counts.within
 
 pub returns-in-Some-2 : goal.returns-in-Some-2
 returns-in-Some-2 c = λ ds holds memory.

@@ -1,7 +1,7 @@
 use Rattle.std.proofs.Common.{◌≡◌, length, refl, sym, ◌∙◌, arith}
 use Rattle.json.specs.Json.{value}
 use Rattle.apply_json.proofs.Copied.{if_ok}
-use Rattle.apply_plan.proofs.Scripts.Kept.{passed_item}
+use Rattle.apply_plan.proofs.Scripts.VerbatimParts.{passed_item}
 use Rattle.apply_plan.proofs.Scripts.Read.{holds_more, holds_past, holds_refused, long}
 use Rattle.apply_plan.proofs.Scripts.WholeList.{few_entries}
 use Rattle.apply_plan.proofs.script.entries.EntriesCollector.take.Goals as goal
@@ -22,7 +22,7 @@ pub overflow_cast-number : goal.overflow_cast-number
 overflow_cast-number c =
     let self = c.args.self.now in
     let holds = c.requires.2.1 in
-    let few = few_entries self.plan.now.changes self.outcomes.items self.waits (length self.kept.items) holds.made holds.outcomes in
+    let few = few_entries self.plan.now.changes self.outcomes.items self.waits (length self.step_counts.items) holds.made holds.outcomes in
     omega (arith, few, holds.few_changes, c.len-number.ensures)
 
 pub resolve_entry-outcomes-requires-clause-outcomes : goal.resolve_entry-outcomes-requires-clause-outcomes
@@ -32,7 +32,7 @@ pub returns-in_ok-store-in-Ok : goal.returns-in_ok-store-in-Ok
 returns-in_ok-store-in-Ok c =
     let done = c.in_ok-entry.ensures.ok in
     let keeps = c.in_ok-store-in-Ok.ensures in
-    let number : c.len-number.result ≡ length c.args.self.now.kept.items = omega (arith, c.len-number.ensures, c.args.self.now.kept.ok.0) in
+    let number : c.len-number.result ≡ length c.args.self.now.step_counts.items = omega (arith, c.len-number.ensures, c.args.self.now.step_counts.ok.0) in
     let outcomes = rw (c.deref.ensures.value, number) at c.in-Ok.ensures.defined done.0 done.2 in
     let below = rw c.deref.ensures.value at c.in-Ok.ensures.within in
     let placed = rw c.deref.ensures.value at c.in-Ok.ensures.placed in
@@ -50,7 +50,7 @@ returns-in_ok-store-in-Ok c =
 pub returns-in-Err : goal.returns-in-Err
 returns-in-Err c =
     let done = c.in_ok-entry.ensures.ok in
-    let number : c.len-number.result ≡ length c.args.self.now.kept.items = omega (arith, c.len-number.ensures, c.args.self.now.kept.ok.0) in
+    let number : c.len-number.result ≡ length c.args.self.now.step_counts.items = omega (arith, c.len-number.ensures, c.args.self.now.step_counts.ok.0) in
     record {
       ok = (
         done.0,

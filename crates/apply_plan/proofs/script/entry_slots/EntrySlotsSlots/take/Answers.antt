@@ -4,7 +4,7 @@ use Rattle.json.specs.Json.{value}
 use Rattle.apply_json.specs.ShallowView.{shallow_of}
 use Rattle.apply_json.proofs.Held.{left}
 use Rattle.apply_plan.specs.Script.Members.{steps_member}
-use Rattle.apply_plan.proofs.Scripts.Kept.{other_read, passed_read, scalar_read}
+use Rattle.apply_plan.proofs.Scripts.VerbatimParts.{other_read, passed_read, scalar_read}
 use Rattle.apply_plan.proofs.Scripts.Slots.{entry_behind}
 use Rattle.apply_plan.proofs.script.entry_slots.EntrySlotsSlots.take.Goals as goal
 

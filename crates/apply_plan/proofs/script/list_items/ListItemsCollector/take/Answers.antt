@@ -1,4 +1,4 @@
-use Rattle.apply_plan.proofs.Scripts.Found.{found_more}
+use Rattle.apply_plan.proofs.Scripts.ValidItems.{found_more}
 use Rattle.apply_plan.proofs.script.list_items.ListItemsCollector.take.Goals as goal
 
 pub returns-clause-ok : goal.returns-clause-ok

@@ -3,7 +3,7 @@ use Rattle.std.specs.Str.{bytes_eq}
 use Rattle.json.specs.Json.{value}
 use Rattle.apply_json.specs.ShallowView.{shallow_of}
 use Rattle.apply_json.proofs.Held.{left}
-use Rattle.apply_plan.proofs.Scripts.Kept.{passed_read, scalar_read}
+use Rattle.apply_plan.proofs.Scripts.VerbatimParts.{passed_read, scalar_read}
 use Rattle.apply_plan.proofs.Scripts.Slots.{output_behind}
 use Rattle.apply_plan.proofs.script.output_slots.OutputSlotsSlots.take.Goals as goal
 

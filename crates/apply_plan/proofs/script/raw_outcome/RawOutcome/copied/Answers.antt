@@ -3,7 +3,7 @@ use Rattle.apply_model.specs.declared.script.ending.Ending.{Ending}
 use Rattle.apply_model.specs.declared.script.outcome.Outcome.{Outcome}
 use Rattle.apply_model.specs.declared.script.provisioners.Provisioners.{Provisioners}
 use Rattle.apply_plan.specs.Script.RawView.{provisioner_view}
-use Rattle.apply_plan.proofs.Scripts.Found.{made}
+use Rattle.apply_plan.proofs.Scripts.ValidItems.{made}
 use Rattle.apply_plan.proofs.script.raw_outcome.RawOutcome.copied.Goals as goal
 
 pub returns-in-Ok : goal.returns-in-Ok

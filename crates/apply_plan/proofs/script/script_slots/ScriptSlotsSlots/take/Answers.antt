@@ -4,7 +4,7 @@ use Rattle.json.specs.Json.{value}
 use Rattle.serde_json.specs.Find.{get_member}
 use Rattle.apply_json.proofs.Held.{left, taken}
 use Rattle.apply_plan.specs.Script.EntriesView.{HoldsEntries, entries_in, kind_of}
-use Rattle.apply_plan.proofs.Scripts.Kept.{as_that, other_member, passed_read}
+use Rattle.apply_plan.proofs.Scripts.VerbatimParts.{as_that, other_member, passed_read}
 use Rattle.apply_plan.proofs.script.script_slots.ScriptSlotsSlots.take.Goals as goal
 
 pub returns-in_ok-self : goal.returns-in_ok-self

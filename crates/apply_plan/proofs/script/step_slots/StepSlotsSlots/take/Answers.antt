@@ -5,7 +5,7 @@ use Rattle.apply_json.specs.ShallowView.{shallow_of}
 use Rattle.apply_json.proofs.Held.{left}
 use Rattle.apply_plan.specs.Script.Entry.{provisioner_from, wait_from}
 use Rattle.apply_plan.specs.Script.Members.{diag_member, each_member, failure_member}
-use Rattle.apply_plan.proofs.Scripts.Kept.{other_read, passed_read, scalar_read}
+use Rattle.apply_plan.proofs.Scripts.VerbatimParts.{other_read, passed_read, scalar_read}
 use Rattle.apply_plan.proofs.Scripts.Slots.{step_behind}
 use Rattle.apply_plan.proofs.script.step_slots.StepSlotsSlots.take.Goals as goal
 

@@ -10,7 +10,7 @@ use Rattle.apply_json.specs.Verbatim.{as_verbatim, mixed_tree, mixed_member}
 use Rattle.apply_json.specs.ShallowView.{ShallowView, shallow_of}
 use Rattle.apply_json.proofs.Copied.{if_ok}
 use Rattle.apply_json.proofs.Held.{is_name}
-use Rattle.apply_json.proofs.VerbatimValues as kept
+use Rattle.apply_json.proofs.VerbatimValues as verbatim
 use Rattle.apply_plan.specs.Script.Entry.{is_verbatim_name}
 
 -- equal names are both verbatim or both not
@@ -22,26 +22,26 @@ module _ (k : List ℕ) (o : Option (json.Json × List Token)) (d : Data) (r : L
   pub scalar_member : (x : ShallowView) → is_verbatim_name k ≡ false → converted of_json o ≡ Some (d, r) → x ≡ shallow_of (Some d)
       → (e : Data) × (converted (mixed_member is_verbatim_name k) o ≡ Some (e, r)) × (x ≡ shallow_of (Some e))
   scalar_member x not read is =
-      let e = kept.scalar_kept is_verbatim_name o d r read in
-      (e.0, kept.unkept is_verbatim_name o k e.0 r not e.1, is ∙ sym e.2)
+      let e = verbatim.scalar_kept is_verbatim_name o d r read in
+      (e.0, verbatim.unkept is_verbatim_name o k e.0 r not e.1, is ∙ sym e.2)
 
   -- any other value
   pub other_member : is_verbatim_name k ≡ false → converted (mixed_tree is_verbatim_name) o ≡ Some (d, r) → converted (mixed_member is_verbatim_name k) o ≡ Some (d, r)
-  other_member not read = kept.unkept is_verbatim_name o k d r not read
+  other_member not read = verbatim.unkept is_verbatim_name o k d r not read
 
   -- a skipped member
   pub passed_member : converted of_json o ≡ Some (d, r) → (e : Data) × (converted (mixed_member is_verbatim_name k) o ≡ Some (e, r))
-  passed_member read = kept.passed is_verbatim_name o k d r read
+  passed_member read = verbatim.passed is_verbatim_name o k d r read
 
 module _ (o : Option (json.Json × List Token)) (d : Data) (r : List Token) where
   -- a skipped item
   pub passed_item : converted of_json o ≡ Some (d, r) → (e : Data) × (converted (mixed_tree is_verbatim_name) o ≡ Some (e, r))
-  passed_item read = let e = kept.scalar_kept is_verbatim_name o d r read in (e.0, e.1)
+  passed_item read = let e = verbatim.scalar_kept is_verbatim_name o d r read in (e.0, e.1)
 
 -- a verbatim member
 text_member : (k : List ℕ) (o : Option (json.Json × List Token)) (text : List ℕ) (r : List Token) → is_verbatim_name k ≡ true → converted as_verbatim o ≡ Some (string text, r)
     → converted (mixed_member is_verbatim_name k) o ≡ Some (string text, r)
-text_member k o text r is read = kept.own is_verbatim_name o k text r is read
+text_member k o text r is read = verbatim.own is_verbatim_name o k text r is read
 
 -- ---- members whose reading may have failed
 

@@ -4,7 +4,7 @@ use Rattle.std.specs.Prelude.{IfOk, Ok, Result}
 use Rattle.std.proofs.lemmas.List.{map-append, take_more}
 use Rattle.serde_json.specs.Data.{Data}
 use Rattle.apply_json.specs.Tree.{◌>>=◌}
-use Rattle.apply_plan.specs.Found.{added}
+use Rattle.apply_plan.specs.ValidItems.{added}
 use Rattle.apply_plan.specs.Script.Entry.{all_some}
 
 -- a list with one item more

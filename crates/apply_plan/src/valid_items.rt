@@ -1,7 +1,7 @@
 //! Lists in which each item must be valid.
 
 ghost use Rattle.std.specs.Prelude.{◌≡◌, OnOk, option_map};
-ghost use Rattle.apply_plan.specs.Found.{added};
+ghost use Rattle.apply_plan.specs.ValidItems.{added};
 
 use std::alloc::AllocError;
 
@@ -9,12 +9,12 @@ use std::alloc::AllocError;
 ///
 /// `Err` means that memory was refused.
 pub fn add<T: Drop>(list: &mut Option<Vec<T>>, item: Option<T>) -> Result<(), AllocError>
-    ensures { OnOk result (option_map (λ found. found.items) list.new ≡ added (option_map (λ found. found.items) list.old) item) }
+    ensures { OnOk result (option_map (λ valid. valid.items) list.new ≡ added (option_map (λ valid. valid.items) list.old) item) }
 {
     match item {
         Some(item) => {
-            if let Some(found) = list {
-                found.push(item)?;
+            if let Some(valid) = list {
+                valid.push(item)?;
             }
             Ok(())
         }

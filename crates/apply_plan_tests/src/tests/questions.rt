@@ -1,6 +1,6 @@
 //! Outcomes of the steps of the first change, and entries with a step that can never start.
 
-use super::outcomes::said;
+use super::outcomes::stated;
 use super::provisioning::comes;
 use super::table::{cells, compare, first_line, put, rows};
 use super::*;
@@ -15,7 +15,7 @@ use apply_plan::never_beginning;
 /// - `waits`: whether any step waits for another.
 /// - `never`: all entries with a step that can never start. In its script `t.b` and `t.d` wait for
 ///   each other, `t.a` for `t.b`, and `t.c` for itself. `t.e` waits for nothing.
-const TELLS: &str = r#"said
+const QUESTIONS: &str = r#"said
 (CELL, Provisioners { provisioners: [] }, Waits { waits: [] })
 {"format_version":"1.2","resource_changes":[{"address":"null_resource.a","mode":"managed","type":"null_resource","name":"a","change":{"actions":["delete"]}}]}
 {"changes":[{"address":"null_resource.a","steps":[{CELL}],"id":"9","seconds":9}]}
@@ -130,11 +130,11 @@ CELL
 [] => Err(the script is malformed)"#;
 
 /// The result for a question to a script.
-fn told(rt: &impl Abort, alloc: Global, what: &str, script: &Script) -> &'static str {
+fn result_text(rt: &impl Abort, alloc: Global, what: &str, script: &Script) -> &'static str {
     match what {
-        "said" => said(rt, alloc, script, 0, 0),
+        "said" => stated(rt, alloc, script, 0, 0),
         "comes" => comes(rt, alloc, script),
-        "steps" => skipped::said(rt, alloc, script),
+        "steps" => skipped::stated(rt, alloc, script),
         _ => yes_or_no(script.has_waits()),
     }
 }
@@ -147,39 +147,39 @@ fn yes_or_no(is_so: bool) -> &'static str {
 /// The numbers of the entries with a step that can never start, or the message of the error.
 fn never(rt: &impl Abort, alloc: Global, plan: &Plan, text: &str) -> &'static str {
     let numbers = never_beginning(alloc, text.as_bytes(), plan);
-    printed(rt, alloc, kept(rt, alloc, numbers))
+    printed(rt, alloc, leaked(rt, alloc, numbers))
 }
 
 /// The result for a question to the text of a script.
 fn answer(rt: &impl Abort, alloc: Global, what: &str, plan: &str, text: &str) -> &'static str {
     match what {
         "never" => never(rt, alloc, plan_of(rt, alloc, plan), text),
-        _ => told(rt, alloc, what, script_of(rt, alloc, plan, text)),
+        _ => result_text(rt, alloc, what, script_of(rt, alloc, plan, text)),
     }
 }
 
 /// Fails if a script of the block gives another result.
-fn block_tells(rt: &impl Abort, alloc: Global, block: &str) {
+fn compare_block(rt: &impl Abort, alloc: Global, block: &str) {
     let (what, rest) = first_line(rt, block);
-    let (told, rest) = first_line(rt, rest);
+    let (result_text, rest) = first_line(rt, rest);
     let (plan, rest) = first_line(rt, rest);
     let (script, table) = first_line(rt, rest);
     for row in rows(rt, table) {
         let (cell, wanted) = cells(rt, row);
         let text = put(rt, alloc, script, "CELL", cell);
-        let found = answer(rt, alloc, what, plan, text);
-        compare(rt, row, found, put(rt, alloc, told, "CELL", wanted));
+        let actual = answer(rt, alloc, what, plan, text);
+        compare(rt, row, actual, put(rt, alloc, result_text, "CELL", wanted));
     }
 }
 
 /// Fails if a script of one of the blocks gives another result.
-pub fn scripts_tell(rt: &impl Abort, alloc: Global, blocks: &str) {
+pub fn compare_blocks(rt: &impl Abort, alloc: Global, blocks: &str) {
     for block in blocks.split("\n\n") {
-        block_tells(rt, alloc, block);
+        compare_block(rt, alloc, block);
     }
 }
 
 #[test]
 fn steps_are_told_of(rt: HostRuntime) {
-    scripts_tell(&rt, rt.alloc(), TELLS);
+    compare_blocks(&rt, rt.alloc(), QUESTIONS);
 }
