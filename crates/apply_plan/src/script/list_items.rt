@@ -7,8 +7,8 @@ ghost use Rattle.apply_json.specs.Tokens.{IsNoValue};
 ghost use Rattle.apply_plan.specs.Script.Entry.{all_some, is_verbatim_name};
 ghost use Rattle.apply_plan.specs.Script.Members.{each_member, needed_member};
 
-use crate::items_read::add;
 use crate::script::list_item::ListItem;
+use crate::valid_items::add;
 use apply_json::{ArrayPresence, Collector, ReadFault, Reader, read_list};
 use std::alloc::Global;
 
