@@ -11,6 +11,7 @@ pub(crate) mod line_slots;
 pub(crate) mod open_places;
 pub(crate) mod provisioner;
 pub(crate) mod step;
+pub(crate) mod step_messages;
 pub(crate) mod time_range;
 pub(crate) mod timeline;
 pub(crate) mod timeline_fault;

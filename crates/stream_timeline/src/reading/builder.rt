@@ -1,7 +1,6 @@
 //! Builds a time line from the lines of a stream.
 
-ghost use Rattle.std.specs.Prelude.{◌≡◌, ◌<◌, ◌^◌, ◌↔◌, ℕ, List, None, codes, IfErr, IfOk, false};
-ghost use Rattle.apply_json.specs.Tree.{text_of};
+ghost use Rattle.std.specs.Prelude.{◌≡◌, ◌<◌, ◌^◌, ◌↔◌, ℕ, List, None, IfErr, IfOk, false};
 ghost use Rattle.serde_json.specs.View.{view};
 
 use crate::reading::content::{Content, time_of};
@@ -29,10 +28,8 @@ pub struct TimelineBuilder {
 }
 
 impl TimelineBuilder {
-    ghost use Rattle.stream_timeline.specs.Details.{diagnostic_of};
     ghost use Rattle.stream_timeline.specs.Messages.{message_of};
-    ghost use Rattle.stream_timeline.specs.Steps.{first_of, is_open_at, is_open_with, last_of, places};
-    ghost use Rattle.stream_timeline.specs.TimelineRead.{TimelineRead, max_lines, empty_timeline, with_begin, with_end, with_error, with_line, with_message_or_passed_over, with_provisioner_begin, with_provisioner_end, with_content, with_tree};
+    ghost use Rattle.stream_timeline.specs.TimelineRead.{max_lines, empty_timeline, with_line, with_message_or_passed_over, with_content, with_tree};
     ghost use Rattle.stream_timeline.specs.Building.{ReadsMore, HasRead, IsReadingLine};
     ghost use Rattle.stream_timeline.specs.ContentViews.{content_view};
     ghost use Rattle.stream_timeline.specs.declared.reading.timeline_fault.TimelineFault.TheVariants.{NoMessage};
@@ -165,115 +162,5 @@ impl TimelineBuilder {
                 Ok(())
             }
         }
-    }
-
-    /// Begins a step. `TimelineFault::TooManySteps` after 100,000 others.
-    fn begin(
-        &mut self,
-        alloc: Global,
-        address: &str,
-        action: &str,
-        time: i64,
-    ) -> Result<(), TimelineFault>
-        ensures { ReadsMore (IsReadingLine self.old) self.new (with_begin address.now action.now time) result }
-    {
-        if self.timeline.is_full() {
-            return Err(TimelineFault::TooManySteps);
-        }
-        let place = self.timeline.steps().len();
-        self.timeline.begin(alloc, address, action, time)?;
-        self.opened.add(alloc, address, place)?;
-        Ok(())
-    }
-
-    /// Ends the oldest open step with this address and action. If there is none, the line counts as
-    /// passed over.
-    fn finish(&mut self, address: &str, action: &str, failed: bool, time: i64)
-        ensures { (timeline : TimelineRead) → IsReadingLine self.old timeline
-            → HasRead self.new (with_end address.now action.now failed time timeline) }
-    {
-        match self.first_open(address, action) {
-            Some(place) => {
-                self.timeline.end(place, failed, time);
-                self.opened.take(address, place);
-            }
-            None => self.timeline.pass_over(),
-        }
-    }
-
-    /// The index of the oldest open step with this address and action.
-    fn first_open(&self, address: &str, action: &str) -> Option<usize>
-        ensures { (timeline : TimelineRead) → IsReadingLine self.now timeline → result
-            ≡ first_of (places (is_open_with address.now action.now) timeline.steps) }
-    {
-        for place in self.opened.at(address) {
-            if self.timeline.has_action(*place, action) {
-                return Some(*place);
-            }
-        }
-        None
-    }
-
-    /// The index of the newest open step at this address.
-    fn last_open(&self, address: &str) -> Option<usize>
-        ensures { (timeline : TimelineRead) → IsReadingLine self.now timeline → result
-            ≡ last_of (places (is_open_at address.now) timeline.steps) }
-    {
-        let places = self.opened.at(address);
-        let count = places.len();
-        if count == 0 {
-            return None;
-        }
-        Some(places[count - 1])
-    }
-
-    /// Begins a provisioner in the newest open step at this address. If there is none, the line
-    /// counts as passed over.
-    fn begin_provisioner(
-        &mut self,
-        alloc: Global,
-        address: &str,
-        name: &str,
-        time: i64,
-    ) -> Result<(), TimelineFault>
-        ensures { ReadsMore (IsReadingLine self.old) self.new (with_provisioner_begin address.now name.now time) result }
-    {
-        let Some(place) = self.last_open(address) else {
-            self.timeline.pass_over();
-            return Ok(());
-        };
-        if self.timeline.is_full() {
-            return Err(TimelineFault::TooManySteps);
-        }
-        self.timeline.begin_provisioner(alloc, place, name, time)?;
-        Ok(())
-    }
-
-    /// Ends the newest provisioner of the newest open step at this address. If none is open, the
-    /// line counts as passed over.
-    fn end_provisioner(&mut self, address: &str, failed: bool, time: i64)
-        ensures { (timeline : TimelineRead) → IsReadingLine self.old timeline
-            → HasRead self.new (with_provisioner_end address.now failed time timeline) }
-    {
-        match self.last_open(address) {
-            Some(place) => if self.timeline.has_open_provisioner(place) {
-                self.timeline.end_provisioner(place, failed, time);
-            } else {
-                self.timeline.pass_over();
-            },
-            None => self.timeline.pass_over(),
-        }
-    }
-
-    /// Stores an error, and marks the steps that are open at its address as failed.
-    fn error(&mut self, alloc: Global, members: &Value) -> Result<(), TimelineFault>
-        ensures { ReadsMore (IsReadingLine self.old) self.new (with_error (text_of (codes "address") (view members.now)) (diagnostic_of (view members.now)))
-            result }
-    {
-        self.timeline.add_error(alloc, members)?;
-        if let Some(address) = text_member(members, "address") {
-            self.timeline.mark_all(self.opened.at(address));
-        }
-        Ok(())
     }
 }
