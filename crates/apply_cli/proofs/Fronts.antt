@@ -1,7 +1,7 @@
 -- From how a run in some form has ended to what the output has of its stream.
 use Rattle.std.proofs.Common.{◌≡◌, ◌∙◌, ◌<◌, ◌≤◌, ◌+◌, ◌⊎◌, inl, inr, ℕ, List, [], subst, arith, ⊎_elim}
 use Rattle.std.specs.Io.KnownBytes.{Appends, Keeps}
-use Rattle.std.proofs.KnownBytes.{Appends-unchanged}
+use Rattle.std.proofs.KnownBytes.{Appends-kept}
 use Rattle.std.proofs.lemmas.List.{append-nil}
 use mathlib.Core.List.{IsPrefix}
 use Rattle.apply_plan.specs.Plan.SavedPlan.{SavedPlan}
@@ -30,7 +30,7 @@ whole_unchanged plan events all report before after after' unchanged failed h = 
     counts = h.delivered.counts;
     taken = h.delivered.taken;
     written = h.delivered.written;
-    appended = Appends-unchanged before.bytes after.bytes after'.bytes all h.delivered.appended unchanged;
+    appended = Appends-kept before.bytes after.bytes after'.bytes all h.delivered.appended unchanged;
   };
   failed = failed ∙ h.failed;
 }
@@ -55,7 +55,7 @@ module _ (form : StreamForm) (work : Work) (workers : ℕ) (report : Report) (be
         events = h.events;
         part = all;
         front = inl (subst (λ n. n < after'.failed) h.whole.failed flushed, record { applied = h.applied; is_prefix = prefix_same all });
-        appended = Appends-unchanged before.bytes after.bytes after'.bytes all h.whole.delivered.appended unchanged;
+        appended = Appends-kept before.bytes after.bytes after'.bytes all h.whole.delivered.appended unchanged;
       }
 
   -- a write has failed
@@ -65,7 +65,7 @@ module _ (form : StreamForm) (work : Work) (workers : ℕ) (report : Report) (be
     events = h.events;
     part = h.part.part;
     front = inl (omega (arith, h.part.failed, more), record { applied = h.applied; is_prefix = h.part.is_prefix });
-    appended = Appends-unchanged before.bytes after.bytes after'.bytes h.part.part h.part.delivered.appended unchanged;
+    appended = Appends-kept before.bytes after.bytes after'.bytes h.part.part h.part.delivered.appended unchanged;
   }
 
   -- memory was refused for a line
@@ -75,7 +75,7 @@ module _ (form : StreamForm) (work : Work) (workers : ℕ) (report : Report) (be
     events = h.events;
     part = h.part.part;
     front = inr (inl (record { applied = h.applied; is_prefix = h.part.is_prefix }));
-    appended = Appends-unchanged before.bytes after.bytes after'.bytes h.part.part h.part.delivered.appended unchanged;
+    appended = Appends-kept before.bytes after.bytes after'.bytes h.part.part h.part.delivered.appended unchanged;
   }
 
   -- the bus failed
@@ -85,7 +85,7 @@ module _ (form : StreamForm) (work : Work) (workers : ℕ) (report : Report) (be
     events = h.events;
     part = h.part.part;
     front = inr (inr (record { applied = h.applied; is_prefix = h.part.is_prefix }));
-    appended = Appends-unchanged before.bytes after.bytes after'.bytes h.part.part h.part.delivered.appended unchanged;
+    appended = Appends-kept before.bytes after.bytes after'.bytes h.part.part h.part.delivered.appended unchanged;
   }
 
   -- the output is as it was, or grew by a front of the stream
@@ -119,7 +119,7 @@ module _ (form : StreamForm) (work : Work) (lanes : ℕ) (report : Report) (befo
         time_line = h.time_line;
         part = all;
         front = inl (subst (λ n. n < after'.failed) h.whole.failed flushed, prefix_same all);
-        appended = Appends-unchanged before.bytes after.bytes after'.bytes all h.whole.delivered.appended unchanged;
+        appended = Appends-kept before.bytes after.bytes after'.bytes all h.whole.delivered.appended unchanged;
       }
 
   -- a write has failed
@@ -129,7 +129,7 @@ module _ (form : StreamForm) (work : Work) (lanes : ℕ) (report : Report) (befo
     time_line = h.time_line;
     part = h.part.part;
     front = inl (omega (arith, h.part.failed, more), h.part.is_prefix);
-    appended = Appends-unchanged before.bytes after.bytes after'.bytes h.part.part h.part.delivered.appended unchanged;
+    appended = Appends-kept before.bytes after.bytes after'.bytes h.part.part h.part.delivered.appended unchanged;
   }
 
   -- memory was refused for a line
@@ -139,7 +139,7 @@ module _ (form : StreamForm) (work : Work) (lanes : ℕ) (report : Report) (befo
     time_line = h.time_line;
     part = h.part.part;
     front = inr h.part.is_prefix;
-    appended = Appends-unchanged before.bytes after.bytes after'.bytes h.part.part h.part.delivered.appended unchanged;
+    appended = Appends-kept before.bytes after.bytes after'.bytes h.part.part h.part.delivered.appended unchanged;
   }
 
   -- the output is as it was, or grew by a front of the stream

@@ -1,7 +1,7 @@
 -- The line of the version, part by part.
 use Rattle.std.proofs.Common.{◌≡◌, ◌∙◌, ◌+◌, ◌<◌, ℕ, List, ◌++◌, Result, Ok, Err, OnErr, OnOk, ap, append_assoc, arith, sym, subst}
 use Rattle.std.specs.Io.KnownBytes.{Keeps}
-use Rattle.std.proofs.KnownBytes.{Appends-unchanged, Appends-trans}
+use Rattle.std.proofs.KnownBytes.{Appends-kept, Appends-trans}
 use Rattle.apply_run.specs.Run.{SinkState}
 use Rattle.apply_cli.specs.Version.{IsWritten, IsWrittenInPart}
 use Rattle.apply_cli.proofs.Fronts.{prefix_same}
@@ -31,7 +31,7 @@ cut_before before after part rest cut = record {
 -- all of it was written, and then flushed
 pub flushed : {A E : Type 0} (r : Result A E) (before middle after : SinkState) (line : List ℕ) → IsWritten before middle line → Keeps middle.bytes after.bytes
     → OnOk r (after.failed ≡ middle.failed) → OnOk r (IsWritten before after line)
-flushed (Ok x) before middle after line whole unchanged same = (Appends-unchanged before.bytes middle.bytes after.bytes line whole.0 unchanged, same ∙ whole.1)
+flushed (Ok x) before middle after line whole unchanged same = (Appends-kept before.bytes middle.bytes after.bytes line whole.0 unchanged, same ∙ whole.1)
 flushed (Err e) before middle after line whole unchanged same = tt
 
 -- or the flush failed
@@ -41,7 +41,7 @@ not_flushed (Ok x) before middle after line whole unchanged more = tt
 not_flushed (Err e) before middle after line whole unchanged more = record {
   part = line;
   is_prefix = prefix_same line;
-  appended = Appends-unchanged before.bytes middle.bytes after.bytes line whole.0 unchanged;
+  appended = Appends-kept before.bytes middle.bytes after.bytes line whole.0 unchanged;
   failed = omega (arith, more, whole.1);
 }
 
