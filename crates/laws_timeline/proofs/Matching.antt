@@ -202,7 +202,7 @@ unfolding check.summary_of
 summary_plain d m e =
     let b1 = bind_ok (object_at path.Operation (codes "changes") path.Changes d) _ m e in
     let b2 = bind_ok (text_at path.Operation (codes "operation") b1.0) _ m b1.2 in
-    let b3 = bind_ok (check.totals_said b1.0) _ m b2.2 in
+    let b3 = bind_ok (check.totals_in b1.0) _ m b2.2 in
     subst IsPlain (same_ok (check.summary_named b2.0 b3.0) m b3.2)
     (named_plain (bytes_eq b2.0 (codes "apply") || bytes_eq b2.0 (codes "destroy")) (bytes_eq b2.0 (codes "plan")) b3.0)
 
