@@ -45,7 +45,7 @@ record Line (text : List ℕ) (m : check.Message) : Type 0 where
   time : ℤ
   tree : json.tree_of text ≡ Some whole
   type : json.text_of (codes "type") whole ≡ Some name
-  time : time_of whole ≡ Some time
+  time_is : time_of whole ≡ Some time
   content : check.typed_message name whole ≡ Ok m
   lasting : is_ephemeral name ≡ true → option_map_or words.is_change (hook_text (codes "action") whole) false ≡ false
   some : is_blank_line text ≡ false
@@ -87,7 +87,7 @@ a_line text m timed e =
       time = when.0;
       tree = t.1;
       type = n.1;
-      time = when.1;
+      time_is = when.1;
       content = n.2;
       lasting = rw (t.1, n.1) at timed.lasting;
       some = there.0;
@@ -97,7 +97,7 @@ line_agrees : (ms : List check.Message) (text : List ℕ) (m : check.Message) (t
     → Agrees ms t.steps → Agrees (m ∷ ms) (with_line text t).steps
 line_agrees ms text m t l order h =
     let message : Message = record { time = l.time; content = content_of l.name l.whole } in
-    let is : message_of text ≡ Some message = rw (l.tree, l.type, l.time) refl in
+    let is : message_of text ≡ Some message = rw (l.tree, l.type, l.time_is) refl in
     rw (l.some, is) (agrees_more ms m l.time (content_of l.name l.whole) _ (matched l.name l.whole m l.lasting l.content) order h)
 
 -- ---- all lines
