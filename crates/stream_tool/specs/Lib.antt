@@ -1,2 +1,4 @@
+pub mod Arguments
 pub mod Refused
+pub mod Running
 pub mod Words

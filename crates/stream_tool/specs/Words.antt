@@ -1,6 +1,5 @@
 -- The arguments that tools share, and why arguments are refused.
-use Rattle.std.specs.Prelude.{◌≡◌, ◌⊎◌, ⊤, ℕ, List, if◌then◌else◌, Option, Some, None, codes}
-use Rattle.std.specs.Io.KnownBytes.{Keeps}
+use Rattle.std.specs.Prelude.{◌≡◌, ⊤, List, if◌then◌else◌, Option, Some, None, codes}
 use Rattle.std.specs.Str.{bytes_eq}
 use Rattle.clap.specs.Faults.{fault_of}
 use Rattle.clap.specs.Kinds.{IsAmong}
@@ -44,18 +43,3 @@ abbrev pub WereRefused : App → List Text → Usage → Type 0
 WereRefused app words (usage.Help text) = AskForHelp app words
 WereRefused app words (usage.Words text) = WereNotAccepted app words
 WereRefused app words usage.Memory = ⊤
-
--- The bytes that the tool reads: those of the input where no file is named, else those of an opened
--- file.
-abbrev pub IsGivenBy : {A File : Type 0} → (remaining : File → Option (List ℕ)) → (input : Option (List ℕ)) → (name : Option A)
-    → (given : Option (List ℕ)) → Type 0
-IsGivenBy remaining input None given = given ≡ input
-IsGivenBy {File = File} remaining input (Some name) given = (file : File) × (given ≡ remaining file)
-
--- No stream was read. Status 0: help was asked for. Status 2: the arguments were refused, or their
--- file could not be opened; the output is unchanged. Status 3: memory was refused.
-abbrev pub WasNotFollowed : App → (NameAFile : Type 0) → (words : List Text) → (before after : Option (List ℕ)) → (status : ℕ) → Type 0
-WasNotFollowed app NameAFile words before after status =
-    ((status ≡ 0) × AskForHelp app words)
-    ⊎ ((status ≡ 2) × Keeps before after × (WereNotAccepted app words ⊎ NameAFile))
-    ⊎ ((status ≡ 3) × Keeps before after)
