@@ -2,9 +2,14 @@
 #![tactic(auto)]
 
 use apply_cli::{PromptingReader, Usage, follow_standard, given_words, refuse_standard};
+use input_validate_cli::Validate;
 use std::env;
 use std::io::{BufWriter, IsTerminal};
 use std::process::ExitCode;
+use stream_check::Check;
+use stream_play::Play;
+use stream_tool::{Tool, run_tool};
+use stream_view::View;
 
 /// Printed when somebody types `applystream check` alone.
 const NO_STREAM: &str =
@@ -40,92 +45,41 @@ fn main(rt: HostRuntime) -> ExitCode {
 /// tool.
 fn use_tool(rt: &HostRuntime, words: &[String]) -> Option<u8> {
     match words.get(1)?.as_str() {
-        "check" => Some(check_stream(rt, words)),
-        "play" => Some(play_stream(rt, words)),
-        "view" => Some(view_stream(rt, words)),
-        "validate" => Some(validate(rt, words)),
+        "check" => Some(run(rt, &Check, words, NO_STREAM)),
+        "play" => Some(run(rt, &Play { clock: rt }, words, NO_STREAM_TO_PLAY)),
+        "view" => {
+            let is_colour_wanted = rt.stdout().is_terminal() && wants_colour(rt);
+            let tool = View { is_colour_wanted };
+            Some(run(rt, &tool, words, NO_STREAM_TO_VIEW))
+        }
+        "validate" => Some(run(rt, &Validate, words, NO_PLAN)),
         _ => None,
     }
 }
 
-/// Checks a stream with the arguments after `check`, and returns the exit status.
-fn check_stream(rt: &HostRuntime, words: &[String]) -> u8 {
-    let words = words.get(2..).unwrap_or(&[]);
-    let is_terminal = rt.stdin().is_terminal();
-    let text = is_terminal.then_some(NO_STREAM);
-    let followed = stream_check::follow(
-        rt,
-        rt.alloc(),
-        words,
-        is_terminal,
-        &mut PromptingReader::new(rt.reader(), rt.stderr(), text),
-        &mut rt.stdout(),
-        &mut rt.stderr(),
-    );
-    followed.status
-}
-
-/// Plays a stream with the arguments after `play`, and returns the exit status.
-fn play_stream(rt: &HostRuntime, words: &[String]) -> u8 {
+/// Runs the tool with the arguments after its name, and returns the exit status. `prompt` is what a
+/// terminal is told where an input is awaited from it.
+fn run<T: Tool>(rt: &HostRuntime, tool: &T, words: &[String], prompt: &'static str) -> u8 {
     let words = words.get(2..).unwrap_or(&[]);
     let Ok(mut output) = BufWriter::with_capacity(rt.alloc(), OUTPUT_ROOM, rt.stdout()) else {
         return refuse_standard(rt, &Usage::Memory);
     };
     let is_terminal = rt.stdin().is_terminal();
-    let text = is_terminal.then_some(NO_STREAM_TO_PLAY);
-    let followed = stream_play::follow(
-        rt,
+    let prompt = is_terminal.then_some(prompt);
+    let outcome = run_tool(
+        tool,
         rt,
         rt.alloc(),
         words,
         is_terminal,
-        &mut PromptingReader::new(rt.reader(), rt.stderr(), text),
+        &mut PromptingReader::new(rt.reader(), rt.stderr(), prompt),
         &mut output,
         &mut rt.stderr(),
     );
     // Bytes that a failed write left in the buffer are given up: a drop would write them once more,
     // after the error was reported.
     let (_stdout, _unwritten) = output.into_parts();
-    followed.status
-}
-
-/// Draws a stream with the arguments after `view`, and returns the exit status.
-fn view_stream(rt: &HostRuntime, words: &[String]) -> u8 {
-    let words = words.get(2..).unwrap_or(&[]);
-    let Ok(mut output) = BufWriter::with_capacity(rt.alloc(), OUTPUT_ROOM, rt.stdout()) else {
-        return refuse_standard(rt, &Usage::Memory);
-    };
-    let is_terminal = rt.stdin().is_terminal();
-    let text = is_terminal.then_some(NO_STREAM_TO_VIEW);
-    let followed = stream_view::follow(
-        rt,
-        rt.alloc(),
-        words,
-        is_terminal,
-        rt.stdout().is_terminal() && wants_colour(rt),
-        &mut PromptingReader::new(rt.reader(), rt.stderr(), text),
-        &mut output,
-        &mut rt.stderr(),
-    );
-    // Bytes that a failed write left in the buffer are given up: a drop would write them once more,
-    // after the error was reported.
-    let (_stdout, _unwritten) = output.into_parts();
-    followed.status
-}
-
-/// Validates a plan and a script with the arguments after `validate`, and returns the exit status.
-fn validate(rt: &HostRuntime, words: &[String]) -> u8 {
-    let words = words.get(2..).unwrap_or(&[]);
-    let text = rt.stdin().is_terminal().then_some(NO_PLAN);
-    let followed = input_validate_cli::follow(
-        rt,
-        rt.alloc(),
-        words,
-        &mut PromptingReader::new(rt.reader(), rt.stderr(), text),
-        &mut rt.stdout(),
-        &mut rt.stderr(),
-    );
-    followed.status
+    outcome.status
 }
 
 /// Whether `NO_COLOR` is absent or empty.

@@ -1,16 +1,15 @@
 -- The options of `check`, the settings they state, and what the command does.
-use Rattle.std.specs.Prelude.{◌≡◌, ℕ, List, [], ◌∷◌, Option, Some, None, IfErr, IfSome, OnOk, IsSome, Result, true, false, codes, is_some, option_map, string_bytes}
-use Rattle.std.specs.Io.KnownBytes.{IsAtEnd}
-use Rattle.clap.specs.Faults.{fault_of}
-use Rattle.clap.specs.Simple.{App, matches_of, new_shape}
+use Rattle.std.specs.Prelude.{◌≡◌, ◌⊎◌, ℕ, Bool, List, [], ◌∷◌, Option, Some, IfSome, Ok, Err, true, false, codes, is_err, is_some, option_map, string_bytes}
+use Rattle.clap.specs.Simple.{App, new_shape}
 use Rattle.clap.specs.Walk.{Row, Text, first_of, one_of}
 use Rattle.stream_lines.specs.Cut.{cut_lines}
-use Rattle.stream_tool.specs.Words.{IsGivenBy, WasNotFollowed, file_rule, flag_rule, unless_dash}
+use Rattle.stream_tool.specs.Arguments.{Arguments}
+use Rattle.stream_tool.specs.Words.{file_rule, flag_rule, unless_dash}
 use Rattle.stream_check.specs.Reading.{IsAnswer}
 use Rattle.stream_check.specs.Reports.{IsReported, status_of}
-use Rattle.stream_check.specs.declared.command.followed.Followed.{Followed}
+use Rattle.stream_check.specs.declared.command.checked.Checked.{Checked}
 use Rattle.stream_check.specs.declared.command.settings.Form.TheVariants as form
-use Rattle.stream_check.specs.declared.verdict.read_fault.ReadFault.{ReadFault}
+use Rattle.stream_check.specs.declared.command.unreported.Unreported.TheVariants.{Gone}
 use Rattle.stream_check.specs.declared.command.settings.Settings.{Settings}
 use Rattle.stream_check.specs.declared.verdict.whole.Whole.{Whole}
 
@@ -38,36 +37,28 @@ pub record AreStated (rows : List Row) (settings : Settings) : Type 0 where
   pub json : one_of (codes "json") rows ≡ Some (codes "true") → settings.form ≡ form.Json
   pub text : one_of (codes "json") rows ≡ Some (codes "false") → settings.form ≡ form.Text
 
--- the arguments were accepted, and state these settings
-pub record StateSettings (words : List Text) (settings : Settings) : Type 0 where
-  pub accepted : fault_of command_line words ≡ []
-  pub stated : AreStated (matches_of command_line words) settings
+-- how arguments state them; all options go together
+abbrev pub arguments : Arguments Settings
+arguments = record {
+  IsCommand = λ app. app ≡ command_line;
+  are_conflicting = λ rows. false;
+  AreStated = AreStated;
+  file = λ settings. option_map string_bytes settings.file;
+}
 
 -- ---- what the command does
 
--- The arguments were accepted, and the verdict on a stream was reported: on the input, or on the
--- file that they name. `remaining` gives the bytes of a file. After a fault, the input was read to
--- its end; `left` is what is left of the input. With a file, nothing of the input was read.
-pub record WasChecked {File : Type 0} (remaining : File → Option (List ℕ)) (words : List Text)
-    (input left before after : Option (List ℕ)) (followed : Followed) : Type 0 where
-  pub settings : Settings
-  pub stated : StateSettings words settings
-  pub answer : Result Whole ReadFault
-  pub answered : followed.answer ≡ Some answer
-  pub bytes : Option (List ℕ)
-  pub given : IsGivenBy remaining input settings.file bytes
-  pub judged : IfSome bytes (λ bytes. IsAnswer settings.mode (cut_lines bytes) answer)
-  pub reported : IsReported (is_some settings.file) settings.mode bytes settings.form answer followed.reported before after
-  pub status : followed.status ≡ status_of answer followed.reported
-  pub read : settings.file ≡ None → IfErr answer (λ fault. OnOk followed.rest (IsAtEnd left))
-  pub unread : IsSome settings.file → left ≡ input
+-- A stream was checked: the verdict, its report, and the exit status.
+pub record HasChecked (settings : Settings) (given before after : Option (List ℕ)) (checked : Checked) (status : ℕ) : Type 0 where
+  pub judged : IfSome given (λ bytes. IsAnswer settings.mode (cut_lines bytes) checked.verdict)
+  pub reported : IsReported (is_some settings.file) settings.mode given settings.form checked.verdict checked.reported before after
+  pub status : status ≡ status_of checked.verdict checked.reported
 
--- the arguments name a file
-pub record NameAFile (words : List Text) : Type 0 where
-  pub settings : Settings
-  pub stated : StateSettings words settings
-  pub named : IsSome settings.file
+-- there is no whole stream
+abbrev pub is_fault : Checked → Bool
+is_fault checked = is_err checked.verdict
 
--- no stream was checked
-abbrev pub WasNotChecked : (words : List Text) → (before after : Option (List ℕ)) → (status : ℕ) → Type 0
-WasNotChecked words before after status = WasNotFollowed command_line (NameAFile words) words before after status
+-- nothing is reported on standard error: a whole stream was reported, or the reader of the output
+-- is gone
+abbrev pub IsSilent : Checked → Type 0
+IsSilent checked = ((whole : Whole) × (checked.verdict ≡ Ok whole) × (checked.reported ≡ Ok tt)) ⊎ (checked.reported ≡ Err Gone)

@@ -7,11 +7,9 @@ mod messages;
 mod rules;
 mod verdict;
 
-pub use command::arguments::read_words;
 pub use command::checked::Checked;
-pub use command::entry_points::{check_command, check_input, follow};
-pub use command::followed::Followed;
 pub use command::settings::{Form, Settings};
+pub use command::tool::Check;
 pub use command::unreported::Unreported;
 pub use messages::action::Action;
 pub use messages::member_fault::MemberFault;

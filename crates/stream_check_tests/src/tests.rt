@@ -13,10 +13,12 @@ use std::alloc::Global;
 use std::io;
 use std::io::{BufRead, BufReader, ErrorKind, Read};
 use std::process::Abort;
+use std::rt::Files;
 use stream_check::{
-    Checker, Fault, Finding, Form, Mode, ReadFault, Totals, Whole, check, check_command,
-    check_input, check_lines, follow,
+    Check, Checker, Fault, Finding, Form, Mode, ReadFault, Settings, Totals, Whole, check,
+    check_lines,
 };
+use stream_tool::{run_input, run_tool};
 
 /// The first line.
 const VERSION: &str = r#"{"type":"version"}"#;

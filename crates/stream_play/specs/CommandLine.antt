@@ -1,15 +1,14 @@
 -- The options of `play`, the settings they state, and what the command does.
-use Rattle.std.specs.Prelude.{◌≡◌, ◌≤◌, ◌⊎◌, ℕ, List, [], ◌∷◌, Option, Some, None, IfErr, IfSome, IsSome, OnOk, Result, Ok, Err, true, codes, option_map, pos, string_bytes}
-use Rattle.std.specs.Io.KnownBytes.{IsAtEnd}
+use Rattle.std.specs.Prelude.{◌≡◌, ◌≤◌, ◌⊎◌, ℕ, Bool, List, [], ◌∷◌, Option, Some, IfSome, IsSome, Result, Ok, Err, false, true, codes, option_map, pos, string_bytes}
 use Rattle.std.specs.Str.Parse.{IsNumeral, digits_value, without_leading_plus}
-use Rattle.clap.specs.Faults.{fault_of}
-use Rattle.clap.specs.Simple.{App, matches_of, new_rule, new_shape}
+use Rattle.clap.specs.Simple.{App, new_rule, new_shape}
 use Rattle.clap.specs.Walk.{Row, Rule, Text, first_of, one_of}
 use Rattle.clap.specs.declared.builder.value_parser.ValueParser.TheVariants as values
-use Rattle.stream_tool.specs.Words.{IsGivenBy, WasNotFollowed, file_rule, unless_dash}
+use Rattle.stream_tool.specs.Arguments.{Arguments}
+use Rattle.stream_tool.specs.Running.{Giving}
+use Rattle.stream_tool.specs.Words.{file_rule, unless_dash}
 use Rattle.stream_play.specs.Due.{most_speed}
 use Rattle.stream_play.specs.Played.{IsPlayed}
-use Rattle.stream_play.specs.declared.command.followed.Followed.{Followed}
 use Rattle.stream_play.specs.declared.command.settings.Settings.{Settings}
 use Rattle.stream_play.specs.declared.play_fault.PlayFault.{PlayFault}
 use Rattle.stream_play.specs.declared.play_fault.PlayFault.TheVariants as play
@@ -44,16 +43,14 @@ pub record AreStated (rows : List Row) (settings : Settings) : Type 0 where
   pub file : option_map string_bytes settings.file ≡ unless_dash (first_of (codes "file") rows)
   pub speed : IfSome (one_of (codes "speed") rows) (λ text. IsSpeed text settings.speed)
 
--- the arguments were accepted, and state these settings
-pub record StateSettings (words : List Text) (settings : Settings) : Type 0 where
-  pub accepted : fault_of command_line words ≡ []
-  pub stated : AreStated (matches_of command_line words) settings
-
--- the arguments name a file
-pub record NameAFile (words : List Text) : Type 0 where
-  pub settings : Settings
-  pub stated : StateSettings words settings
-  pub named : IsSome settings.file
+-- how arguments state them; all options go together
+abbrev pub arguments : Arguments Settings
+arguments = record {
+  IsCommand = λ app. app ≡ command_line;
+  are_conflicting = λ rows. false;
+  AreStated = AreStated;
+  file = λ settings. option_map string_bytes settings.file;
+}
 
 -- ---- what the command does
 
@@ -76,22 +73,15 @@ abbrev pub IsStatusOf : {A : Type 0} → (name : Option A) → Result Unit PlayF
 IsStatusOf name (Ok done) status = status ≡ 0
 IsStatusOf name (Err fault) status = IsFaultStatus name fault status
 
--- The arguments were accepted, and a stream was played: the input, or the file that they name.
--- `remaining` gives the bytes of a file. After a fault, the input was read to its end; `left` is
--- what is left of the input. With a file, nothing of the input was read.
-pub record WasPlayed {File : Type 0} (remaining : File → Option (List ℕ)) (words : List Text)
-    (input left before after : Option (List ℕ)) (followed : Followed) : Type 0 where
-  pub settings : Settings
-  pub stated : StateSettings words settings
-  pub bytes : Option (List ℕ)
-  pub given : IsGivenBy remaining input settings.file bytes
-  pub answer : Result Unit PlayFault
-  pub answered : followed.answer ≡ Some answer
-  pub played : IfSome bytes (λ bytes. IsPlayed bytes before after answer)
-  pub status : IsStatusOf settings.file answer followed.status
-  pub read : settings.file ≡ None → IfErr answer (λ fault. OnOk followed.rest (IsAtEnd left))
-  pub unread : IsSome settings.file → left ≡ input
+-- A stream was played: what was written, and the exit status.
+abbrev pub HasPlayed : Giving Settings (Result Unit PlayFault)
+HasPlayed settings given before after answer status =
+    IfSome given (λ bytes. IsPlayed bytes before after answer) × IsStatusOf settings.file answer status
 
--- no stream was played
-abbrev pub WasNotPlayed : (words : List Text) → (before after : Option (List ℕ)) → (status : ℕ) → Type 0
-WasNotPlayed words before after status = WasNotFollowed command_line (NameAFile words) words before after status
+abbrev pub is_fault : Result Unit PlayFault → Bool
+is_fault (Ok done) = false
+is_fault (Err fault) = true
+
+-- nothing is reported: all was played, or the reader of the output is gone
+abbrev pub IsSilent : Result Unit PlayFault → Type 0
+IsSilent answer = (answer ≡ Ok tt) ⊎ (answer ≡ Err play.Gone)

@@ -1,8 +1,6 @@
-//! The command `play`, from its arguments to its exit status.
+//! The tool `play`: its options, its exit statuses and what it reports.
 
 pub(crate) mod arguments;
-pub(crate) mod entry_points;
-pub(crate) mod followed;
-pub(crate) mod outcome;
 pub(crate) mod refusals;
 pub(crate) mod settings;
+pub(crate) mod tool;

@@ -13,11 +13,8 @@ mod timing;
 mod watch;
 mod writing;
 
-pub use command::arguments::read_words;
-pub use command::entry_points::{follow, play_command, play_input};
-pub use command::followed::Followed;
-pub use command::outcome::Outcome;
 pub use command::settings::Settings;
+pub use command::tool::Play;
 pub use laws::{
     at_speed_1_a_due_is_the_time_from_the_first, dues_never_fall, greater_speed_gives_no_later_due,
 };

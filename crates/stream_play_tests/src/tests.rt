@@ -16,7 +16,8 @@ use std::io::{BufRead, BufReader, ErrorKind, Read, Write};
 use std::process::Abort;
 use std::rt::Files;
 use std::time::{Clock, Duration};
-use stream_play::{PlayFault, Speed, follow, play, play_command, play_input};
+use stream_play::{Play, PlayFault, Settings, Speed, play};
+use stream_tool::{run_input, run_tool};
 use world::{Pieces, Taker, World, new_reader, new_world};
 
 /// An update of 25 seconds, in six lines.

@@ -1,18 +1,17 @@
 //! The arguments of the command.
 
-ghost use Rattle.std.specs.Prelude.{◌≡◌, Some, IfOk, IfErr, codes, map, string_bytes};
+ghost use Rattle.std.specs.Prelude.{◌≡◌, Some, IfOk, codes};
 ghost use Rattle.clap.specs.Matches.{found_of};
 ghost use Rattle.clap.specs.Simple.{app_of};
 ghost use Rattle.clap.specs.Walk.{one_of, rows_of};
-ghost use Rattle.stream_tool.specs.Words.{WereRefused};
-ghost use Rattle.stream_check.specs.CommandLine.{AreStated, StateSettings, command_line};
+ghost use Rattle.stream_check.specs.CommandLine.{AreStated, command_line};
 ghost use Rattle.stream_check.specs.declared.command.settings.Form.TheVariants as forms;
 
 use crate::command::settings::{Form, Settings};
 use crate::rules::mode::Mode;
 use clap::{ArgMatches, Command};
 use std::alloc::{AllocError, Global};
-use stream_tool::{Usage, file, file_of, flag, is_given, matches_of, with_option};
+use stream_tool::{file, file_of, flag, is_given, with_option};
 
 const ABOUT: &str =
     "Reports whether a stream of `terraform apply -json` is whole: each step starts and ends once, in order, and the totals agree.
@@ -45,28 +44,8 @@ const FIND: &str = "Find the messages in the lines of a log, and ignore the othe
 const PLAN: &str =
     "Accept a stream of `terraform plan -json` too, which ends with the plan's summary";
 
-/// Parses the arguments after `check`.
-///
-/// `Err` with `Usage::Help` where they ask for help, with `Usage::Words` where they do not fit, and
-/// with `Usage::Memory` where memory is refused.
-pub fn read_words(alloc: Global, words: &[String]) -> Result<Settings, Usage>
-    ensures stated { IfOk result (StateSettings (map string_bytes words.now)) }
-    ensures refused { IfErr result (WereRefused command_line (map string_bytes words.now)) }
-{
-    let Ok(command) = command(alloc) else {
-        return Err(Usage::Memory);
-    };
-    match matches_of(alloc, command, words) {
-        Ok(matches) => match settings_of(alloc, &matches) {
-            Ok(settings) => Ok(settings),
-            Err(_) => Err(Usage::Memory),
-        },
-        Err(usage) => Err(usage),
-    }
-}
-
 /// Defines the options and their help. `Err` where memory is refused.
-fn command<'a>(alloc: Global) -> Result<Command<'a>, AllocError>
+pub(crate) fn command<'a>(alloc: Global) -> Result<Command<'a>, AllocError>
     ensures { IfOk result (λ command. app_of command ≡ command_line) }
 {
     let line = Ok(
@@ -82,7 +61,7 @@ fn command<'a>(alloc: Global) -> Result<Command<'a>, AllocError>
 }
 
 /// Returns the settings of parsed arguments. `Err` where memory is refused.
-fn settings_of(alloc: Global, matches: &ArgMatches<'_>) -> Result<Settings, AllocError>
+pub(crate) fn settings_of(alloc: Global, matches: &ArgMatches<'_>) -> Result<Settings, AllocError>
     ensures { IfOk result (AreStated (rows_of (found_of matches.now))) }
 {
     let file = file_of(alloc, matches)?;

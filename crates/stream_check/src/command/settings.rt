@@ -1,5 +1,8 @@
 //! The settings of the command.
 
+ghost use Rattle.std.specs.Prelude.{◌≡◌, is_some, option_map, string_bytes};
+ghost use Rattle.std.specs.Option.{option_copied};
+
 use crate::rules::mode::Mode;
 
 /// The form of the verdict.
@@ -20,4 +23,17 @@ pub struct Settings {
     pub form: Form,
     /// The file with the stream. Without a file, or with `-`, the stream is standard input.
     pub file: Option<String>,
+}
+
+impl Settings {
+    /// The file with the stream, where one is named.
+    pub(crate) fn file(&self) -> Option<&str>
+        ensures text { option_copied result ≡ option_map string_bytes self.now.file }
+        ensures named { is_some result ≡ is_some self.now.file }
+    {
+        match &self.file {
+            Some(name) => Some(name.as_str()),
+            None => None,
+        }
+    }
 }

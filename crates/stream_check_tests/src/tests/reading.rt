@@ -101,6 +101,15 @@ fn finding_comes_first(rt: HostRuntime) {
     broken_is_reported(&rt, alloc, b"[]\n", "line 1 is not a message");
 }
 
+/// The settings of a stream on standard input.
+fn of_input(form: Form) -> Settings {
+    Settings {
+        mode: Mode::PLAIN,
+        form,
+        file: None,
+    }
+}
+
 /// The bytes as text.
 fn text_of<'a>(rt: &impl Abort, bytes: &'a [u8]) -> &'a str {
     str::from_utf8(bytes).ok().expect(rt, "a text")
@@ -109,7 +118,7 @@ fn text_of<'a>(rt: &impl Abort, bytes: &'a [u8]) -> &'a str {
 /// Fails where the check prints to the output, reports another message, or ends with another
 /// status. Fails too where no later read fails.
 fn input_is_reported<R: Read>(
-    rt: &impl Abort,
+    rt: &(impl Abort + Files),
     alloc: Global,
     form: Form,
     input: &mut R,
@@ -118,7 +127,7 @@ fn input_is_reported<R: Read>(
 ) {
     let printed = leaked(rt, alloc, Vec::new(alloc));
     let faults = leaked(rt, alloc, Vec::new(alloc));
-    let checked = check_input(alloc, Mode::PLAIN, form, None, input, printed, faults);
+    let checked = run_input(&Check, rt, alloc, &of_input(form), input, printed, faults);
     holds(rt, "printed", printed.is_empty());
     text_is(rt, "said", text_of(rt, faults.as_slice()), message);
     holds(rt, "status", checked.status == status);
@@ -144,28 +153,18 @@ fn behind_a_fault_a_read_fails(rt: HostRuntime) {
     holds(&rt, "all that there is", input.bytes.is_empty());
 }
 
-/// After a fault, the buffer is read to its end too.
+/// After a fault, the input is read to its end.
 #[test]
 fn rest_of_a_reader_with_a_buffer(rt: HostRuntime) {
     let alloc = rt.alloc();
-    let given = b"no message\nand more\n".as_slice();
-    let reader = BufReader::with_capacity(alloc, 7, given);
-    let reader = leaked(&rt, alloc, reader.expect(&rt, "memory"));
+    let mut input = b"no message\nand more\n".as_slice();
     let printed = leaked(&rt, alloc, Vec::new(alloc));
     let faults = leaked(&rt, alloc, Vec::new(alloc));
-    let checked = check_command(
-        alloc,
-        Mode::PLAIN,
-        Form::Text,
-        None,
-        reader,
-        printed,
-        faults,
-    );
+    let settings = of_input(Form::Text);
+    let checked = run_input(&Check, &rt, alloc, &settings, &mut input, printed, faults);
     holds(&rt, "status", checked.status == 4);
     holds(&rt, "no read fails", checked.rest.is_ok());
-    holds(&rt, "all of the buffer", reader.buffer().is_empty());
-    holds(&rt, "all that there is", reader.get_ref().is_empty());
+    holds(&rt, "all that there is", input.is_empty());
 }
 
 /// The length of the reported address: an object with it is larger than any buffer.
@@ -200,17 +199,11 @@ fn object_of_a_long_address(rt: HostRuntime) {
     let printed = leaked(&rt, alloc, Vec::new(alloc));
     let faults = leaked(&rt, alloc, Vec::new(alloc));
     let mut input = stream.as_slice();
-    let checked = check_input(
-        alloc,
-        Mode::PLAIN,
-        Form::Json,
-        None,
-        &mut input,
-        printed,
-        faults,
-    );
+    let settings = of_input(Form::Json);
+    let checked = run_input(&Check, &rt, alloc, &settings, &mut input, printed, faults);
     holds(&rt, "status", checked.status == 4);
-    holds(&rt, "said", checked.reported == Ok(()));
+    let reported = checked.answer.expect(&rt, "a verdict").reported;
+    holds(&rt, "said", reported == Ok(()));
     holds(&rt, "the object", printed.as_slice() == wanted.as_slice());
     holds(&rt, "nothing else", faults.is_empty());
 }

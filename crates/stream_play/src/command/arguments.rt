@@ -1,17 +1,16 @@
 //! The arguments of the command.
 
-ghost use Rattle.std.specs.Prelude.{◌≡◌, false, IfErr, IfOk, IfSome, codes, map, string_bytes};
+ghost use Rattle.std.specs.Prelude.{◌≡◌, false, IfOk, IfSome, codes};
 ghost use Rattle.clap.specs.Matches.{found_of};
 ghost use Rattle.clap.specs.Simple.{app_of};
 ghost use Rattle.clap.specs.Walk.{one_of, rows_of, rule_of};
-ghost use Rattle.stream_tool.specs.Words.{WereRefused};
-ghost use Rattle.stream_play.specs.CommandLine.{AreStated, StateSettings, IsSpeed, command_line, speed_rule};
+ghost use Rattle.stream_play.specs.CommandLine.{AreStated, IsSpeed, command_line, speed_rule};
 
 use crate::command::settings::Settings;
 use crate::speed::Speed;
 use clap::{Arg, ArgMatches, Command, value_parser};
 use std::alloc::{AllocError, Global};
-use stream_tool::{Usage, file, file_of, matches_of, with_option};
+use stream_tool::{file, file_of, with_option};
 
 const ABOUT: &str =
     "Writes a stream of `terraform apply -json` line by line, unchanged, each line at its own time.
@@ -31,23 +30,8 @@ Exit status:
   2  wrong options, a file or a stream that can't be read, or a line that is too long
   3  out of memory, or the output could not be written"#;
 
-/// Parses the arguments after `play`.
-///
-/// `Err` with `Usage::Help` where they ask for help, with `Usage::Words` where they do not fit, and
-/// with `Usage::Memory` where memory is refused.
-pub fn read_words(alloc: Global, words: &[String]) -> Result<Settings, Usage>
-    ensures stated { IfOk result (StateSettings (map string_bytes words.now)) }
-    ensures refused { IfErr result (WereRefused command_line (map string_bytes words.now)) }
-{
-    let command = command(alloc)?;
-    match matches_of(alloc, command, words) {
-        Ok(matches) => Ok(settings_of(alloc, &matches)?),
-        Err(usage) => Err(usage),
-    }
-}
-
 /// Defines the options and their help. `Err` where memory is refused.
-fn command<'a>(alloc: Global) -> Result<Command<'a>, AllocError>
+pub(crate) fn command<'a>(alloc: Global) -> Result<Command<'a>, AllocError>
     ensures { IfOk result (λ command. app_of command ≡ command_line) }
 {
     let line = Ok(
@@ -72,7 +56,7 @@ fn speed<'a>(alloc: Global) -> Arg<'a>
 }
 
 /// Returns the settings of parsed arguments. `Err` where memory is refused.
-fn settings_of(alloc: Global, matches: &ArgMatches<'_>) -> Result<Settings, AllocError>
+pub(crate) fn settings_of(alloc: Global, matches: &ArgMatches<'_>) -> Result<Settings, AllocError>
     ensures { IfOk result (AreStated (rows_of (found_of matches.now))) }
 {
     let file = file_of(alloc, matches)?;

@@ -1,5 +1,8 @@
 //! The settings of the command.
 
+ghost use Rattle.std.specs.Prelude.{◌≡◌, option_map, string_bytes};
+ghost use Rattle.std.specs.Option.{option_copied};
+
 use crate::speed::Speed;
 
 /// The settings that the arguments of `play` state.
@@ -9,4 +12,16 @@ pub struct Settings {
     pub speed: Speed,
     /// The file with the stream. Without a file, or with `-`, the stream is standard input.
     pub file: Option<String>,
+}
+
+impl Settings {
+    /// The file with the stream, where one is named.
+    pub(crate) fn file(&self) -> Option<&str>
+        ensures { option_copied result ≡ option_map string_bytes self.now.file }
+    {
+        match &self.file {
+            Some(name) => Some(name.as_str()),
+            None => None,
+        }
+    }
 }

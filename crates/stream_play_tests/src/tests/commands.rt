@@ -8,10 +8,18 @@ fn no_bytes(rt: &impl Abort, alloc: Global) -> &'static mut Vec<u8> {
     leaked(rt, alloc, Vec::new(alloc))
 }
 
+/// The settings of a stream on standard input.
+fn of_input(speed: u32) -> Settings {
+    Settings {
+        speed: Speed::new(speed),
+        file: None,
+    }
+}
+
 /// Plays `UPDATE` into a writer that fails after `room` bytes. Fails where the status, the written
 /// bytes or the message differ.
 fn ends_with(
-    rt: &impl Abort,
+    rt: &(impl Abort + Files),
     alloc: Global,
     is_broken: bool,
     room: usize,
@@ -36,8 +44,15 @@ fn ends_with(
         kind,
     };
     let faults = no_bytes(rt, alloc);
-    let speed = Speed::new(86_400);
-    let outcome = play_input(alloc, world, speed, None, &mut input, &mut taker, faults);
+    let outcome = run_input(
+        &Play { clock: world },
+        rt,
+        alloc,
+        &of_input(86_400),
+        &mut input,
+        &mut taker,
+        faults,
+    );
     holds(rt, "status", outcome.status == status);
     holds(rt, "said", faults.as_slice() == message.as_bytes());
     holds(rt, "what came out", taker.has_all());
@@ -72,20 +87,32 @@ fn line_that_is_too_long(rt: HostRuntime) {
     let mut input = front.chain(io::repeat(b' ').take(67_108_865));
     let taken = no_bytes(&rt, alloc);
     let faults = no_bytes(&rt, alloc);
-    let speed = Speed::new(1);
-    let outcome = play_input(alloc, world, speed, None, &mut input, taken, faults);
+    let outcome = run_input(
+        &Play { clock: world },
+        &rt,
+        alloc,
+        &of_input(1),
+        &mut input,
+        taken,
+        faults,
+    );
     holds(&rt, "status", outcome.status == 2);
     holds(&rt, "what came out", taken.as_slice() == front);
     let message = "applystream: line 3 is longer than 67108864 bytes\n";
     holds(&rt, "said", faults.as_slice() == message.as_bytes());
 }
 
-/// Where the output fails, the buffer is read to its end too.
+/// Where the output fails, the input is read to its end.
 #[test]
 fn rest_of_a_reader_with_a_buffer(rt: HostRuntime) {
     let alloc = rt.alloc();
     let world = new_world(&rt, alloc, "");
-    let reader = new_reader(&rt, alloc, world, UPDATE, 7);
+    let mut input = Pieces {
+        world,
+        bytes: UPDATE.as_bytes(),
+        most: 7,
+        is_broken: false,
+    };
     let mut taker = Taker {
         world,
         wanted: UPDATE.as_bytes(),
@@ -95,14 +122,20 @@ fn rest_of_a_reader_with_a_buffer(rt: HostRuntime) {
         kind: ErrorKind::StorageFull,
     };
     let faults = no_bytes(&rt, alloc);
-    let speed = Speed::new(1);
-    let outcome = play_command(alloc, world, speed, None, reader, &mut taker, faults);
+    let outcome = run_input(
+        &Play { clock: world },
+        &rt,
+        alloc,
+        &of_input(1),
+        &mut input,
+        &mut taker,
+        faults,
+    );
     holds(&rt, "status", outcome.status == 3);
-    let unwritten = Err(PlayFault::Unwritten);
+    let unwritten = Some(Err(PlayFault::Unwritten));
     holds(&rt, "the fault", outcome.answer == unwritten);
     holds(&rt, "no read fails", outcome.rest.is_ok());
-    holds(&rt, "all of the buffer", reader.buffer().is_empty());
-    holds(&rt, "all that there is", reader.get_ref().bytes.is_empty());
+    holds(&rt, "all that there is", input.bytes.is_empty());
 }
 
 /// Runs `play` with one argument. Fails where the status, the start of the message, or the rest of
@@ -122,9 +155,9 @@ fn word_leaves(
     let mut input: &[u8] = b"a\n";
     let out = no_bytes(rt, alloc);
     let faults = no_bytes(rt, alloc);
-    let result = follow(
+    let result = run_tool(
+        &Play { clock: world },
         rt,
-        world,
         alloc,
         array::from_ref(word),
         is_terminal,
