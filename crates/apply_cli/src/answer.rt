@@ -4,11 +4,11 @@ ghost use Rattle.std.specs.Prelude.{◌≡◌, ◌≤◌};
 ghost use Rattle.std.specs.Io.KnownBytes.{Keeps};
 ghost use Rattle.apply_cli.specs.Status.{hook_status_of, usage_status_of};
 
-use crate::reporting::report;
 use crate::status::{FAILED, REFUSED};
 use apply_cli_args::{Usage, VERSION};
 use apply_hooks::HookError;
 use std::io::Write;
+use stream_tool::report;
 
 /// Reports why the arguments give no invocation, and returns the exit status: 0 for help and the
 /// version, 3 if memory was refused, else 2.

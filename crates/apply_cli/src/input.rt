@@ -7,7 +7,7 @@ ghost use Rattle.apply_plan.specs.Bytes.{max_bytes};
 use crate::input_fault::InputFault;
 use apply_plan::MAX_BYTES;
 use std::alloc::{AllocError, Global};
-use std::io::{self, Read};
+use std::io::Read;
 
 /// One byte more than a plan may have, so that a longer plan is known to be too long.
 const MAX_READ: usize = MAX_BYTES + 1;
@@ -43,16 +43,6 @@ pub(crate) fn read_input<R: Read>(
         }
         Err(fault) => (Err(fault), false),
     }
-}
-
-/// Reads the rest of the input and drops it, so that whoever writes into the pipe is not stopped.
-/// Returns whether the end was reached: `false` only after a failed read.
-///
-/// A read that a signal interrupted is repeated. No memory of the heap is taken.
-pub fn drain<R: Read>(input: &mut R) -> bool
-    ensures { result ≡ true → IsAtEnd (R.remaining input.new) }
-{
-    io::copy(input, &mut io::sink()).is_ok()
 }
 
 /// Returns the first bytes of the input, up to the limit, read through a buffer that this function

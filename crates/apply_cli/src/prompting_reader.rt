@@ -4,8 +4,8 @@ ghost use Rattle.std.specs.Prelude.{◌≡◌};
 ghost use Rattle.std.specs.Io.{ReadsAtMost};
 ghost use Rattle.std.specs.Io.KnownBytes.{ReadConsumes};
 
-use crate::reporting::report;
 use std::io::{self, Read, Write};
+use stream_tool::report;
 
 /// A reader that prints on `faults`, before its first read, what it waits for. So a person who
 /// types a command without an input sees why nothing happens.

@@ -6,11 +6,9 @@ ghost use Rattle.std.specs.Io.KnownBytes.{Keeps};
 use crate::status::{REFUSED, refusal_status};
 use apply_run::{Refusal, StdSink};
 use std::fmt::Display;
-use std::io::{Cursor, Write};
+use std::io::Write;
+use stream_tool::report;
 use thiserror::Error;
-
-/// How many bytes of the line of an error go out in one write.
-const LINE_ROOM: usize = 256;
 
 /// Why a plan was not applied, and a second line which says that `applystream validate` reports
 /// every error and its place. One value, so that both lines go out in one write.
@@ -46,21 +44,4 @@ pub(crate) fn report_refusal<W: Write + Drop, E: Write>(
     } else {
         report_unless_gone(output, faults, refusal);
     }
-}
-
-/// Reports an error on a line of its own. A line that cannot be written is dropped, since there is
-/// nowhere left to report that.
-///
-/// The line goes out in one write, so that it stays whole next to other writers, and takes no
-/// memory of the heap. A line longer than 256 bytes goes out in pieces; no error of this program is
-/// that long.
-pub fn report<E: Write, D: Display + Drop>(faults: &mut E, fault: D) {
-    let mut line = Cursor::new([0u8; LINE_ROOM]);
-    let _ = match writeln!(line, "applystream: {fault}") {
-        Ok(()) => {
-            let end = (line.position() as usize).min(LINE_ROOM);
-            faults.write_all(&line.get_ref()[..end])
-        }
-        Err(_) => writeln!(faults, "applystream: {fault}"),
-    };
 }

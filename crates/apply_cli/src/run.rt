@@ -10,7 +10,7 @@ ghost use Rattle.apply_cli.specs.CommandInForm.{HasAppliedInForm, HasBegunInForm
 ghost use Rattle.apply_cli.specs.Options.{options_of};
 ghost use Rattle.apply_cli.specs.Status.{input_status_of};
 
-use crate::input::{drain, read_input};
+use crate::input::read_input;
 use crate::input_fault::InputFault;
 use crate::options::run_options;
 use crate::reporting::{report_refusal, report_unless_gone};
@@ -26,6 +26,7 @@ use std::alloc::Global;
 use std::io::{Read, Write};
 use std::sync::Wait;
 use std::thread::Threads;
+use stream_lines::drain;
 
 /// Reads a plan, and writes the stream of its apply with the settings, the hooks and the script.
 /// Without a script each step succeeds after 0 seconds. Returns the output and the exit status:
@@ -122,7 +123,8 @@ pub fn run_command_in_form<R: Read + Drop, W: Write + Drop, E: Write, T: Threads
 }
 
 /// Reads the rest of an input that was not read to its end, and drops it. What was reported on
-/// `faults` is flushed before. Returns whether the end was reached, as `drain` does.
+/// `faults` is flushed before. Returns whether the end was reached: `false` only after a failed
+/// read.
 pub(crate) fn finish_reading<R: Read, E: Write>(
     is_whole: bool,
     input: &mut R,
@@ -136,7 +138,7 @@ pub(crate) fn finish_reading<R: Read, E: Write>(
         return true;
     }
     let _ = faults.flush();
-    drain(input)
+    drain(input).is_ok()
 }
 
 /// Does what `run_command_in_form` does, with an input that was already read, or with the error of

@@ -7,12 +7,12 @@ ghost use Rattle.apply_cli.specs.Status.{input_status_of};
 
 use crate::input::read_all;
 use crate::input_fault::InputFault;
-use crate::reporting::report;
 use crate::status::input_status;
 use std::alloc::Global;
 use std::fs;
 use std::io::Write;
 use std::rt::Files;
+use stream_tool::report;
 
 /// Returns the bytes of the file, at most 67,108,865. `Err` with `InputFault::Read` if it cannot be
 /// opened or read, and with `InputFault::Memory` if memory is refused.

@@ -3,13 +3,13 @@
 ghost use Rattle.std.specs.Prelude.{◌≤◌};
 
 use crate::answer::answer_usage;
-use crate::input::drain;
 use crate::program::follow;
 use crate::prompting_reader::PromptingReader;
 use apply_cli_args::Usage;
 use std::io::{BufWriter, IsTerminal};
 use std::sync::Wait;
 use std::thread::Threads;
+use stream_lines::drain;
 
 /// How many bytes of output are buffered before a write.
 const OUTPUT_ROOM: usize = 65_536;

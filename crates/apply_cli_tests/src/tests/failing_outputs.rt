@@ -2,6 +2,7 @@
 
 use super::*;
 use std::fmt::Display;
+use stream_tool::report;
 
 /// A replacement that creates first.
 pub(super) const FAILED_DESTROY: &str =
