@@ -1,5 +1,5 @@
 -- A value that was read, and the fault that a read ends with, or does not.
-use Rattle.std.proofs.Common.{◌≡◌, Option, Some, Result, Ok, Err, refl}
+use Rattle.std.proofs.Common.{◌≡◌, Some, Result, Ok, Err, refl}
 use Rattle.serde_json.specs.Data.{Data, null, boolean, number, string, array, object}
 use Rattle.apply_json.specs.declared.shallow.Shallow.{Shallow}
 use Rattle.apply_json.specs.declared.shallow.Shallow.TheVariants as scalar

@@ -1,20 +1,19 @@
 -- The values of slots are the members of the tree: for tools that read by slots, and prove by trees.
-use Rattle.std.proofs.Common.{◌≡◌, ℕ, ℤ, List, codes, true, Option, Some, None, refl, sym, ap, ◌∙◌}
+use Rattle.std.proofs.Common.{◌≡◌, ℕ, List, codes, true, Option, Some, None, refl, sym, ap, ◌∙◌}
 use Rattle.std.specs.Prelude.{option_map}
-use Rattle.serde_json.specs.Data.{Data, null, boolean, number, string, array, object, Members}
+use Rattle.serde_json.specs.Data.{Data, null, boolean, number, string, array, object}
 use Rattle.serde_json.specs.Find.{get_member}
 use Rattle.apply_json.specs.ShallowView.{ShallowView, members_in, shallow_view, shallow_of, shallow_text, shallow_whole}
 use Rattle.apply_json.specs.Tree.{◌>>=◌, member_of, text_of, unless_null}
 use Rattle.apply_json.proofs.Held.{member_in, text_in, whole_in}
 use Rattle.stream_message.specs.declared.inner_slot.InnerSlot.{InnerSlot}
-use Rattle.stream_message.specs.declared.kind.Kind.{Kind}
 use Rattle.stream_message.specs.declared.line_slots.LineSlots.{LineSlots}
 use Rattle.stream_message.specs.declared.presence.Presence.{Presence}
 use Rattle.stream_message.specs.declared.selection.Selection.{Selection}
 use Rattle.stream_message.specs.Kinds.{kind_named}
 use Rattle.stream_message.specs.Members.{address_of, change_action, changes_count, changes_text, count_of, diagnostic_file, diagnostic_line, diagnostic_text, file_of, hook_count, hook_text, kind_of, line_of, message_time, type_of, version_of}
 use Rattle.stream_message.specs.Slots.{HoldsLine, inner_of, inner_view, inside, shallow_value}
-use Rattle.stream_message.specs.SlotValues.{action_in, added_in, address_in, changed_in, detail_in, file_in, imported_in, kind_in, line_in, operation_in, place_in, provisioner_in, removed_in, seconds_in, severity_in, summary_in, text_in_inner, text_of_slot, time_in, type_in, version_in, whole_in_inner, whole_of_slot}
+use Rattle.stream_message.specs.SlotValues.{action_in, added_in, address_in, changed_in, detail_in, file_in, imported_in, kind_in, line_in, operation_in, diagnostic_address_in, provisioner_in, removed_in, seconds_in, severity_in, summary_in, text_in_inner, text_of_slot, time_in, type_in, version_in, whole_of_slot}
 use Rattle.stream_message.specs.Timestamp.{instant_of}
 
 -- ---- a member of a value that was read
@@ -161,8 +160,8 @@ module _ (selection : Selection) (line : LineSlots) (d : Data) (holds : HoldsLin
     severity_is = diagnostic_text_is (codes "severity") _ (holds.diagnostic selected).1.severity
 
     -- the address of the resource that the diagnostic is about
-    pub place_is : place_in line.diagnostic ≡ diagnostic_text (codes "address") d
-    place_is = diagnostic_text_is (codes "address") _ (holds.diagnostic selected).1.address
+    pub diagnostic_address_is : diagnostic_address_in line.diagnostic ≡ diagnostic_text (codes "address") d
+    diagnostic_address_is = diagnostic_text_is (codes "address") _ (holds.diagnostic selected).1.address
 
     module _ (texts : selection.diagnostic_texts ≡ true) where
       pub summary_is : summary_in line.diagnostic ≡ diagnostic_text (codes "summary") d

@@ -61,8 +61,8 @@ abbrev pub severity_in : DiagnosticSlots → Option (List ℕ)
 severity_in diagnostic = text_of_slot (option_map shallow_view diagnostic.severity)
 
 -- the address of the resource that the diagnostic is about
-abbrev pub place_in : DiagnosticSlots → Option (List ℕ)
-place_in diagnostic = text_of_slot (option_map shallow_view diagnostic.address)
+abbrev pub diagnostic_address_in : DiagnosticSlots → Option (List ℕ)
+diagnostic_address_in diagnostic = text_of_slot (option_map shallow_view diagnostic.address)
 
 abbrev pub summary_in : DiagnosticSlots → Option (List ℕ)
 summary_in diagnostic = shallow_text (shallow_view diagnostic.summary)

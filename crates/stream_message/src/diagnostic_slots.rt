@@ -5,7 +5,7 @@ ghost use Rattle.std.specs.Option.{option_copied};
 ghost use Rattle.serde_json.specs.Data.{Data};
 ghost use Rattle.apply_json.specs.Tokens.{IsNoValue, IsRead};
 ghost use Rattle.stream_message.specs.Slots.{HoldsDiagnostic, inside, presence_of};
-ghost use Rattle.stream_message.specs.SlotValues.{detail_in, file_in, line_in, place_in, severity_in, summary_in};
+ghost use Rattle.stream_message.specs.SlotValues.{detail_in, file_in, line_in, diagnostic_address_in, severity_in, summary_in};
 
 use crate::members::text_in;
 use crate::presence::Presence;
@@ -84,7 +84,7 @@ impl<'a> DiagnosticSlots<'a> {
 
     /// Returns the address of the resource that the diagnostic is about.
     pub fn address(&self) -> Option<&'a str>
-        ensures { option_copied result ≡ place_in self.now }
+        ensures { option_copied result ≡ diagnostic_address_in self.now }
     {
         text_in(self.address)
     }

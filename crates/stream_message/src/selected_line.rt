@@ -66,7 +66,8 @@ impl<'a> Slots<'a> for SelectedLine<'a> {
 /// to the length of the line.
 ///
 /// `Err` with `JsonFault::NotJson` where the text is not UTF-8, is no JSON (RFC 8259), or nests
-/// more than 127 deep. `Err` with `JsonFault::Memory` where memory is refused.
+/// more than 127 deep. `Err` with `JsonFault::Memory` where memory is refused. No line is
+/// `JsonFault::TooLarge`.
 #[inline(always)]
 pub fn read_line<'a>(
     alloc: Global,

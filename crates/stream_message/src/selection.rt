@@ -1,7 +1,7 @@
 //! Which members of a line a tool reads.
 
-/// The members of a line that a tool reads. `type` is always read. Members that are not selected
-/// are skipped, and their slots stay empty.
+/// The members of a line that a tool reads, beside `type`, which is always read. All others are
+/// skipped.
 #[derive(Clone, Copy)]
 pub struct Selection {
     /// `@timestamp`.

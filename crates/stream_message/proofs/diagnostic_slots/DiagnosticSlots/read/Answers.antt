@@ -1,4 +1,4 @@
-use Rattle.std.proofs.Common.{◌≡◌, Bool, codes, refl, subst}
+use Rattle.std.proofs.Common.{Bool, refl, subst}
 use Rattle.apply_json.specs.declared.read_fault.ReadFault.TheVariants.{NotJson}
 use Rattle.apply_json.proofs.VerbatimValues.{as_whole}
 use Rattle.stream_message.specs.Slots.{HoldsDiagnostic, inside}
