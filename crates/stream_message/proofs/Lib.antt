@@ -1,0 +1,3 @@
+pub mod ReadValues
+pub mod Slots
+pub mod TreeMembers

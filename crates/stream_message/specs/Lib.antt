@@ -1,0 +1,6 @@
+pub mod Kinds
+pub mod Members
+pub mod Selected
+pub mod SlotValues
+pub mod Slots
+pub mod Timestamp
