@@ -1,5 +1,4 @@
 pub mod Dues
-pub mod Timestamps
 pub mod Parsed
 pub mod Sent
 pub mod Speeds

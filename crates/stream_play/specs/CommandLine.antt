@@ -1,5 +1,5 @@
 -- The options of `play`, the settings they state, and what the command does.
-use Rattle.std.specs.Prelude.{◌≡◌, ◌≤◌, ◌⊎◌, ℕ, Bool, List, [], ◌∷◌, Option, Some, IfSome, IsSome, Result, Ok, Err, false, true, codes, option_map, pos, string_bytes}
+use Rattle.std.specs.Prelude.{◌≡◌, ◌≤◌, ◌⊎◌, ℕ, Bool, List, [], ◌∷◌, Some, IfSome, Result, Ok, Err, false, true, codes, is_some, option_map, pos, string_bytes}
 use Rattle.std.specs.Str.Parse.{IsNumeral, digits_value, without_leading_plus}
 use Rattle.clap.specs.Simple.{App, new_rule, new_shape}
 use Rattle.clap.specs.Walk.{Row, Rule, Text, first_of, one_of}
@@ -64,19 +64,19 @@ fault_status_of play.Unwritten = 3
 
 -- The status of the fault. For a file that could not be read it is 3 where memory was refused for
 -- the message.
-abbrev pub IsFaultStatus : {A : Type 0} → (name : Option A) → PlayFault → ℕ → Type 0
-IsFaultStatus name (play.Unread failed) status = (status ≡ 2) ⊎ ((status ≡ 3) × IsSome name)
-IsFaultStatus name fault status = status ≡ fault_status_of fault
+abbrev pub IsFaultStatus : (is_named : Bool) → PlayFault → ℕ → Type 0
+IsFaultStatus is_named (play.Unread failed) status = (status ≡ 2) ⊎ ((status ≡ 3) × (is_named ≡ true))
+IsFaultStatus is_named fault status = status ≡ fault_status_of fault
 
 -- 0 where all lines were written and flushed; else the status of the fault
-abbrev pub IsStatusOf : {A : Type 0} → (name : Option A) → Result Unit PlayFault → ℕ → Type 0
-IsStatusOf name (Ok done) status = status ≡ 0
-IsStatusOf name (Err fault) status = IsFaultStatus name fault status
+abbrev pub IsStatusOf : (is_named : Bool) → Result Unit PlayFault → ℕ → Type 0
+IsStatusOf is_named (Ok done) status = status ≡ 0
+IsStatusOf is_named (Err fault) status = IsFaultStatus is_named fault status
 
 -- A stream was played: what was written, and the exit status.
 abbrev pub HasPlayed : Giving Settings (Result Unit PlayFault)
 HasPlayed settings given before after answer status =
-    IfSome given (λ bytes. IsPlayed bytes before after answer) × IsStatusOf settings.file answer status
+    IfSome given (λ bytes. IsPlayed bytes before after answer) × IsStatusOf (is_some settings.file) answer status
 
 abbrev pub is_fault : Result Unit PlayFault → Bool
 is_fault (Ok done) = false

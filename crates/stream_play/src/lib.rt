@@ -6,7 +6,6 @@ mod laws;
 mod pace;
 mod play_fault;
 mod playing;
-mod shape;
 mod speed;
 mod timestamp;
 mod timing;

@@ -1,6 +1,6 @@
 //! Reports why a stream was not played to its end.
 
-ghost use Rattle.std.specs.Prelude.{◌≡◌};
+ghost use Rattle.std.specs.Prelude.{◌≡◌, is_some};
 ghost use Rattle.std.specs.Io.KnownBytes.{Keeps};
 ghost use Rattle.stream_play.specs.CommandLine.{IsFaultStatus, fault_status_of};
 ghost use Rattle.stream_play.specs.declared.play_fault.PlayFault.TheVariants.{Gone};
@@ -14,7 +14,7 @@ use stream_tool::{FAILED, REFUSED, refuse_unread, report};
 /// exit status. Nothing is reported where the reader of the output is gone. Whoever ended that
 /// reader, as `head` ends, knows.
 pub fn refuse<E: Write>(alloc: Global, faults: &mut E, name: Option<&str>, fault: PlayFault) -> u8
-    ensures status { IsFaultStatus name.entry fault result }
+    ensures status { IsFaultStatus (is_some name.entry) fault result }
     ensures gone { fault ≡ Gone → Keeps (E.contents faults.old) (E.contents faults.new) }
 {
     match (fault, name) {

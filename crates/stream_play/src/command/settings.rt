@@ -1,6 +1,6 @@
 //! The settings of the command.
 
-ghost use Rattle.std.specs.Prelude.{◌≡◌, option_map, string_bytes};
+ghost use Rattle.std.specs.Prelude.{◌≡◌, is_some, option_map, string_bytes};
 ghost use Rattle.std.specs.Option.{option_copied};
 
 use crate::speed::Speed;
@@ -17,7 +17,8 @@ pub struct Settings {
 impl Settings {
     /// The file with the stream, where one is named.
     pub(crate) fn file(&self) -> Option<&str>
-        ensures { option_copied result ≡ option_map string_bytes self.now.file }
+        ensures text { option_copied result ≡ option_map string_bytes self.now.file }
+        ensures named { is_some result ≡ is_some self.now.file }
     {
         match &self.file {
             Some(name) => Some(name.as_str()),

@@ -31,6 +31,7 @@ pub struct Play<'a, C> {
 
 impl<C: Clock> Tool for Play<'_, C> {
     type Settings = Settings;
+
     type Answer = Result<(), PlayFault>;
 
     ghost arguments = { arguments };
