@@ -1,10 +1,13 @@
 -- The values of slots are the members of the tree: for tools that read by slots, and prove by trees.
-use Rattle.std.proofs.Common.{◌≡◌, ℕ, List, codes, true, Option, Some, None, refl, sym, ap, ◌∙◌}
+use Rattle.std.proofs.Common.{◌≡◌, arith, length, ℕ, List, codes, true, Option, Some, None, refl, sym, ap, ◌∙◌}
 use Rattle.std.specs.Prelude.{option_map}
 use Rattle.serde_json.specs.Data.{Data, null, boolean, number, string, array, object}
 use Rattle.serde_json.specs.Find.{get_member}
+use Rattle.apply_json.specs.declared.json_fault.JsonFault.{JsonFault}
+use Rattle.apply_json.specs.declared.json_fault.JsonFault.TheVariants.{TooLarge, NotJson, Memory}
+use Rattle.apply_json.specs.Parsed.{IsNoTree}
 use Rattle.apply_json.specs.ShallowView.{ShallowView, members_in, shallow_view, shallow_of, shallow_text, shallow_whole}
-use Rattle.apply_json.specs.Tree.{◌>>=◌, member_of, text_of, unless_null}
+use Rattle.apply_json.specs.Tree.{◌>>=◌, member_of, text_of, tree_of, unless_null}
 use Rattle.apply_json.proofs.Held.{member_in, text_in, whole_in}
 use Rattle.stream_message.specs.declared.inner_slot.InnerSlot.{InnerSlot}
 use Rattle.stream_message.specs.declared.line_slots.LineSlots.{LineSlots}
@@ -188,3 +191,17 @@ module _ (selection : Selection) (line : LineSlots) (d : Data) (holds : HoldsLin
             each : (o : Option Data) → (((o >>= member_of (codes "range")) >>= member_of (codes "start")) >>= count_of (codes "line")) ≡ (o >>= line_of)
             each None = refl
             each (Some m) = refl
+
+-- ---- texts
+
+-- a text with a fault that is not want of memory has no tree
+pub no_tree : (fault : JsonFault) (text : List ℕ) → (fault ≡ Memory → ⊥) → IsNoTree (length text) fault text → tree_of text ≡ None
+no_tree TooLarge text never is = absurd (omega (arith, is))
+no_tree NotJson text never is = is.1
+no_tree Memory text never is = absurd (never refl)
+
+-- the timestamp of the message in a text that was read
+pub text_time_is : (selection : Selection) (line : LineSlots) (text : List ℕ) → (d : Data) × (tree_of text ≡ Some d) × HoldsLine selection line (members_in d)
+    → selection.timestamp ≡ true → time_in line ≡ (tree_of text >>= message_time)
+text_time_is selection line text read selected =
+    time_is selection line read.0 read.2 selected ∙ sym (ap (λ (o : Option Data). o >>= message_time) read.1)
