@@ -1,6 +1,6 @@
 //! Which members of a line a tool reads.
 
-/// The members of a line that a tool reads, beside `type`, which is always read. All others are
+/// The members of a line that a tool reads next to `type`, which is always read. All others are
 /// skipped.
 #[derive(Clone, Copy)]
 pub struct Selection {
