@@ -9,11 +9,12 @@ use Rattle.input_validate.specs.Whole.{plan_findings}
 use Rattle.input_validate.specs.declared.findings.finding.Finding.{Finding}
 use Rattle.input_validate.specs.declared.form.Form.{Form}
 use Rattle.input_validate.specs.declared.form.Form.TheVariants.{Applystream, Terraform}
-use Rattle.input_validate_cli.specs.Causes.{IsWriteFault}
+use Rattle.stream_tool.specs.declared.writing.WriteFault.{WriteFault}
+use Rattle.stream_tool.specs.declared.writing.WriteFault.TheVariants as write
+use Rattle.input_validate_cli.specs.Causes.{as_validate_fault}
 use Rattle.input_validate_cli.specs.Lines.{line_count, lines_for}
 use Rattle.input_validate_cli.specs.Validated.{IsReport, ReportsOn, WasReported}
 use Rattle.input_validate_cli.specs.declared.command.validate_fault.ValidateFault.{ValidateFault}
-use Rattle.input_validate_cli.specs.declared.command.validate_fault.ValidateFault.TheVariants as fault
 
 -- without a script there are no findings
 none_without : (form : Form) (lanes : Bool) (plan : List ℕ) (script : Option (List ℕ)) → is_some script ≡ false → findings_in form lanes plan script ≡ []
@@ -40,10 +41,10 @@ given_copied None = refl
 given_copied (Some a) = refl
 
 module _ (form : Form) (lanes : Bool) (plan : List ℕ) (script : Option (List ℕ)) where
-  pub begun : (why : ValidateFault) (text : List ℕ) (before after : Option (List ℕ)) → IsWriteFault why → IsReport form lanes plan script text
+  -- a beginning of a report was written
+  pub begun : (failed : WriteFault) (why : ValidateFault) (text : List ℕ) (before after : Option (List ℕ)) → why ≡ as_validate_fault failed → IsReport form lanes plan script text
       → (n : ℕ) × Appends before after (take n text) → WasReported form lanes plan script before after (Err why)
-  begun (fault.Plan failed) text before after is reports part = absurd is
-  begun (fault.Script failed) text before after is reports part = absurd is
-  begun fault.Memory text before after is reports part = absurd is
-  begun fault.Gone text before after is reports part = (refl, record { text = text; reports = reports; count = part.0; written = part.1 })
-  begun fault.Unwritten text before after is reports part = (refl, record { text = text; reports = reports; count = part.0; written = part.1 })
+  begun write.Gone why text before after is reports part =
+      subst (λ (f : ValidateFault). WasReported form lanes plan script before after (Err f)) (sym is) (refl, record { text = text; reports = reports; count = part.0; written = part.1 })
+  begun write.Unwritten why text before after is reports part =
+      subst (λ (f : ValidateFault). WasReported form lanes plan script before after (Err f)) (sym is) (refl, record { text = text; reports = reports; count = part.0; written = part.1 })
