@@ -1,8 +1,10 @@
 -- The outcome of a validation.
-use Rattle.std.proofs.Common.{◌≡◌, ◌∙◌, ◌+◌, ℕ, List, [], length, Bool, false, Bor, Option, None, Some, Err, refl, subst, sym, take}
-use Rattle.std.specs.Prelude.{is_some}
-use Rattle.std.specs.Io.KnownBytes.{Appends}
+use Rattle.std.proofs.Common.{◌≡◌, ◌∙◌, ◌+◌, ℕ, List, [], length, Bool, false, Bor, Option, None, Some, Result, Ok, Err, arith, refl, subst, sym, take}
+use Rattle.std.specs.Prelude.{OnErr, is_some}
+use Rattle.std.specs.Io.KnownBytes.{Appends, Keeps}
 use Rattle.std.specs.Option.{option_copied}
+use Rattle.std.proofs.KnownBytes.{Appends-kept}
+use Rattle.std.proofs.lemmas.List.{take_all}
 use Rattle.input_validate.specs.Findings.{Reported, reported}
 use Rattle.input_validate.specs.InForm.{findings_in}
 use Rattle.input_validate.specs.Whole.{plan_findings}
@@ -39,6 +41,13 @@ is_report form lanes plan script of_plan of_script given text is_given is_plan i
 pub given_copied : {A : Type 0} (given : Option (Bor A)) → is_some given ≡ is_some (option_copied given)
 given_copied None = refl
 given_copied (Some a) = refl
+
+-- the whole text was written, then flushed
+pub flushed : {A E : Type 0} (made : Result A E) (before written after : Option (List ℕ)) (text : List ℕ) → Appends before written text → Keeps written after
+    → OnErr made ((n : ℕ) × Appends before after (take n text))
+flushed (Ok done) before written after text appended kept = tt
+flushed (Err failed) before written after text appended kept =
+    (length text, subst (Appends before after) (sym (take_all (length text) text (omega arith))) (Appends-kept before written after text appended kept))
 
 module _ (form : Form) (lanes : Bool) (plan : List ℕ) (script : Option (List ℕ)) where
   -- a beginning of a report was written
