@@ -1,6 +1,6 @@
 -- The outcome of a validation.
 use Rattle.std.proofs.Common.{◌≡◌, ◌∙◌, ◌+◌, ℕ, List, [], length, Bool, false, Bor, Option, None, Some, Result, Ok, Err, arith, refl, subst, sym, take}
-use Rattle.std.specs.Prelude.{OnErr, is_some}
+use Rattle.std.specs.Prelude.{IsErrAnd, OnErr, is_some}
 use Rattle.std.specs.Io.KnownBytes.{Appends, Keeps}
 use Rattle.std.specs.Option.{option_copied}
 use Rattle.std.proofs.KnownBytes.{Appends-kept}
@@ -50,10 +50,11 @@ flushed (Err failed) before written after text appended kept =
     (length text, subst (Appends before after) (sym (take_all (length text) text (omega arith))) (Appends-kept before written after text appended kept))
 
 module _ (form : Form) (lanes : Bool) (plan : List ℕ) (script : Option (List ℕ)) where
-  -- a beginning of a report was written
-  pub begun : (failed : WriteFault) (why : ValidateFault) (text : List ℕ) (before after : Option (List ℕ)) → why ≡ as_validate_fault failed → IsReport form lanes plan script text
-      → (n : ℕ) × Appends before after (take n text) → WasReported form lanes plan script before after (Err why)
-  begun write.Gone why text before after is reports part =
+  -- a write failed, after a beginning of the report
+  pub begun : (failed : WriteFault) (made : Result ℕ ValidateFault) (text : List ℕ) (before after : Option (List ℕ)) → IsErrAnd made (λ why. why ≡ as_validate_fault failed)
+      → IsReport form lanes plan script text → (n : ℕ) × Appends before after (take n text) → WasReported form lanes plan script before after made
+  begun failed (Ok status) text before after is reports part = absurd is
+  begun write.Gone (Err why) text before after is reports part =
       subst (λ (f : ValidateFault). WasReported form lanes plan script before after (Err f)) (sym is) (refl, record { text = text; reports = reports; count = part.0; written = part.1 })
-  begun write.Unwritten why text before after is reports part =
+  begun write.Unwritten (Err why) text before after is reports part =
       subst (λ (f : ValidateFault). WasReported form lanes plan script before after (Err f)) (sym is) (refl, record { text = text; reports = reports; count = part.0; written = part.1 })
