@@ -1,4 +1,3 @@
+pub mod CommandLine
 pub mod LineCounts
 pub mod Outcomes
-pub mod Parsed
-pub mod Written

@@ -1,19 +1,22 @@
 -- The outcome of a validation.
-use Rattle.std.proofs.Common.{◌≡◌, ◌∙◌, ◌+◌, ℕ, List, [], length, Bool, false, Bor, Option, None, Some, Err, refl, subst, sym, take}
-use Rattle.std.specs.Prelude.{is_some}
-use Rattle.std.specs.Io.KnownBytes.{Appends}
+use Rattle.std.proofs.Common.{◌≡◌, ◌∙◌, ◌+◌, ℕ, List, [], length, Bool, false, Bor, Option, None, Some, Result, Ok, Err, arith, refl, subst, sym, take}
+use Rattle.std.specs.Prelude.{IsErrAnd, OnErr, is_some}
+use Rattle.std.specs.Io.KnownBytes.{Appends, Keeps}
 use Rattle.std.specs.Option.{option_copied}
+use Rattle.std.proofs.KnownBytes.{Appends-kept}
+use Rattle.std.proofs.lemmas.List.{take_all}
 use Rattle.input_validate.specs.Findings.{Reported, reported}
 use Rattle.input_validate.specs.InForm.{findings_in}
 use Rattle.input_validate.specs.Whole.{plan_findings}
 use Rattle.input_validate.specs.declared.findings.finding.Finding.{Finding}
 use Rattle.input_validate.specs.declared.form.Form.{Form}
 use Rattle.input_validate.specs.declared.form.Form.TheVariants.{Applystream, Terraform}
-use Rattle.input_validate_cli.specs.Causes.{IsWriteFault}
+use Rattle.stream_tool.specs.declared.writing.WriteFault.{WriteFault}
+use Rattle.stream_tool.specs.declared.writing.WriteFault.TheVariants as write
+use Rattle.input_validate_cli.specs.Causes.{as_validate_fault}
 use Rattle.input_validate_cli.specs.Lines.{line_count, lines_for}
 use Rattle.input_validate_cli.specs.Validated.{IsReport, ReportsOn, WasReported}
 use Rattle.input_validate_cli.specs.declared.command.validate_fault.ValidateFault.{ValidateFault}
-use Rattle.input_validate_cli.specs.declared.command.validate_fault.ValidateFault.TheVariants as fault
 
 -- without a script there are no findings
 none_without : (form : Form) (lanes : Bool) (plan : List ℕ) (script : Option (List ℕ)) → is_some script ≡ false → findings_in form lanes plan script ≡ []
@@ -39,11 +42,19 @@ pub given_copied : {A : Type 0} (given : Option (Bor A)) → is_some given ≡ i
 given_copied None = refl
 given_copied (Some a) = refl
 
+-- the whole text was written, then flushed
+pub flushed : {A E : Type 0} (made : Result A E) (before written after : Option (List ℕ)) (text : List ℕ) → Appends before written text → Keeps written after
+    → OnErr made ((n : ℕ) × Appends before after (take n text))
+flushed (Ok done) before written after text appended kept = tt
+flushed (Err failed) before written after text appended kept =
+    (length text, subst (Appends before after) (sym (take_all (length text) text (omega arith))) (Appends-kept before written after text appended kept))
+
 module _ (form : Form) (lanes : Bool) (plan : List ℕ) (script : Option (List ℕ)) where
-  pub begun : (why : ValidateFault) (text : List ℕ) (before after : Option (List ℕ)) → IsWriteFault why → IsReport form lanes plan script text
-      → (n : ℕ) × Appends before after (take n text) → WasReported form lanes plan script before after (Err why)
-  begun (fault.Plan failed) text before after is reports part = absurd is
-  begun (fault.Script failed) text before after is reports part = absurd is
-  begun fault.Memory text before after is reports part = absurd is
-  begun fault.Gone text before after is reports part = (refl, record { text = text; reports = reports; count = part.0; written = part.1 })
-  begun fault.Unwritten text before after is reports part = (refl, record { text = text; reports = reports; count = part.0; written = part.1 })
+  -- a write failed, after a beginning of the report
+  pub begun : (failed : WriteFault) (made : Result ℕ ValidateFault) (text : List ℕ) (before after : Option (List ℕ)) → IsErrAnd made (λ why. why ≡ as_validate_fault failed)
+      → IsReport form lanes plan script text → (n : ℕ) × Appends before after (take n text) → WasReported form lanes plan script before after made
+  begun failed (Ok status) text before after is reports part = absurd is
+  begun write.Gone (Err why) text before after is reports part =
+      subst (λ (f : ValidateFault). WasReported form lanes plan script before after (Err f)) (sym is) (refl, record { text = text; reports = reports; count = part.0; written = part.1 })
+  begun write.Unwritten (Err why) text before after is reports part =
+      subst (λ (f : ValidateFault). WasReported form lanes plan script before after (Err f)) (sym is) (refl, record { text = text; reports = reports; count = part.0; written = part.1 })

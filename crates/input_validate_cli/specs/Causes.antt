@@ -1,31 +1,29 @@
 -- Why findings were not written.
-use Rattle.std.specs.Prelude.{⊤, ℕ}
-use Rattle.input_validate_cli.specs.declared.command.inputs.ReadFault.{ReadFault}
-use Rattle.input_validate_cli.specs.declared.command.inputs.ReadFault.TheVariants as read
+use Rattle.std.specs.Prelude.{⊤, ℕ, Option, IsSome}
+use Rattle.stream_tool.specs.declared.writing.WriteFault.{WriteFault}
+use Rattle.stream_tool.specs.declared.writing.WriteFault.TheVariants as write
 use Rattle.input_validate_cli.specs.declared.command.validate_fault.ValidateFault.{ValidateFault}
 use Rattle.input_validate_cli.specs.declared.command.validate_fault.ValidateFault.TheVariants as fault
 
--- the plan was not read
-abbrev pub plan_fault : ReadFault → ValidateFault
-plan_fault (read.Unread failed) = fault.Plan failed
-plan_fault read.Memory = fault.Memory
-
--- the script was not read
-abbrev pub script_fault : ReadFault → ValidateFault
-script_fault (read.Unread failed) = fault.Script failed
-script_fault read.Memory = fault.Memory
-
 -- a write or a flush failed
-abbrev pub IsWriteFault : ValidateFault → Type 0
-IsWriteFault (fault.Plan failed) = ⊥
-IsWriteFault (fault.Script failed) = ⊥
-IsWriteFault fault.Memory = ⊥
-IsWriteFault fault.Gone = ⊤
-IsWriteFault fault.Unwritten = ⊤
+abbrev pub as_validate_fault : WriteFault → ValidateFault
+as_validate_fault write.Gone = fault.Gone
+as_validate_fault write.Unwritten = fault.Unwritten
+
+-- An input was not read: the plan, the script that the settings name, or any of them for want of
+-- memory.
+abbrev pub IsReadFault : {A : Type 0} → (script : Option A) → ValidateFault → Type 0
+IsReadFault script (fault.Plan failed) = ⊤
+IsReadFault script fault.Unopened = IsSome script
+IsReadFault script (fault.Script failed) = IsSome script
+IsReadFault script fault.Memory = ⊤
+IsReadFault script fault.Gone = ⊥
+IsReadFault script fault.Unwritten = ⊥
 
 -- the exit status for this cause
 abbrev pub fault_status_of : ValidateFault → ℕ
 fault_status_of (fault.Plan failed) = 2
+fault_status_of fault.Unopened = 2
 fault_status_of (fault.Script failed) = 2
 fault_status_of fault.Memory = 3
 fault_status_of fault.Gone = 3

@@ -1,17 +1,14 @@
--- What the words after `validate` state: the options as `clap` takes them, and the setting that
--- each option gives.
-use Rattle.std.specs.Prelude.{◌≡◌, ◌⊎◌, List, [], ◌∷◌, Some, true, codes, if◌then◌else◌, IsSome, is_some, option_map, pos, string_bytes}
+-- The arguments of `validate`: the options as `clap` takes them, and the setting that each option
+-- gives.
+use Rattle.std.specs.Prelude.{◌≡◌, List, [], ◌∷◌, None, Some, false, true, codes, if◌then◌else◌, is_some, option_map, pos, string_bytes}
 use Rattle.std.specs.Borrow.{Bor}
 use Rattle.std.specs.Option.{option_map_or}
 use Rattle.std.specs.Str.{bytes_eq}
-use Rattle.clap.specs.Faults.{fault_of}
-use Rattle.clap.specs.Simple.{App, matches_of, new_rule, new_shape}
+use Rattle.clap.specs.Simple.{App, new_rule, new_shape}
 use Rattle.clap.specs.Walk.{Row, Rule, Text, first_of, texts}
 use Rattle.clap.specs.declared.builder.value_parser.ValueParser.{ValueParser}
 use Rattle.clap.specs.declared.builder.value_parser.ValueParser.TheVariants as values
-use Rattle.stream_tool.specs.Words.{WereRefused}
-use Rattle.stream_tool.specs.declared.usage.Usage.{Usage}
-use Rattle.stream_tool.specs.declared.usage.Usage.TheVariants as usage
+use Rattle.stream_tool.specs.Arguments.{Arguments}
 use Rattle.input_validate.specs.declared.form.Form.{Form}
 use Rattle.input_validate.specs.declared.form.Form.TheVariants.{Applystream, Terraform}
 use Rattle.input_validate_cli.specs.declared.command.arguments.Settings.{Settings}
@@ -47,7 +44,7 @@ form_rule forms = record (new_rule (codes "form")) {
   defaults = codes "applystream" ∷ [];
 }
 
--- the command, whose words are those after `validate`
+-- the command, whose arguments are those after `validate`
 abbrev pub command_line : (forms : ValueParser) → App
 command_line forms = record {
   top = record (new_shape (codes "applystream validate")) {
@@ -57,15 +54,11 @@ command_line forms = record {
   subs = [];
 }
 
--- this holds for the command; its option takes the words for forms
-abbrev pub ByCommand : (App → Type 0) → Type 0
-ByCommand IsSo = (forms : ValueParser) × TakesForms forms × IsSo (command_line forms)
+-- this is the command, however its option holds the words for forms
+abbrev pub IsCommand : App → Type 0
+IsCommand app = (forms : ValueParser) × TakesForms forms × (app ≡ command_line forms)
 
--- this holds for the command, however its option holds the words for forms
-abbrev pub ByEachCommand : (App → Type 0) → Type 0
-ByEachCommand IsSo = (forms : ValueParser) → TakesForms forms → IsSo (command_line forms)
-
--- ---- what the words state
+-- ---- what the arguments state
 
 abbrev pub form_of_word : Text → Form
 form_of_word word = if bytes_eq word (codes "terraform") then Terraform else Applystream
@@ -80,21 +73,11 @@ pub record AreStated (rows : List Row) (settings : Settings) : Type 0 where
   pub lanes : settings.lanes ≡ is_some (first_of (codes "parallelism") rows)
   pub form : settings.form ≡ form_stated rows
 
--- the words are valid, and state these settings
-pub record HaveStated (words : List Text) (settings : Settings) : Type 0 where
-  pub forms : ValueParser
-  pub are_forms : TakesForms forms
-  pub valid : fault_of (command_line forms) words ≡ []
-  pub stated : AreStated (matches_of (command_line forms) words) settings
-
--- the words name a script
-pub record NameAScript (words : List Text) : Type 0 where
-  pub settings : Settings
-  pub stated : HaveStated words settings
-  pub named : IsSome settings.script
-
--- ---- why the words are refused
-
--- the words ask for help, or are not words of this command, or memory was refused
-abbrev pub StateNoSettings : (words : List Text) → Usage → Type 0
-StateNoSettings words why = (why ≡ usage.Memory) ⊎ ByCommand (λ app. WereRefused app words why)
+-- No options exclude each other. Without a file, the plan is read from standard input.
+abbrev pub arguments : Arguments Settings
+arguments = record {
+  IsCommand = IsCommand;
+  are_conflicting = λ rows. false;
+  AreStated = AreStated;
+  file = λ settings. None;
+}

@@ -1,20 +1,15 @@
--- The outcome of the words after `validate`.
-use Rattle.std.specs.Prelude.{◌≡◌, ◌+◌, ◌<◌, ◌⊎◌, ⊤, ℕ, List, [], Bool, false, Option, Some, None, IfSome, IsSome, Result, Ok, Err, codes, if◌then◌else◌, is_some, length, take}
+-- What `validate` reads, writes and answers.
+use Rattle.std.specs.Prelude.{◌≡◌, ◌+◌, ◌<◌, ⊤, ℕ, List, [], Bool, false, Option, Some, None, IfSome, IsSome, Result, Ok, Err, codes, if◌then◌else◌, is_some, length, take}
 use Rattle.std.specs.Io.KnownBytes.{Appends, Keeps}
-use Rattle.clap.specs.Walk.{Text}
 use Rattle.apply_plan.specs.Bytes.{max_bytes}
-use Rattle.stream_tool.specs.Words.{AskForHelp, WereNotAccepted}
+use Rattle.stream_tool.specs.Running.{Giving}
 use Rattle.input_validate.specs.Findings.{Reported, reported}
 use Rattle.input_validate.specs.declared.form.Form.{Form}
 use Rattle.input_validate.specs.InForm.{findings_in}
 use Rattle.input_validate.specs.Whole.{plan_findings}
-use Rattle.input_validate_cli.specs.Causes.{fault_status_of, script_fault}
-use Rattle.input_validate_cli.specs.CommandLine.{ByCommand, HaveStated, NameAScript}
+use Rattle.input_validate_cli.specs.Causes.{fault_status_of}
 use Rattle.input_validate_cli.specs.Lines.{line_count, lines_for}
 use Rattle.input_validate_cli.specs.Statuses.{status_for}
-use Rattle.input_validate_cli.specs.declared.command.followed.Followed.{Followed}
-use Rattle.input_validate_cli.specs.declared.command.inputs.ScriptFault.{ScriptFault}
-use Rattle.input_validate_cli.specs.declared.command.inputs.ScriptFault.TheVariants as of
 use Rattle.input_validate_cli.specs.declared.command.arguments.Settings.{Settings}
 use Rattle.input_validate_cli.specs.declared.command.validate_fault.ValidateFault.{ValidateFault}
 use Rattle.input_validate_cli.specs.declared.command.validate_fault.ValidateFault.TheVariants as fault
@@ -58,6 +53,7 @@ abbrev pub HasOutcome : Form → (lanes : Bool) → (plan : List ℕ) → (scrip
 HasOutcome form lanes plan script before after status (Ok done) =
     IsReported form lanes plan script before after × (status ≡ status_for form lanes plan script)
 HasOutcome form lanes plan script before after status (Err (fault.Plan failed)) = ⊥
+HasOutcome form lanes plan script before after status (Err fault.Unopened) = ⊥
 HasOutcome form lanes plan script before after status (Err (fault.Script failed)) = ⊥
 HasOutcome form lanes plan script before after status (Err fault.Memory) = (status ≡ 3) × Keeps before after
 HasOutcome form lanes plan script before after status (Err fault.Gone) = (status ≡ 3) × IsBegun form lanes plan script before after
@@ -79,45 +75,29 @@ IsScriptOf remaining None (Some bytes) = ⊥
 IsScriptOf remaining (Some name) None = ⊥
 IsScriptOf {File = File} remaining (Some name) (Some bytes) = (file : File) × IsReadOf (remaining file) bytes
 
--- this holds for what was read with these settings: the plan of the input, and the script of the
--- named file
-pub record IsOfRead {File : Type 0} (remaining : File → Option (List ℕ)) (settings : Settings) (input : Option (List ℕ))
+-- this holds for what was read with these settings: the plan, and the script of the named file
+pub record IsOfRead {File : Type 0} (remaining : File → Option (List ℕ)) (settings : Settings) (given : Option (List ℕ))
     (IsSo : List ℕ → Option (List ℕ) → Type 0) : Type 0 where
   pub plan : List ℕ
   pub script : Option (List ℕ)
-  pub plan_read : IsReadOf input plan
+  pub plan_read : IsReadOf given plan
   pub script_read : IsScriptOf remaining settings.script script
   pub so : IsSo plan script
 
--- The outcome with these settings. A read of the plan or of the script failed: status 2, and the
--- output is unchanged. Or memory was refused: status 3, and the output is unchanged. Or the inputs
--- were validated.
-abbrev pub HasCome : {File : Type 0} → (remaining : File → Option (List ℕ)) → Settings → (input before after : Option (List ℕ)) → (status : ℕ)
-    → Result (Unit {0}) ValidateFault → Type 0
-HasCome remaining settings input before after status (Err (fault.Plan failed)) = (status ≡ 2) × Keeps before after
-HasCome remaining settings input before after status (Err (fault.Script failed)) = (status ≡ 2) × Keeps before after × IsSome settings.script
-HasCome remaining settings input before after status (Err fault.Memory) = (status ≡ 3) × Keeps before after
-HasCome remaining settings input before after status answer =
-    IsOfRead remaining settings input (λ plan script. HasOutcome settings.form settings.lanes plan script before after status answer)
+-- What `validate` gives with these settings, for the bytes of the plan. A read of the plan or the
+-- script failed, or the script's file could not be opened: status 2, and the output is unchanged.
+-- Memory was refused: status 3, and the output is unchanged. Else the inputs were validated.
+-- `remaining` gives the bytes of a file.
+abbrev pub HasValidated : {File : Type 0} → (remaining : File → Option (List ℕ)) → Giving Settings (Result (Unit {0}) ValidateFault)
+HasValidated remaining settings given before after (Err (fault.Plan failed)) status = (status ≡ 2) × Keeps before after
+HasValidated remaining settings given before after (Err fault.Unopened) status = (status ≡ 2) × Keeps before after × IsSome settings.script
+HasValidated remaining settings given before after (Err (fault.Script failed)) status = (status ≡ 2) × Keeps before after × IsSome settings.script
+HasValidated remaining settings given before after (Err fault.Memory) status = (status ≡ 3) × Keeps before after
+HasValidated remaining settings given before after answer status =
+    IsOfRead remaining settings given (λ plan script. HasOutcome settings.form settings.lanes plan script before after status answer)
 
--- the words state settings, and this is the outcome with them
-pub record WasValidated {File : Type 0} (remaining : File → Option (List ℕ)) (words : List Text) (input before after : Option (List ℕ)) (status : ℕ)
-    (answer : Result (Unit {0}) ValidateFault) : Type 0 where
-  pub settings : Settings
-  pub stated : HaveStated words settings
-  pub came : HasCome remaining settings input before after status answer
-
--- the outcome if the script was not read
-abbrev pub IsScriptRefused : ScriptFault → Followed → Type 0
-IsScriptRefused of.Unopened followed = followed ≡ record { status = 2; answer = None }
-IsScriptRefused (of.Unread why) followed =
-    followed ≡ record { status = fault_status_of (script_fault why); answer = Some (Err (script_fault why)) }
-
--- No input was read. Help was asked for: status 0. Or the words are wrong, or the script's file
--- could not be opened: status 2, and the output is unchanged. Or memory was refused: status 3, and
--- the output is unchanged.
-abbrev pub WasNotValidated : (words : List Text) → (before after : Option (List ℕ)) → (status : ℕ) → Type 0
-WasNotValidated words before after status =
-    ((status ≡ 0) × ByCommand (λ app. AskForHelp app words))
-    ⊎ ((status ≡ 2) × Keeps before after × (ByCommand (λ app. WereNotAccepted app words) ⊎ NameAScript words))
-    ⊎ ((status ≡ 3) × Keeps before after)
+-- nothing is reported: the findings were written, or the reader of the output is gone
+abbrev pub IsSilent : Result (Unit {0}) ValidateFault → Type 0
+IsSilent (Ok done) = ⊤
+IsSilent (Err fault.Gone) = ⊤
+IsSilent (Err why) = ⊥

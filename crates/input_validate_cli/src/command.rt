@@ -1,11 +1,9 @@
-//! The command `validate`, from its arguments to its exit status.
+//! The tool `validate`: its arguments, what it reads, and what it writes.
 
 pub mod arguments;
-pub mod entry_points;
-pub mod failed_read;
-pub mod followed;
 pub mod inputs;
 pub mod refusals;
 pub mod report_text;
+pub mod tool;
 pub mod validate_fault;
-pub mod writing;
+pub mod validating;

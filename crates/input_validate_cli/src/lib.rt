@@ -1,14 +1,13 @@
-//! `applystream validate`: the command that prints the errors of a plan and a script.
+//! `applystream validate`: the tool that lists the errors of a plan and a script.
 #![tactic(auto)]
 
 mod command;
 mod input_sizes;
 mod texts;
 
-pub use command::arguments::{Settings, read_words};
-pub use command::entry_points::{follow, validate};
-pub use command::failed_read::FailedRead;
-pub use command::followed::{Followed, Outcome};
+pub use command::arguments::Settings;
 pub use command::report_text::report_text;
+pub use command::tool::Validate;
 pub use command::validate_fault::ValidateFault;
+pub use command::validating::validate;
 pub use input_sizes::InputSizes;

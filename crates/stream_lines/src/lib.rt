@@ -7,6 +7,7 @@ mod limits;
 mod line;
 mod line_fault;
 mod line_reader;
+mod reading;
 
 pub use draining::drain;
 pub use failed_read::FailedRead;
@@ -14,3 +15,4 @@ pub use limits::MAX_BYTES;
 pub use line::{Line, LineEnd};
 pub use line_fault::LineFault;
 pub use line_reader::next_line;
+pub use reading::read_once;

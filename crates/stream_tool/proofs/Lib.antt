@@ -1,2 +1,3 @@
 pub mod Parsed
 mod Refusing
+mod Written

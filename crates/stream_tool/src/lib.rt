@@ -13,6 +13,7 @@ mod running;
 mod status;
 mod tool;
 mod usage;
+mod writing;
 
 pub use arguments::{file, file_of};
 pub use draining::flush_and_drain;
@@ -25,3 +26,4 @@ pub use running::{read_words, run_input, run_tool};
 pub use status::{FAILED, REFUSED};
 pub use tool::Tool;
 pub use usage::Usage;
+pub use writing::{WriteFault, flush, write_whole};

@@ -1,15 +1,16 @@
-//! The words of the command line.
+//! The arguments of `validate`.
 
-ghost use Rattle.std.specs.Prelude.{◌≡◌, IfOk, IfErr, false, codes, is_some, map, option_map, string_bytes};
+ghost use Rattle.std.specs.Prelude.{◌≡◌, IfOk, false, true, codes, is_some, option_map, string_bytes};
+ghost use Rattle.clap.specs.Faults.{is_simple_and_free};
 ghost use Rattle.clap.specs.Matches.{found_of};
-ghost use Rattle.clap.specs.Simple.{app_of};
+ghost use Rattle.clap.specs.Simple.{app_of, is_simple};
 ghost use Rattle.clap.specs.Walk.{first_of, rows_of, rule_of};
-ghost use Rattle.input_validate_cli.specs.CommandLine.{AreStated, HaveStated, StateNoSettings, TakesForms, command_line, form_of_word, form_rule, form_stated, parallelism_rule, script_rule};
+ghost use Rattle.input_validate_cli.specs.CommandLine.{AreStated, IsCommand, TakesForms, form_of_word, form_rule, form_stated, parallelism_rule, script_rule};
 
 use clap::{Arg, ArgMatches, Command, value_parser};
 use input_validate::Form;
 use std::alloc::{AllocError, Global};
-use stream_tool::{Usage, matches_of, with_option};
+use stream_tool::with_option;
 
 /// The values of `--form`.
 static FORMS: [&str; 2] = ["applystream", "terraform"];
@@ -30,7 +31,7 @@ Exit status:
   2  a run with these options refuses the plan or the script; or wrong options, or a file or a plan that can't be read
   3  out of memory, or the output could not be written"#;
 
-/// What the words after `validate` state.
+/// What the arguments state.
 #[derive(Debug, Drop)]
 pub struct Settings {
     /// The name of the script's file, if one is given.
@@ -41,24 +42,11 @@ pub struct Settings {
     pub form: Form,
 }
 
-/// Reads the settings from the words after `validate`.
-///
-/// `Err` is `Usage::Help` if they ask for help, `Usage::Words` if they are not words of this
-/// command, and `Usage::Memory` if memory was refused.
-pub fn read_words(alloc: Global, words: &[String]) -> Result<Settings, Usage>
-    ensures stated { IfOk result (HaveStated (map string_bytes words.now)) }
-    ensures refused { IfErr result (StateNoSettings (map string_bytes words.now)) }
-{
-    let command = command(alloc)?;
-    match matches_of(alloc, command, words) {
-        Ok(matches) => Ok(settings_of(alloc, &matches)?),
-        Err(usage) => Err(usage),
-    }
-}
-
-/// Makes the options and their help. `Err` means that memory was refused.
-fn command<'a>(alloc: Global) -> Result<Command<'a>, AllocError>
-    ensures { IfOk result (λ command. (forms : _) × TakesForms forms × (app_of command ≡ command_line forms)) }
+/// Defines the options and their help. `Err` where memory is refused.
+pub fn command<'a>(alloc: Global) -> Result<Command<'a>, AllocError>
+    ensures is { IfOk result (λ command. IsCommand (app_of command)) }
+    ensures simple { IfOk result (λ command. is_simple (app_of command) ≡ true) }
+    ensures free { IfOk result (λ command. is_simple_and_free (app_of command) ≡ true) }
 {
     let line = Ok(
         Command::new(alloc, "applystream validate")
@@ -105,8 +93,8 @@ fn form<'a>(alloc: Global) -> Arg<'a>
         )
 }
 
-/// Reads the settings from parsed words. `Err` means that memory was refused.
-fn settings_of(alloc: Global, matches: &ArgMatches<'_>) -> Result<Settings, AllocError>
+/// Returns the settings of parsed arguments. `Err` where memory is refused.
+pub fn settings_of(alloc: Global, matches: &ArgMatches<'_>) -> Result<Settings, AllocError>
     ensures { IfOk result (AreStated (rows_of (found_of matches.now))) }
 {
     let script = script_of(alloc, matches)?;
@@ -117,7 +105,7 @@ fn settings_of(alloc: Global, matches: &ArgMatches<'_>) -> Result<Settings, Allo
     })
 }
 
-/// Reads the name of the script's file. `Err` means that memory was refused.
+/// Returns the name of the script's file. `Err` where memory is refused.
 fn script_of(alloc: Global, matches: &ArgMatches<'_>) -> Result<Option<String>, AllocError>
     ensures { IfOk result (λ script. option_map string_bytes script ≡ first_of (codes "script") (rows_of (found_of matches.now))) }
 {
@@ -137,7 +125,7 @@ fn has_parallelism(matches: &ArgMatches<'_>) -> bool
     }
 }
 
-/// Reads the form. Without `--form` it is this program's own.
+/// Returns the form. Without `--form` it is this program's own.
 fn form_of(matches: &ArgMatches<'_>) -> Form
     ensures { result ≡ form_stated (rows_of (found_of matches.now)) }
 {

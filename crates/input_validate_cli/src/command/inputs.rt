@@ -1,13 +1,20 @@
 //! Reads the plan and the script.
 
-ghost use Rattle.std.specs.Prelude.{◌≡◌, ◌<◌, ◌≤◌, ◌+◌, ◌++◌, ℕ, List, IfOk, IfSome, length, take};
+ghost use Rattle.std.specs.Prelude.{◌≡◌, ◌<◌, ◌≤◌, ◌+◌, ◌++◌, ℕ, List, IfErr, IfOk, IfSome, length, option_map, take};
 ghost use Rattle.std.specs.Io.KnownBytes.{Consumes, IsAtEnd};
-ghost use Rattle.input_validate_cli.specs.Validated.{IsReadOf};
+ghost use Rattle.std.specs.Option.{option_copied};
+ghost use Rattle.input_validate_cli.specs.Causes.{IsReadFault};
+ghost use Rattle.input_validate_cli.specs.Validated.{IsReadOf, IsScriptOf};
 
-use crate::command::failed_read::{FailedRead, read_once};
+use crate::command::arguments::Settings;
+use crate::command::validate_fault::ValidateFault;
+use crate::input_sizes::InputSizes;
 use apply_plan::MAX_BYTES;
 use std::alloc::{AllocError, AllocFailed, Global};
+use std::fs;
 use std::io::Read;
+use std::rt::Files;
+use stream_lines::{FailedRead, read_once};
 
 /// One byte more than an input may have, so that an input that is too large can be told.
 const MAX_READ: usize = MAX_BYTES + 1;
@@ -51,13 +58,80 @@ impl<T: Drop> From<AllocFailed<T>> for ReadFault {
     }
 }
 
-/// Why the script was not read.
-#[derive(Clone, Copy)]
-pub enum ScriptFault {
-    /// The file could not be opened.
-    Unopened,
-    /// The file could not be read.
-    Unread(ReadFault),
+/// The plan, and the script where the settings name one.
+#[derive(Drop)]
+pub struct Inputs {
+    pub plan: ReadInput,
+    pub script: Option<ReadInput>,
+}
+
+impl Inputs {
+    /// Returns the stored bytes of the script.
+    pub fn script_bytes(&self) -> Option<&[u8]>
+        ensures { option_copied result ≡ option_map (λ read. read.bytes.items) self.now.script }
+    {
+        match &self.script {
+            Some(read) => Some(read.bytes.as_slice()),
+            None => None,
+        }
+    }
+
+    /// Returns the sizes of the inputs.
+    pub fn sizes(&self) -> InputSizes {
+        let script = match &self.script {
+            Some(read) => read.len,
+            None => 0,
+        };
+        InputSizes {
+            plan: self.plan.len,
+            script,
+        }
+    }
+}
+
+/// Reads the script where the settings name one, and then the plan.
+///
+/// `Err` with `ValidateFault::Unopened` where the script's file can't be opened. `Err` with
+/// `ValidateFault::Script` and `ValidateFault::Plan` where a read of the script or the plan fails,
+/// and with `ValidateFault::Memory` where memory is refused.
+pub fn read_inputs<F: Files, R: Read>(
+    files: &F,
+    alloc: Global,
+    settings: &Settings,
+    input: &mut R,
+) -> Result<Inputs, ValidateFault>
+    ensures plan { IfOk result (λ inputs. IsReadOf (R.remaining input.old) inputs.plan.bytes.items) }
+    ensures script { IfOk result (λ inputs. IsScriptOf F.File.remaining settings.now.script (option_map (λ read. read.bytes.items) inputs.script)) }
+    ensures failed { IfErr result (IsReadFault settings.now.script) }
+{
+    let script = read_script(files, alloc, settings)?;
+    match read_all(alloc, input) {
+        Ok(plan) => Ok(Inputs { plan, script }),
+        Err(ReadFault::Unread(failed)) => Err(ValidateFault::Plan(failed)),
+        Err(ReadFault::Memory) => Err(ValidateFault::Memory),
+    }
+}
+
+/// Reads the script where the settings name one. `Err` is as in `read_inputs`.
+fn read_script<F: Files>(
+    files: &F,
+    alloc: Global,
+    settings: &Settings,
+) -> Result<Option<ReadInput>, ValidateFault>
+    ensures script { IfOk result (λ script. IsScriptOf F.File.remaining settings.now.script (option_map (λ read. read.bytes.items) script)) }
+    ensures failed { IfErr result (IsReadFault settings.now.script) }
+{
+    let Some(name) = &settings.script else {
+        return Ok(None);
+    };
+    let Ok(mut file) = fs::open(files, name.as_str()) else {
+        return Err(ValidateFault::Unopened);
+    };
+    match read_all(alloc, &mut file) {
+        Ok(script) => Ok(Some(script)),
+        Err(ReadFault::Unread(failed)) => Err(ValidateFault::Script(failed)),
+        Err(ReadFault::Memory) => Err(ValidateFault::Memory),
+    }
 }
 
 /// Reads an input to its end. No more than 67,108,865 bytes are stored; the others are only

@@ -19,7 +19,7 @@ pub fn refuse<E: Write>(faults: &mut E, fault: ValidateFault) -> u8
 {
     match fault {
         ValidateFault::Gone => FAILED,
-        ValidateFault::Plan(_) | ValidateFault::Script(_) => {
+        ValidateFault::Plan(_) | ValidateFault::Unopened | ValidateFault::Script(_) => {
             report(faults, fault);
             REFUSED
         }

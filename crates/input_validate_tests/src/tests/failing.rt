@@ -1,13 +1,14 @@
-//! Tests of wrong words, and of inputs and outputs that fail.
+//! Tests of wrong arguments, and of inputs and outputs that fail.
 
 use crate::tests::PLAN;
 use crate::tests::streams::{Broken, LimitedWriter};
 use input_validate::Form;
-use input_validate_cli::{Followed, InputSizes, ValidateFault, follow, validate};
+use input_validate_cli::{InputSizes, Validate, ValidateFault, validate};
 use std::alloc::Global;
 use std::io::ErrorKind;
 use std::process::Abort;
 use std::rt::Files;
+use stream_tool::{Outcome, run_tool};
 
 /// The output for the plan.
 const ACCEPTED: &str = "the plan is accepted\n";
@@ -48,7 +49,7 @@ fn fails(
     assert_eq!(rt; out.bytes.as_slice(), front);
 }
 
-/// Runs the words with a plan that cannot be read to its end. The output has to stay empty, and the
+/// Runs the tool with a plan that cannot be read to its end. The output has to stay empty, and the
 /// error has to be printed.
 fn refused<F: Files>(
     rt: &impl Abort,
@@ -56,7 +57,7 @@ fn refused<F: Files>(
     alloc: Global,
     words: &[&str],
     stated: &str,
-) -> Followed {
+) -> Outcome<Result<(), ValidateFault>> {
     let mut texts = Vec::new(alloc);
     for word in words {
         let text = String::from_str(alloc, word).expect(rt, "memory");
@@ -64,18 +65,20 @@ fn refused<F: Files>(
     }
     let mut out = Vec::new(alloc);
     let mut faults = Vec::new(alloc);
-    let followed = follow(
+    let outcome = run_tool(
+        &Validate,
         files,
         alloc,
         &texts,
+        false,
         &mut Broken::new(),
         &mut out,
         &mut faults,
     );
-    assert_eq!(rt; followed.status, 2);
+    assert_eq!(rt; outcome.status, 2);
     assert!(rt; out.is_empty());
     assert!(rt; faults.as_slice().starts_with(stated.as_bytes()));
-    followed
+    outcome
 }
 
 #[test]
@@ -91,7 +94,7 @@ fn inputs_that_cannot_be_read(rt: HostRuntime) {
     let words = ["--script", "no/such/script.json"];
     let stated = "applystream: the script file could not be read\n";
     let script = refused(&rt, &rt, rt.alloc(), &words, stated);
-    assert!(rt; script.answer.is_none());
+    assert!(rt; matches!(script.answer, Some(Err(ValidateFault::Unopened))));
     let unknown = refused(&rt, &rt, rt.alloc(), &["--scripts"], "error: ");
     assert!(rt; unknown.answer.is_none());
 }

@@ -2,9 +2,9 @@
 use Rattle.std.proofs.Common.{ℕ, arith, sym, subst, take}
 use Rattle.std.specs.Io.KnownBytes.{Appends}
 use Rattle.std.proofs.KnownBytes.{Appends-kept}
-use Rattle.input_validate_cli.proofs.Written.{written_more}
-use Rattle.input_validate_cli.proofs.command.writing.write_whole.Goals as goal
-use Rattle.input_validate_cli.proofs.command.writing.write_whole.Goals.{in-Ok, in-Err+else-ne}
+use Rattle.stream_tool.proofs.Written.{written_more}
+use Rattle.stream_tool.proofs.writing.write_whole.Goals as goal
+use Rattle.stream_tool.proofs.writing.write_whole.Goals.{in-Ok, in-Err+else-ne}
 
 pub writes-preserved : goal.writes-preserved
 writes-preserved g c =

@@ -1,7 +1,7 @@
 -- So many of the first bytes were written.
 use Rattle.std.proofs.Common.{◌≤◌, length, take}
 use Rattle.std.specs.Io.KnownBytes.{Appends}
-use Rattle.input_validate_cli.proofs.command.writing.write_whole.Given as goal
+use Rattle.stream_tool.proofs.writing.write_whole.Given as goal
 
 abbrev pub invariant-writes : goal.invariant-writes
 invariant-writes g l = record {

@@ -1,0 +1,96 @@
+//! `validate` as a tool.
+
+ghost use Rattle.std.specs.Prelude.{false};
+ghost use Rattle.input_validate_cli.specs.CommandLine.{arguments};
+ghost use Rattle.input_validate_cli.specs.Validated.{HasValidated, IsSilent};
+
+use crate::command::arguments::{Settings, command, settings_of};
+use crate::command::inputs::read_inputs;
+use crate::command::refusals::refuse;
+use crate::command::validate_fault::ValidateFault;
+use crate::command::validating::validate;
+use clap::{ArgMatches, Command};
+use std::alloc::{AllocError, Global};
+use std::io::{BufReader, Read, Write};
+use std::rt::Files;
+use stream_tool::{Report, Tool, Usage};
+
+/// The tool `validate`: lists the errors of a plan and a script. The plan is read from standard
+/// input.
+///
+/// The exit status is:
+/// - 0 without findings.
+/// - 1 where there are only warnings.
+/// - 2 where a run with these options refuses the plan or the script, or an input can't be read.
+/// - 3 where memory is refused, or the output can't be written.
+#[derive(Clone, Copy)]
+pub struct Validate;
+
+impl Tool for Validate {
+    type Settings = Settings;
+
+    type Answer = Result<(), ValidateFault>;
+
+    ghost arguments = { arguments };
+
+    ghost gives = { λ tool File remaining. HasValidated remaining };
+
+    ghost reads_on = { λ answer. false };
+
+    ghost most_quiet = { 1 };
+
+    ghost is_silent = { IsSilent };
+
+    ghost most_status = { 3 };
+
+    fn command<'a>(alloc: Global) -> Result<Command<'a>, AllocError> {
+        command(alloc)
+    }
+
+    fn conflict(_alloc: Global, _words: &[String], _matches: &ArgMatches<'_>) -> Option<Usage> {
+        None
+    }
+
+    fn settings_of(alloc: Global, matches: &ArgMatches<'_>) -> Result<Settings, AllocError> {
+        settings_of(alloc, matches)
+    }
+
+    fn file(_settings: &Settings) -> Option<&str> {
+        None
+    }
+
+    fn reads_on(_answer: Result<(), ValidateFault>) -> bool {
+        false
+    }
+
+    fn without_memory<F: Files>(&self, _files: &F) -> Result<(), ValidateFault> {
+        Err(ValidateFault::Memory)
+    }
+
+    fn run<F: Files, R: Read, W: Write, E: Write>(
+        &self,
+        files: &F,
+        alloc: Global,
+        settings: &Settings,
+        reader: &mut BufReader<R>,
+        out: &mut W,
+        faults: &mut E,
+    ) -> Report<Result<(), ValidateFault>> {
+        match read_inputs(files, alloc, settings, reader) {
+            Ok(inputs) => validate(
+                alloc,
+                settings.form,
+                settings.lanes,
+                &inputs.plan.bytes,
+                inputs.script_bytes(),
+                inputs.sizes(),
+                out,
+                faults,
+            ),
+            Err(fault) => Report {
+                status: refuse(faults, fault),
+                answer: Err(fault),
+            },
+        }
+    }
+}
