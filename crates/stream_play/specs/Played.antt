@@ -5,6 +5,8 @@ use Rattle.stream_lines.specs.Cut.{after_lines, line_at}
 use Rattle.stream_lines.specs.Limits.{max_bytes}
 use Rattle.stream_lines.specs.declared.line_fault.LineFault.{LineFault}
 use Rattle.stream_lines.specs.declared.line_fault.LineFault.TheVariants as of
+use Rattle.stream_tool.specs.declared.writing.WriteFault.{WriteFault}
+use Rattle.stream_tool.specs.declared.writing.WriteFault.TheVariants as write
 use Rattle.stream_play.specs.declared.play_fault.PlayFault.{PlayFault}
 use Rattle.stream_play.specs.declared.play_fault.PlayFault.TheVariants as play
 
@@ -12,6 +14,11 @@ use Rattle.stream_play.specs.declared.play_fault.PlayFault.TheVariants as play
 abbrev pub as_play_fault : LineFault → PlayFault
 as_play_fault (of.Unread failed) = play.Unread failed
 as_play_fault of.Memory = play.Memory
+
+-- a failed write or flush ends the playing with the same fault
+abbrev pub write_fault : WriteFault → PlayFault
+write_fault write.Gone = play.Gone
+write_fault write.Unwritten = play.Unwritten
 
 -- the first `count` lines were written whole, and nothing else
 pub record LinesWritten (bytes : List ℕ) (count : ℕ) (before after : Option (List ℕ)) : Type 0 where
@@ -64,12 +71,3 @@ IsReadFault (play.Unread failed) = ⊤
 IsReadFault play.Memory = ⊤
 IsReadFault play.Gone = ⊤
 IsReadFault play.Unwritten = ⊤
-
--- a write or a flush failed
-abbrev pub IsWriteFault : PlayFault → Type 0
-IsWriteFault (play.TooLong number) = ⊥
-IsWriteFault play.TooMany = ⊥
-IsWriteFault (play.Unread failed) = ⊥
-IsWriteFault play.Memory = ⊥
-IsWriteFault play.Gone = ⊤
-IsWriteFault play.Unwritten = ⊤

@@ -10,7 +10,6 @@ mod speed;
 mod timestamp;
 mod timing;
 mod watch;
-mod writing;
 
 pub use command::settings::Settings;
 pub use command::tool::Play;

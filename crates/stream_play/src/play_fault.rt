@@ -1,11 +1,12 @@
 //! Why a stream was not played to its end.
 
 ghost use Rattle.std.specs.Prelude.{◌≡◌};
-ghost use Rattle.stream_play.specs.Played.{as_play_fault};
+ghost use Rattle.stream_play.specs.Played.{as_play_fault, write_fault};
 ghost use Rattle.stream_play.specs.declared.play_fault.PlayFault.TheVariants.{Memory};
 
 use std::alloc::{AllocError, AllocFailed};
 use stream_lines::{FailedRead, LineFault};
+use stream_tool::WriteFault;
 use thiserror::Error;
 
 /// Why a stream was not played to its end.
@@ -38,6 +39,17 @@ impl From<LineFault> for PlayFault {
         match given {
             LineFault::Unread(failed) => PlayFault::Unread(failed),
             LineFault::Memory => PlayFault::Memory,
+        }
+    }
+}
+
+impl From<WriteFault> for PlayFault {
+    ghost from_gives = { λ given fault. fault ≡ write_fault given };
+
+    fn from(given: WriteFault) -> PlayFault {
+        match given {
+            WriteFault::Gone => PlayFault::Gone,
+            WriteFault::Unwritten => PlayFault::Unwritten,
         }
     }
 }

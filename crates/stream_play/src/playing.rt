@@ -9,12 +9,12 @@ ghost use Rattle.stream_lines.specs.Reading.{Gives};
 use crate::play_fault::PlayFault;
 use crate::speed::Speed;
 use crate::timing::Timing;
-use crate::writing::{flush, write_whole};
 use memchr::memchr;
 use std::alloc::{AllocError, Global};
 use std::io::{BufReader, Read, Write};
 use std::time::Clock;
 use stream_lines::{LineEnd, next_line};
+use stream_tool::{flush, write_whole};
 
 /// Writes the lines of the reader unchanged, each when it is due.
 ///
@@ -129,5 +129,5 @@ fn write_when_due<W: Write, C: Clock>(
 {
     let due = timing.due(alloc, clock, line)?;
     timing.wait(clock, due, output)?;
-    write_whole(output, line)
+    Ok(write_whole(output, line)?)
 }

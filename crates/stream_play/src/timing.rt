@@ -4,7 +4,6 @@ ghost use Rattle.std.specs.Prelude.{◌≡◌, ◌++◌, ◌∷◌, [], ℤ, IfE
 ghost use Rattle.std.specs.Io.KnownBytes.{Keeps};
 ghost use Rattle.stream_play.specs.Due.{HasPaced};
 ghost use Rattle.stream_play.specs.Timestamp.{timestamp_of};
-ghost use Rattle.stream_play.specs.Played.{IsWriteFault};
 ghost use Rattle.stream_play.specs.declared.play_fault.PlayFault.TheVariants.{Memory};
 
 use crate::pace::Pace;
@@ -12,12 +11,12 @@ use crate::play_fault::PlayFault;
 use crate::speed::Speed;
 use crate::timestamp::timestamp_of;
 use crate::watch::Watch;
-use crate::writing::flush;
 use apply_json::Scratch;
 use std::alloc::Global;
 use std::io::Write;
 use std::thread;
 use std::time::Clock;
+use stream_tool::{WriteFault, flush};
 
 /// What is stored between lines, to know when the next line is due.
 #[derive(Drop)]
@@ -65,9 +64,8 @@ impl Timing {
         clock: &C,
         due: u64,
         output: &mut W,
-    ) -> Result<(), PlayFault>
-        ensures bytes { Keeps (W.contents output.old) (W.contents output.new) }
-        ensures err { IfErr result IsWriteFault }
+    ) -> Result<(), WriteFault>
+        ensures { Keeps (W.contents output.old) (W.contents output.new) }
     {
         for _ in 0..u64::MAX {
             let rest = self.watch.rest(clock, due);
