@@ -1,4 +1,4 @@
-//! What all tools share: the FILE argument, errors, their messages, and exit statuses.
+//! Runs a tool, from its arguments to its exit status: the rules that all tools share.
 #![tactic(auto)]
 
 mod arguments;
