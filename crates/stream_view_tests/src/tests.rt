@@ -15,7 +15,7 @@ use stream_tool::{Outcome, run_input, run_tool};
 use stream_view::{Colour, DrawFault, Form, PictureFault, Settings, View};
 use streams::{Given, WrittenOutput};
 
-/// No colours for the output.
+/// The tool for an output that shows no colours.
 const PLAIN: View = View {
     is_colour_wanted: false,
 };
