@@ -1,21 +1,18 @@
 -- What the arguments after `view` mean: the options as `clap` takes them, and the setting that each
 -- gives.
-use Rattle.std.specs.Prelude.{◌≡◌, ◌≤◌, ◌&&◌, ◌||◌, ◌⊎◌, ⊤, ℕ, Bool, List, [], ◌∷◌, Option, Some, None, IfSome, IsSome, true, false, codes, find, if◌then◌else◌, option_and_then, option_map, pos, string_bytes}
+use Rattle.std.specs.Prelude.{◌≡◌, ◌≤◌, ◌&&◌, ◌||◌, ℕ, Bool, List, [], ◌∷◌, Option, Some, None, IfSome, true, false, codes, find, if◌then◌else◌, option_and_then, option_map, pos, string_bytes}
 use Rattle.std.specs.Borrow.{Bor}
-use Rattle.std.specs.Io.KnownBytes.{Keeps}
 use Rattle.std.specs.Option.{option_map_or}
 use Rattle.std.specs.Str.{bytes_eq}
 use Rattle.std.specs.Str.Parse.{IsNumeral, digits_value, without_leading_plus}
-use Rattle.clap.specs.Faults.{fault_of}
-use Rattle.clap.specs.Simple.{App, matches_of, new_rule, new_shape}
+use Rattle.clap.specs.Simple.{App, new_rule, new_shape}
 use Rattle.clap.specs.Walk.{Row, Rule, Text, first_of, one_of, texts}
 use Rattle.clap.specs.declared.builder.value_parser.ValueParser.{ValueParser}
 use Rattle.clap.specs.declared.builder.value_parser.ValueParser.TheVariants as values
 use Rattle.clap.specs.declared.parser.matches.ValueSource.{ValueSource}
 use Rattle.clap.specs.declared.parser.matches.ValueSource.TheVariants as source
-use Rattle.stream_tool.specs.Words.{AskForHelp, WereNotAccepted, file_rule, flag_rule, unless_dash}
-use Rattle.stream_tool.specs.declared.usage.Usage.{Usage}
-use Rattle.stream_tool.specs.declared.usage.Usage.TheVariants as usage
+use Rattle.stream_tool.specs.Arguments.{Arguments}
+use Rattle.stream_tool.specs.Words.{file_rule, flag_rule, unless_dash}
 use Rattle.stream_view.specs.declared.command.colour.Colour.{Colour}
 use Rattle.stream_view.specs.declared.command.colour.Colour.TheVariants as colour
 use Rattle.stream_view.specs.declared.command.settings.Form.{Form}
@@ -58,9 +55,9 @@ command_line colours = record {
   subs = [];
 }
 
--- this holds of the command for some parser of colours
-abbrev pub ByCommand : (App → Type 0) → Type 0
-ByCommand IsSo = (colours : ValueParser) × TakesColours colours × IsSo (command_line colours)
+-- the command `view`, with some parser of colours
+abbrev pub IsCommand : App → Type 0
+IsCommand app = (colours : ValueParser) × TakesColours colours × (app ≡ command_line colours)
 
 -- ---- options that exclude each other
 
@@ -124,41 +121,11 @@ pub record AreStated (rows : List Row) (settings : Settings) : Type 0 where
   pub all : one_of (codes "all") rows ≡ Some (codes "true") → settings.rows ≡ None
   pub limit : one_of (codes "all") rows ≡ Some (codes "false") → AreRowsStated rows settings.form settings.rows
 
--- the parser accepts the words, no options exclude each other, and the settings are those of the
--- words
-pub record StateSettings (words : List Text) (settings : Settings) : Type 0 where
-  pub colours : ValueParser
-  pub are_colours : TakesColours colours
-  pub accepted : fault_of (command_line colours) words ≡ []
-  pub apart : are_conflicting (matches_of (command_line colours) words) ≡ false
-  pub stated : AreStated (matches_of (command_line colours) words) settings
-
--- the words name a file
-pub record NameAFile (words : List Text) : Type 0 where
-  pub settings : Settings
-  pub stated : StateSettings words settings
-  pub named : IsSome settings.file
-
--- ---- wrong words
-
--- `clap` does not accept the words, or two options exclude each other
-abbrev pub WereWrong : (words : List Text) → App → Type 0
-WereWrong words app = WereNotAccepted app words ⊎ (are_conflicting (matches_of app words) ≡ true)
-
-abbrev pub IsCause : (words : List Text) → Usage → App → Type 0
-IsCause words (usage.Help text) app = AskForHelp app words
-IsCause words (usage.Words text) app = WereWrong words app
-IsCause words usage.Memory app = ⊤
-
--- the words ask for help, or they are wrong, or memory was refused
-abbrev pub StateNoSettings : (words : List Text) → Usage → Type 0
-StateNoSettings words why = (why ≡ usage.Memory) ⊎ ByCommand (IsCause words why)
-
--- No stream was viewed. Status 0: help was asked for. Status 2: the words were wrong, or their file
--- could not be opened, and the output is unchanged. Status 3: memory was refused, and the output is
--- unchanged.
-abbrev pub WasNotViewed : (words : List Text) → (before after : Option (List ℕ)) → (status : ℕ) → Type 0
-WasNotViewed words before after status =
-    ((status ≡ 0) × ByCommand (λ app. AskForHelp app words))
-    ⊎ ((status ≡ 2) × Keeps before after × (ByCommand (WereWrong words) ⊎ NameAFile words))
-    ⊎ ((status ≡ 3) × Keeps before after)
+-- how arguments state the settings
+abbrev pub arguments : Arguments Settings
+arguments = record {
+  IsCommand = IsCommand;
+  are_conflicting = are_conflicting;
+  AreStated = AreStated;
+  file = λ settings. option_map string_bytes settings.file;
+}

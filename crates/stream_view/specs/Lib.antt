@@ -11,7 +11,6 @@ pub mod Markup
 pub mod Rows
 pub mod MessageTexts
 pub mod Texts
-pub mod Usages
 pub mod Viewed
 pub mod Vocabulary
 pub mod Words

@@ -1,7 +1,6 @@
--- The result of the command `view`.
-use Rattle.std.specs.Prelude.{◌≡◌, ◌⊎◌, ⊤, ℕ, List, Bool, true, false, Option, Some, None, IfErr, IfSome, IsSome, OnOk, Result, Ok, Err, pos, unwrap_or}
-use Rattle.std.specs.Io.KnownBytes.{IsAtEnd, Keeps}
-use Rattle.stream_tool.specs.Words.{IsGivenBy}
+-- What the tool `view` does.
+use Rattle.std.specs.Prelude.{◌≡◌, ◌⊎◌, ⊤, ℕ, List, Bool, true, false, Option, Some, IfSome, Result, Ok, Err, pos, unwrap_or}
+use Rattle.std.specs.Io.KnownBytes.{Keeps}
 use Rattle.stream_timeline.specs.declared.reading.timeline_fault.TimelineFault.{TimelineFault}
 use Rattle.stream_timeline.specs.declared.reading.timeline_fault.TimelineFault.TheVariants as timeline_fault
 use Rattle.stream_timeline.specs.declared.reading.time_range.TimeRange.{TimeRange}
@@ -9,18 +8,17 @@ use Rattle.stream_timeline.specs.Lines.{IsReadOf}
 use Rattle.stream_timeline.specs.Numbers.{IsNumbersOf}
 use Rattle.stream_timeline.specs.Rows.{AreRowsOf}
 use Rattle.stream_timeline.specs.TimelineRead.{TimelineRead}
-use Rattle.stream_view.specs.CommandLine.{StateSettings}
 use Rattle.stream_view.specs.Lines.{LinesWritten}
 use Rattle.stream_view.specs.Markup.{SomeSvgWritten, SvgWritten}
 use Rattle.stream_view.specs.Texts.{TextWritten}
 use Rattle.stream_view.specs.declared.command.colour.Colour.{Colour}
 use Rattle.stream_view.specs.declared.command.colour.Colour.TheVariants as colour
-use Rattle.stream_view.specs.declared.command.followed.Followed.{Followed}
 use Rattle.stream_view.specs.declared.command.settings.Form.{Form}
 use Rattle.stream_view.specs.declared.command.settings.Form.TheVariants as form
 use Rattle.stream_view.specs.declared.command.picture_fault.PictureFault.{PictureFault}
 use Rattle.stream_view.specs.declared.command.picture_fault.PictureFault.TheVariants as fault
 use Rattle.stream_view.specs.declared.command.settings.Settings.{Settings}
+use Rattle.stream_view.specs.declared.draw_fault.DrawFault.TheVariants as draw_fault
 use Rattle.stream_view.specs.declared.picture.Picture.{Picture}
 
 -- the text has colours
@@ -86,23 +84,23 @@ abbrev pub IsUnreadFile : {A : Type 0} → (name : Option A) → PictureFault �
 IsUnreadFile (Some name) (fault.NoTimeline (timeline_fault.Unread failed)) = ⊤
 IsUnreadFile name fault = ⊥
 
--- Status 0: the picture was written. Else it is the status of the fault, or 3 if memory was refused
--- while the file with a failed read was named.
+-- The exit status of a fault. It is 3 too where memory was refused for the message about a file that
+-- could not be read.
+abbrev pub IsFaultStatus : {A : Type 0} → (name : Option A) → PictureFault → ℕ → Type 0
+IsFaultStatus name fault status = (status ≡ fault_status_of fault) ⊎ ((status ≡ 3) × IsUnreadFile name fault)
+
+-- the exit status: 0 if the picture was written, else that of the fault
 abbrev pub IsStatusOf : {A : Type 0} → (name : Option A) → Result (Unit {0}) PictureFault → ℕ → Type 0
 IsStatusOf name (Ok done) status = status ≡ 0
-IsStatusOf name (Err fault) status = (status ≡ fault_status_of fault) ⊎ ((status ≡ 3) × IsUnreadFile name fault)
+IsStatusOf name (Err fault) status = IsFaultStatus name fault status
 
--- A stream was viewed as the words state: the input, or the file that they name. `remaining` gives
--- the bytes of a file. If the input was not drawn, it was read to its end, and `left` is what
--- remains of it. If a file was opened, the input is unchanged.
-pub record WasViewed {File : Type 0} (remaining : File → Option (List ℕ)) (words : List (List ℕ)) (input left : Option (List ℕ)) (is_wanted : Bool)
-    (before after : Option (List ℕ)) (followed : Followed) (answer : Result (Unit {0}) PictureFault) : Type 0 where
-  pub settings : Settings
-  pub stated : StateSettings words settings
-  pub bytes : Option (List ℕ)
-  pub given : IsGivenBy remaining input settings.file bytes
+-- A stream was viewed: what was written, and the exit status.
+pub record HasViewed (is_wanted : Bool) (settings : Settings) (given before after : Option (List ℕ)) (answer : Result (Unit {0}) PictureFault)
+    (status : ℕ) : Type 0 where
   pub drawn : WasDrawn settings.form is_wanted before after answer
-  pub stream : IfSome bytes (λ bytes. IsOfStream bytes settings.rows settings.form is_wanted before after answer)
-  pub reported : IsStatusOf settings.file answer followed.status
-  pub read : settings.file ≡ None → IfErr answer (λ fault. OnOk followed.rest (IsAtEnd left))
-  pub left_alone : IsSome settings.file → left ≡ input
+  pub stream : IfSome given (λ bytes. IsOfStream bytes settings.rows settings.form is_wanted before after answer)
+  pub reported : IsStatusOf settings.file answer status
+
+-- nothing is reported: the picture was written, or the reader of the output is gone
+abbrev pub IsSilent : Result (Unit {0}) PictureFault → Type 0
+IsSilent answer = (answer ≡ Ok tt) ⊎ (answer ≡ Err (fault.Undrawn draw_fault.Gone))

@@ -1,9 +1,9 @@
-//! The command `view`, from its arguments to its exit status.
+//! The tool `view`: its options, its exit statuses and what it reports.
 
 pub(crate) mod arguments;
 pub(crate) mod colour;
-pub(crate) mod entry_points;
-pub(crate) mod followed;
+pub(crate) mod drawing;
 pub(crate) mod picture_fault;
 pub(crate) mod refusals;
 pub(crate) mod settings;
+pub(crate) mod tool;

@@ -13,12 +13,10 @@ mod text;
 mod words;
 mod writing;
 
-pub use command::arguments::read_words;
 pub use command::colour::Colour;
-pub use command::entry_points::{follow, view_input};
-pub use command::followed::{Followed, Outcome};
 pub use command::picture_fault::PictureFault;
 pub use command::settings::{Form, Settings};
+pub use command::tool::View;
 pub use draw_fault::DrawFault;
 pub use laws::{
     colours_are_sequences_alone, no_line_has_a_control, what_comes_no_later_has_its_bar_no_further,

@@ -8,10 +8,17 @@ use files::Disk;
 use std::alloc::Global;
 use std::io::{ErrorKind, Read, Write};
 use std::process::Abort;
+use std::rt::Files;
 use std::{array, io};
 use stream_timeline::TimelineFault;
-use stream_view::{Colour, DrawFault, Form, Outcome, PictureFault, follow, view_input};
+use stream_tool::{Outcome, run_input, run_tool};
+use stream_view::{Colour, DrawFault, Form, PictureFault, Settings, View};
 use streams::{Given, WrittenOutput};
+
+/// The tool for an output that shows no colours.
+const PLAIN: View = View {
+    is_colour_wanted: false,
+};
 
 /// A text of 120 columns, without colours.
 const TEXT: Form = Form::Text {
@@ -49,31 +56,45 @@ one at a time
 
 /// Draws the stream of these bytes into `out`. The input fails at its end if it is broken.
 fn drawn(
+    rt: &impl Files,
     alloc: Global,
     form: Form,
     bytes: &[u8],
     is_broken: bool,
     out: &mut WrittenOutput,
     faults: &mut Vec<u8>,
-) -> Outcome {
+) -> Outcome<Result<(), PictureFault>> {
+    let settings = Settings {
+        form,
+        rows: Some(40),
+        file: None,
+    };
     let mut input = Given { bytes, is_broken };
-    view_input(alloc, form, Some(40), false, None, &mut input, out, faults)
+    run_input(&PLAIN, rt, alloc, &settings, &mut input, out, faults)
 }
 
 /// Fails unless drawing the bytes as a text gives `wanted`.
-fn draws(rt: &impl Abort, alloc: Global, bytes: &str, wanted: &str) {
+fn draws(rt: &(impl Abort + Files), alloc: Global, bytes: &str, wanted: &str) {
     let mut out = WrittenOutput::new(alloc, usize::MAX, ErrorKind::StorageFull);
     let mut faults = Vec::new(alloc);
-    let outcome = drawn(alloc, TEXT, bytes.as_bytes(), false, &mut out, &mut faults);
+    let outcome = drawn(
+        rt,
+        alloc,
+        TEXT,
+        bytes.as_bytes(),
+        false,
+        &mut out,
+        &mut faults,
+    );
     assert_eq!(rt; outcome.status, 0);
-    assert!(rt; outcome.answer == Ok(()));
+    assert!(rt; outcome.answer == Some(Ok(())));
     assert_eq!(rt; faults.as_slice(), b"".as_slice());
     assert_eq!(rt; out.bytes.as_slice(), wanted.as_bytes());
 }
 
 /// Fails unless drawing the bytes gives this fault, status and text, and writes nothing.
 fn refuses(
-    rt: &impl Abort,
+    rt: &(impl Abort + Files),
     alloc: Global,
     bytes: &str,
     is_broken: bool,
@@ -83,6 +104,7 @@ fn refuses(
     let mut out = WrittenOutput::new(alloc, usize::MAX, ErrorKind::StorageFull);
     let mut faults = Vec::new(alloc);
     let outcome = drawn(
+        rt,
         alloc,
         TEXT,
         bytes.as_bytes(),
@@ -91,7 +113,7 @@ fn refuses(
         &mut faults,
     );
     assert_eq!(rt; outcome.status, 2);
-    assert!(rt; outcome.answer == Err(PictureFault::NoTimeline(fault)));
+    assert!(rt; outcome.answer == Some(Err(PictureFault::NoTimeline(fault))));
     assert_eq!(rt; faults.as_slice(), expected.as_bytes());
     assert!(rt; out.bytes.is_empty());
 }
@@ -129,7 +151,7 @@ fn writer_that_fails(rt: HostRuntime) {
 
 /// Fails unless drawing one create ends with this result in a writer that fails after `room` bytes.
 fn fails(
-    rt: &impl Abort,
+    rt: &(impl Abort + Files),
     alloc: Global,
     room: usize,
     kind: ErrorKind,
@@ -139,6 +161,7 @@ fn fails(
     let mut out = WrittenOutput::new(alloc, room, kind);
     let mut faults = Vec::new(alloc);
     let outcome = drawn(
+        rt,
         alloc,
         TEXT,
         ONE_CREATE.as_bytes(),
@@ -147,7 +170,7 @@ fn fails(
         &mut faults,
     );
     assert_eq!(rt; outcome.status, 3);
-    assert!(rt; outcome.answer == Err(PictureFault::Undrawn(fault)));
+    assert!(rt; outcome.answer == Some(Err(PictureFault::Undrawn(fault))));
     assert_eq!(rt; faults.as_slice(), expected.as_bytes());
     let front = ONE_CREATE_TEXT.as_bytes().get(..room).unwrap_or(&[]);
     assert_eq!(rt; out.bytes.as_slice(), front);
@@ -179,6 +202,7 @@ fn reader_that_fails(rt: HostRuntime) {
     let mut out = WrittenOutput::new(rt.alloc(), usize::MAX, ErrorKind::StorageFull);
     let mut faults = Vec::new(rt.alloc());
     let outcome = drawn(
+        &rt,
         rt.alloc(),
         TEXT,
         ONE_CREATE.as_bytes(),
@@ -214,17 +238,17 @@ fn leaves_the_input(
     let mut out = WrittenOutput::new(alloc, usize::MAX, ErrorKind::StorageFull);
     let mut faults = Vec::new(alloc);
     let words = array::from_ref(&name);
-    let followed = follow(
+    let outcome = run_tool(
+        &PLAIN,
         &disk,
         alloc,
         words,
-        false,
         false,
         &mut input,
         &mut out,
         &mut faults,
     );
-    assert_eq!(rt; followed.status, status);
+    assert_eq!(rt; outcome.status, status);
     assert!(rt; faults.as_slice().starts_with(expected.as_bytes()));
     assert_eq!(rt; out.bytes.as_slice(), wanted.as_bytes());
     assert_eq!(rt; input.bytes, ONE_CREATE.as_bytes());
@@ -244,6 +268,7 @@ fn hostile_texts(rt: HostRuntime) {
     let mut out = WrittenOutput::new(rt.alloc(), usize::MAX, ErrorKind::StorageFull);
     let mut faults = Vec::new(rt.alloc());
     let outcome = drawn(
+        &rt,
         rt.alloc(),
         TEXT,
         HOSTILE.as_bytes(),
@@ -255,6 +280,7 @@ fn hostile_texts(rt: HostRuntime) {
     assert!(rt; out.bytes.as_slice().starts_with(HOSTILE_TEXT.as_bytes()));
     let mut svg = WrittenOutput::new(rt.alloc(), usize::MAX, ErrorKind::StorageFull);
     let outcome = drawn(
+        &rt,
         rt.alloc(),
         Form::Svg,
         HOSTILE.as_bytes(),

@@ -1,11 +1,12 @@
 //! The arguments of the command line.
 
-ghost use Rattle.std.specs.Prelude.{◌≡◌, None, Some, false, true, IfErr, IfOk, IfSome, codes, map, string_bytes};
+ghost use Rattle.std.specs.Prelude.{◌≡◌, None, Some, false, true, IfOk, IfSome, codes};
+ghost use Rattle.clap.specs.Faults.{is_simple_and_free};
 ghost use Rattle.clap.specs.Matches.{found_of};
-ghost use Rattle.clap.specs.Simple.{app_of};
+ghost use Rattle.clap.specs.Simple.{app_of, is_simple};
 ghost use Rattle.clap.specs.Walk.{one_of, rows_of as matched_rows, rule_of};
-ghost use Rattle.stream_view.specs.CommandLine.{AreRowsStated, AreStated, StateSettings, IsNumber, IsTextStated, StateNoSettings, TakesColours, are_conflicting, colour_of_word, colour_rule, stated_colour, command_line, is_given, number_named, option_named, rows_of_form, width_rule};
-ghost use Rattle.stream_view.specs.Usages.{IsWordsOrMemory};
+ghost use Rattle.stream_view.specs.CommandLine.{AreRowsStated, AreStated, IsCommand, IsNumber, IsTextStated, TakesColours, are_conflicting, colour_of_word, colour_rule, stated_colour, is_given, number_named, option_named, rows_of_form, width_rule};
+ghost use Rattle.stream_tool.specs.Refused.{IsConflict, IsRefusal};
 ghost use Rattle.stream_tool.specs.Words.{flag_rule};
 ghost use Rattle.stream_view.specs.declared.command.settings.Form.TheVariants as form;
 
@@ -45,21 +46,14 @@ Exit status:
   2  wrong options, a file or a stream that can't be read, or a stream without a message
   3  out of memory, or the output could not be written"#;
 
-/// Reads the arguments after `view` into settings. `Usage::Help` if they ask for help,
-/// `Usage::Words` if they are wrong, and `Usage::Memory` if memory is refused.
-pub fn read_words(alloc: Global, words: &[String]) -> Result<Settings, Usage>
-    ensures stated { IfOk result (StateSettings (map string_bytes words.now)) }
-    ensures refused { IfErr result (StateNoSettings (map string_bytes words.now)) }
+/// Returns the message about options that exclude each other, where such options were given.
+pub(crate) fn conflict(alloc: Global, words: &[String], matches: &ArgMatches<'_>) -> Option<Usage>
+    ensures { IsConflict (are_conflicting (matched_rows (found_of matches.now))) result }
 {
-    let command = command(alloc)?;
-    match matches_of(alloc, command, words) {
-        Ok(matches) => {
-            if are_conflicting(&matches) {
-                return Err(conflict_usage(alloc, words));
-            }
-            Ok(settings_of(alloc, &matches)?)
-        }
-        Err(usage) => Err(usage),
+    if are_conflicting(matches) {
+        Some(conflict_usage(alloc, words))
+    } else {
+        None
     }
 }
 
@@ -67,7 +61,7 @@ pub fn read_words(alloc: Global, words: &[String]) -> Result<Settings, Usage>
 /// conflicts, makes it. `clap` states the result of parsing only for commands without such rules,
 /// so the first parser has none.
 fn conflict_usage(alloc: Global, words: &[String]) -> Usage
-    ensures { IsWordsOrMemory result }
+    ensures { IsRefusal result }
 {
     let Ok(command) = strict_command(alloc) else {
         return Usage::Memory;
@@ -78,25 +72,27 @@ fn conflict_usage(alloc: Global, words: &[String]) -> Usage
     }
 }
 
-/// The command with its options and help. `Err` means that memory was refused.
-fn command<'a>(alloc: Global) -> Result<Command<'a>, AllocError>
-    ensures { (colours : _) × TakesColours colours × IfOk result (λ command. app_of command ≡ command_line colours) }
+/// Defines the options and their help. `Err` where memory is refused.
+pub(crate) fn command<'a>(alloc: Global) -> Result<Command<'a>, AllocError>
+    ensures is { IfOk result (λ command. IsCommand (app_of command)) }
+    ensures simple { IfOk result (λ command. is_simple (app_of command) ≡ true) }
+    ensures free { IfOk result (λ command. is_simple_and_free (app_of command) ≡ true) }
 {
     command_of(alloc, svg(alloc), all(alloc))
 }
 
-/// The command with rules for options that exclude each other. `Err` means that memory was refused.
+/// The command with rules for options that exclude each other. `Err` where memory is refused.
 fn strict_command<'a>(alloc: Global) -> Result<Command<'a>, AllocError> {
     let svg = svg(alloc).conflicts_with("width")?.conflicts_with("color")?;
     let all = all(alloc).conflicts_with("rows")?;
     command_of(alloc, svg, all)
 }
 
-/// The command with these two options and the others. `Err` means that memory was refused.
+/// The command with these two options and the others. `Err` where memory is refused.
 fn command_of<'a>(alloc: Global, svg: Arg<'a>, all: Arg<'a>) -> Result<Command<'a>, AllocError>
     ensures { rule_of svg.entry ≡ flag_rule (codes "svg") → svg.entry.global ≡ false
         → rule_of all.entry ≡ flag_rule (codes "all") → all.entry.global ≡ false
-        → (colours : _) × TakesColours colours × IfOk result (λ command. app_of command ≡ command_line colours) }
+        → IfOk result (λ command. IsCommand (app_of command)) }
 {
     let line = Ok(
         Command::new(alloc, "applystream view")
@@ -178,8 +174,8 @@ fn stands(matches: &ArgMatches<'_>, option: &str) -> bool
     }
 }
 
-/// The settings for the parsed arguments. `Err` means that memory was refused.
-fn settings_of(alloc: Global, matches: &ArgMatches<'_>) -> Result<Settings, AllocError>
+/// Returns the settings of parsed arguments. `Err` where memory is refused.
+pub(crate) fn settings_of(alloc: Global, matches: &ArgMatches<'_>) -> Result<Settings, AllocError>
     ensures { IfOk result (AreStated (matched_rows (found_of matches.now))) }
 {
     let file = file_of(alloc, matches)?;

@@ -1,5 +1,8 @@
 //! The settings of the command line.
 
+ghost use Rattle.std.specs.Prelude.{◌≡◌, option_map, string_bytes};
+ghost use Rattle.std.specs.Option.{option_copied};
+
 use crate::command::colour::Colour;
 
 /// What is drawn.
@@ -19,4 +22,16 @@ pub struct Settings {
     pub rows: Option<usize>,
     /// The file with the stream. `None`: standard input, which `-` names too.
     pub file: Option<String>,
+}
+
+impl Settings {
+    /// The file with the stream, where one is named.
+    pub(crate) fn file(&self) -> Option<&str>
+        ensures { option_copied result ≡ option_map string_bytes self.now.file }
+    {
+        match &self.file {
+            Some(name) => Some(name.as_str()),
+            None => None,
+        }
+    }
 }

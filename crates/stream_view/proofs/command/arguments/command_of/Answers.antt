@@ -1,5 +1,7 @@
 use Rattle.std.proofs.Common.{◌≡◌, ◌∙◌, ap, codes, true}
 use Rattle.clap.specs.Simple.{App, app_of, app_of_fields, new_app, on_top}
+use Rattle.stream_view.specs.CommandLine.{IsCommand, command_line}
+use Rattle.stream_view.proofs.Parsed.{then_made}
 use Rattle.stream_view.proofs.command.arguments.command_of.Goals as goal
 
 -- the command before its options
@@ -17,4 +19,5 @@ returns c is_svg svg_alone is_all all_alone =
     let width = c.with_option-line-4.ensures _ _ all c.width.ensures.0 c.width.ensures.1 in
     let colours = c.color.ensures in
     let color = c.with_option-line-5.ensures _ _ width colours.2 colours.3 in
-    (colours.0, colours.1, c.with_option.ensures _ _ color c.file.ensures.0 c.file.ensures.1)
+    then_made (λ made. app_of made ≡ command_line colours.0) (λ made. IsCommand (app_of made)) c.with_option.result (λ made is. (colours.0, colours.1, is))
+    (c.with_option.ensures _ _ color c.file.ensures.0 c.file.ensures.1)

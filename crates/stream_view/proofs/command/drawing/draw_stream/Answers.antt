@@ -1,5 +1,5 @@
 use Rattle.stream_view.proofs.Drawn.{stream_drawn}
-use Rattle.stream_view.proofs.command.entry_points.draw_input.Goals as goal
+use Rattle.stream_view.proofs.command.drawing.draw_stream.Goals as goal
 
 pub returns-in-Ok-clause-stream : goal.returns-in-Ok-clause-stream
 returns-in-Ok-clause-stream g c =

@@ -1,7 +1,7 @@
 use Rattle.std.proofs.Common.{◌∙◌, ap, sym}
 use Rattle.stream_view.proofs.Drawn.{picture_written, svg_drawn, text_drawn}
-use Rattle.stream_view.proofs.command.entry_points.draw.Goals as goal
-use Rattle.stream_view.proofs.command.entry_points.draw.Goals.{in-Text, in-Svg}
+use Rattle.stream_view.proofs.command.drawing.draw.Goals as goal
+use Rattle.stream_view.proofs.command.drawing.draw.Goals.{in-Text, in-Svg}
 
 pub returns-in-Ok-drawn-clause-rows : goal.returns-in-Ok-drawn-clause-rows
 returns-in-Ok-drawn-clause-rows g c = record {
