@@ -188,7 +188,7 @@ impl<'a> Content<'a> {
 
     /// The content of a diagnostic with this severity.
     fn of_severity(severity: &str, diagnostic: DiagnosticSlots<'a>) -> Content<'a>
-        ensures { content_view result ≡ severity_content_in severity.now diagnostic }
+        ensures { content_view result ≡ severity_content_in severity.now diagnostic.entry }
     {
         if is_text(severity, "error") {
             Content::Error { diagnostic }
@@ -201,7 +201,7 @@ impl<'a> Content<'a> {
 
     /// The content of `diagnostic`.
     fn of_diagnostic(diagnostic: DiagnosticSlots<'a>) -> Content<'a>
-        ensures { content_view result ≡ diagnostic_content_in diagnostic }
+        ensures { content_view result ≡ diagnostic_content_in diagnostic.entry }
     {
         match diagnostic.severity() {
             Some(severity) => Content::of_severity(severity, diagnostic),
