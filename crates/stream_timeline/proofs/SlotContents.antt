@@ -1,12 +1,9 @@
 -- The slots of a line state what its tree states.
-use Rattle.std.proofs.Common.{◌≡◌, ℕ, ℤ, List, [], codes, Bool, true, false, cond, Option, Some, None, refl, sym, ap, ap₂, ◌∙◌, arith, length}
+use Rattle.std.proofs.Common.{◌≡◌, ℕ, ℤ, List, [], codes, Bool, true, false, cond, Option, Some, None, refl, sym, ap, ap₂, ◌∙◌}
 use Rattle.std.specs.Prelude.{option_map, unwrap_or}
 use Rattle.std.specs.Option.{option_map_or}
 use Rattle.std.specs.Str.{bytes_eq}
 use Rattle.serde_json.specs.Data.{Data}
-use Rattle.apply_json.specs.declared.json_fault.JsonFault.{JsonFault}
-use Rattle.apply_json.specs.declared.json_fault.JsonFault.TheVariants.{TooLarge, NotJson, Memory}
-use Rattle.apply_json.specs.Parsed.{IsNoTree}
 use Rattle.apply_json.specs.ShallowView.{members_in}
 use Rattle.apply_json.specs.Tree.{◌>>=◌, member_of, text_of, tree_of}
 use Rattle.apply_json.proofs.Held.{is_name}
@@ -42,16 +39,16 @@ timeline_selection = record {
 diagnostic_by : (o : Option Data) (slots : DiagnosticSlots) → severity_in slots ≡ (o >>= text_of (codes "severity")) → diagnostic_address_in slots ≡ (o >>= text_of (codes "address"))
     → summary_in slots ≡ (o >>= text_of (codes "summary")) → detail_in slots ≡ (o >>= text_of (codes "detail")) → file_in slots ≡ (o >>= file_of) → line_in slots ≡ (o >>= line_of)
     → diagnostic_content_in slots ≡ option_map_or (λ m. diagnostic_with (text_or_empty (codes "severity") m) m) o unusable
-diagnostic_by None slots severity address summary detail file line = rw severity refl
-diagnostic_by (Some m) slots severity address summary detail file line = rw (severity, address, summary, detail, file, line) (each (text_of (codes "severity") m)) where
+diagnostic_by None slots severity_is address_is summary_is detail_is file_is line_is = rw severity_is refl
+diagnostic_by (Some m) slots severity_is address_is summary_is detail_is file_is line_is = rw (severity_is, address_is, summary_is, detail_is, file_is, line_is) (each (text_of (codes "severity") m)) where
   each : (o : Option (List ℕ)) → option_map_or (λ word. diagnostic_with word m) o unusable ≡ diagnostic_with (unwrap_or o []) m
   each None = refl
   each (Some word) = refl
 
 summary_by : (o : Option Data) (changes : ChangesSlots) → operation_in changes ≡ (o >>= text_of (codes "operation")) → added_in changes ≡ (o >>= count_of (codes "add")) → changed_in changes ≡ (o >>= count_of (codes "change"))
     → removed_in changes ≡ (o >>= count_of (codes "remove")) → imported_in changes ≡ (o >>= count_of (codes "import")) → summary_content_in changes ≡ option_map_or summary_of_changes o (summary no_totals)
-summary_by None changes operation added changed removed imported = rw (operation, added, changed, removed, imported) refl
-summary_by (Some m) changes operation added changed removed imported = rw (operation, added, changed, removed, imported) refl
+summary_by None changes operation_is added_is changed_is removed_is imported_is = rw (operation_is, added_is, changed_is, removed_is, imported_is) refl
+summary_by (Some m) changes operation_is added_is changed_is removed_is imported_is = rw (operation_is, added_is, changed_is, removed_is, imported_is) refl
 
 -- ---- the line
 
@@ -148,9 +145,3 @@ module _ (line : LineSlots) (d : Data) (holds : HoldsLine timeline_selection lin
 -- the message of a line with this tree
 pub message_read : (text : List ℕ) (line : LineSlots) (d : Data) → tree_of text ≡ Some d → HoldsLine timeline_selection line (members_in d) → message_in line ≡ message_of text
 message_read text line d tree holds = message_is line d holds ∙ sym (ap (λ (o : Option Data). o >>= tree_message) tree)
-
--- a text without a tree, unless memory was refused
-pub no_message : (fault : JsonFault) (text : List ℕ) → (fault ≡ Memory → ⊥) → IsNoTree (length text) fault text → message_of text ≡ None
-no_message TooLarge text never is = absurd (omega (arith, is))
-no_message NotJson text never is = ap (λ (o : Option Data). o >>= tree_message) is.1
-no_message Memory text never is = absurd (never refl)
