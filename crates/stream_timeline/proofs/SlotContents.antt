@@ -10,15 +10,13 @@ use Rattle.apply_json.proofs.Held.{is_name}
 use Rattle.stream_message.specs.declared.changes_slots.ChangesSlots.{ChangesSlots}
 use Rattle.stream_message.specs.declared.diagnostic_slots.DiagnosticSlots.{DiagnosticSlots}
 use Rattle.stream_message.specs.declared.kind.Kind.{Kind}
-use Rattle.stream_message.specs.declared.kind.Kind.TheVariants as kind
 use Rattle.stream_message.specs.declared.line_slots.LineSlots.{LineSlots}
 use Rattle.stream_message.specs.declared.selection.Selection.{Selection}
-use Rattle.stream_message.specs.Kinds.{ephemeral_kind, general_kind, kind_named, refresh_kind}
-use Rattle.stream_message.specs.Members.{address_of, count_of, file_of, hook_text, kind_of, line_of, message_time, text_or_empty, time_of, type_of}
+use Rattle.stream_message.specs.Kinds.{kind_named}
+use Rattle.stream_message.specs.Members.{address_of, count_of, file_of, hook_text, line_of, text_or_empty, time_of, type_of}
 use Rattle.stream_message.specs.Slots.{HoldsLine}
-use Rattle.stream_message.specs.SlotValues.{action_in, added_in, address_in, changed_in, detail_in, diagnostic_address_in, file_in, imported_in, kind_in, line_in, operation_in, provisioner_in, removed_in, severity_in, summary_in, time_in, version_in}
+use Rattle.stream_message.specs.SlotValues.{action_in, added_in, address_in, changed_in, detail_in, diagnostic_address_in, file_in, imported_in, line_in, operation_in, removed_in, severity_in, summary_in, version_in}
 use Rattle.stream_message.proofs.TreeMembers as members
-use Rattle.stream_timeline.specs.declared.reading.totals.Totals.{Totals}
 use Rattle.stream_timeline.specs.Messages.{Content, Message, begin_of, begins, begins_provisioner, content_of, diagnostic_content, diagnostic_with, end_of, ends, ends_provisioner, message_at, message_of, no_totals, other, provisioner_begin_of, provisioner_end_of, refresh_begin_of, refresh_end_of, summary, summary_in as summary_of_changes, summary_of, tree_message, unusable, version}
 use Rattle.stream_timeline.specs.SlotContents.{begin_in, content_in, diagnostic_content_in, end_in, message_in, provisioner_begin_in, provisioner_end_in, refresh_begin_in, refresh_end_in, summary_content_in}
 
