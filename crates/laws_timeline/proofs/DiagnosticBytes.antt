@@ -9,11 +9,12 @@ use Rattle.std.proofs.lemmas.List.{length-append, length-drop, length-take, leng
 use Rattle.std.proofs.lemmas.List.Sums.{sum_by-cons, sum_by_push}
 use Rattle.serde_json.specs.Data.{Data}
 use Rattle.apply_json.specs.Tree.{member_of, text_of}
+use Rattle.stream_message.specs.Members.{address_of, file_of, hook_text, text_or_empty}
 use Rattle.stream_timeline.specs.declared.reading.totals.Totals.{Totals}
-use Rattle.stream_timeline.specs.Details.{DiagnosticRead, diagnostic_of, file_of, stored, lines_of_detail, text_or_empty, trimmed_line}
+use Rattle.stream_timeline.specs.Details.{DiagnosticRead, diagnostic_of, stored, lines_of_detail, trimmed_line}
 use Rattle.stream_timeline.specs.Memory.{diagnostic_bytes}
 use Rattle.laws_timeline.specs.Memory.{max_diagnostic_bytes}
-use Rattle.stream_timeline.specs.Messages.{Content, begins, ends, begins_provisioner, ends_provisioner, error, warning, version, plan_summary, summary, other, unusable, address_of, begin_of, diagnostic_content, diagnostic_with, end_of, general_content, hook_text, no_totals, other_step_content, provisioner_begin_of, provisioner_end_of, provisioner_content, refresh_begin_of, refresh_end_of, content_of, summary_in, summary_of, totals_in}
+use Rattle.stream_timeline.specs.Messages.{Content, begins, ends, begins_provisioner, ends_provisioner, error, warning, version, plan_summary, summary, other, unusable, begin_of, diagnostic_content, diagnostic_with, end_of, general_content, no_totals, other_step_content, provisioner_begin_of, provisioner_end_of, provisioner_content, refresh_begin_of, refresh_end_of, content_of, summary_in, summary_of, totals_in}
 use Rattle.stream_timeline.specs.OpenPlaces.{text_bytes}
 use Rattle.stream_timeline.specs.TimelineRead.{DiagnosticsRead, max_stored, with_diagnostic}
 

@@ -11,7 +11,7 @@ use Rattle.stream_check.specs.declared.messages.member_fault.MemberFault.TheVari
 use Rattle.stream_check.specs.Members.{as_container, object_at, text_at, there}
 use Rattle.stream_check.specs.Message.{hook_address_of, subject_of}
 use Rattle.stream_check.specs.Results.{◌>>=◌, or_refuse}
-use Rattle.stream_timeline.specs.Messages.{address_of, hook_text}
+use Rattle.stream_message.specs.Members.{address_of, hook_text}
 
 pub bind_ok : {A B : Type 0} (r : Result A Fault) (f : A → Result B Fault) (y : B) → (r >>= f) ≡ Ok y → (x : A) × (r ≡ Ok x) × (f x ≡ Ok y)
 bind_ok (Ok x) f y e = (x, refl, e)

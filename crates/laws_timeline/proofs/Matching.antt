@@ -16,7 +16,7 @@ use Rattle.stream_check.specs.declared.messages.totals.Totals.{Totals}
 use Rattle.stream_check.specs.Members.{count_at, object_at, text_at}
 use Rattle.stream_check.specs.Message as check
 use Rattle.stream_check.specs.Words.{action_named, action_word}
-use Rattle.stream_timeline.specs.Details.{text_or_empty}
+use Rattle.stream_message.specs.Members.{address_of, hook_text, text_or_empty}
 use Rattle.stream_timeline.specs.Messages as view
 use Rattle.laws_timeline.proofs.Looking.{Subject, bind_ok, hook_address_located, same_ok, subject_located}
 
@@ -216,13 +216,13 @@ diagnostic_plain d m e =
 -- ---- what is said there
 
 pub harmless_provisioner_begin : (d : Data) → Harmless (view.provisioner_begin_of d)
-harmless_provisioner_begin d = each (view.address_of d) where
-  each : (o : Option (List ℕ)) → Harmless (option_map_or (λ a. view.begins_provisioner a (unwrap_or (view.hook_text (codes "provisioner") d) [])) o view.unusable)
+harmless_provisioner_begin d = each (address_of d) where
+  each : (o : Option (List ℕ)) → Harmless (option_map_or (λ a. view.begins_provisioner a (unwrap_or (hook_text (codes "provisioner") d) [])) o view.unusable)
   each None = tt
   each (Some a) = tt
 
 pub harmless_provisioner_end : (failed : Bool) (d : Data) → Harmless (view.provisioner_end_of failed d)
-harmless_provisioner_end failed d = each (view.address_of d) where
+harmless_provisioner_end failed d = each (address_of d) where
   each : (o : Option (List ℕ)) → Harmless (option_map_or (λ a. view.ends_provisioner a failed) o view.unusable)
   each None = tt
   each (Some a) = tt

@@ -9,9 +9,10 @@ use Rattle.std.proofs.lemmas.List.Sums.{sum_by-cons}
 use Rattle.std.proofs.lemmas.Slice.Eq.{bytes_eq-Decides}
 use Rattle.serde_json.specs.Data.{Data}
 use Rattle.apply_json.specs.Tree.{◌>>=◌, text_of, tree_of}
+use Rattle.stream_message.specs.Members.{time_of}
 use Rattle.stream_timeline.specs.Memory.{stored_bytes, provisioner_bytes, step_bytes}
 use Rattle.laws_timeline.specs.Memory.{allowed_bytes, is_stored, is_stored_line, is_progress, is_progress_line, is_progress_type}
-use Rattle.stream_timeline.specs.Messages.{Message, Content, begins, ends, begins_provisioner, ends_provisioner, error, warning, version, plan_summary, summary, other, unusable, message_at, message_of, time_of, content_of, tree_message}
+use Rattle.stream_timeline.specs.Messages.{Message, Content, begins, ends, begins_provisioner, ends_provisioner, error, warning, version, plan_summary, summary, other, unusable, message_at, message_of, content_of, tree_message}
 use Rattle.stream_timeline.specs.OpenPlaces.{text_bytes}
 use Rattle.stream_timeline.specs.Steps.{ProvisionerRead, StepRead, at_place, ended, ended_with_step, first_of, is_open_at, is_open_with, last_of, passes_at, places, has_open_provisioner, with_last_ended, with_provisioner_ended}
 use Rattle.stream_timeline.specs.TimelineRead.{TimelineRead, is_blank_line, empty_timeline, timeline_of, with_line, with_message_or_passed_over, with_passed_over, with_provisioner_end_at, with_content}

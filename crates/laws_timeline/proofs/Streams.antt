@@ -26,7 +26,8 @@ use Rattle.stream_check.specs.Results as results
 use Rattle.stream_check.specs.Results.{or_refuse}
 use Rattle.stream_check.specs.Tally.{completed_totals}
 use Rattle.stream_check.specs.Words.{action_word}
-use Rattle.stream_timeline.specs.Messages.{Message, hook_text, message_of, time_of, content_of}
+use Rattle.stream_message.specs.Members.{hook_text, time_of}
+use Rattle.stream_timeline.specs.Messages.{Message, message_of, content_of}
 use Rattle.stream_timeline.specs.Steps.{StepRead}
 use Rattle.stream_timeline.specs.TimelineRead.{TimelineRead, is_blank_line, empty_timeline, timeline_of, with_line}
 use Rattle.laws_timeline.specs.Agreement as words

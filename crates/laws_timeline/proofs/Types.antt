@@ -10,6 +10,7 @@ use Rattle.stream_check.specs.declared.messages.action.Action.TheVariants.{Creat
 use Rattle.stream_check.specs.declared.messages.timed_stage.Stage.TheVariants as stage
 use Rattle.stream_check.specs.Message as check
 use Rattle.stream_check.specs.Words.{action_word}
+use Rattle.stream_message.specs.Members.{address_of, hook_text}
 use Rattle.stream_timeline.specs.Messages as view
 use Rattle.laws_timeline.specs.Agreement as words
 use Rattle.laws_timeline.specs.Agreement.{is_ephemeral}
@@ -167,17 +168,17 @@ no_change w e Read h = absurd cc
 no_change w e Refresh h = absurd cc
 
 abbrev TellsNoChange : Data → Type 0
-TellsNoChange d = option_map_or words.is_change (view.hook_text (codes "action") d) false ≡ false
+TellsNoChange d = option_map_or words.is_change (hook_text (codes "action") d) false ≡ false
 
 harmless_begin : (d : Data) → TellsNoChange d → Harmless (view.begin_of d)
-harmless_begin d e = each (view.address_of d) (view.hook_text (codes "action") d) e where
+harmless_begin d e = each (address_of d) (hook_text (codes "action") d) e where
   each : (a w : Option (List ℕ)) → option_map_or words.is_change w false ≡ false → Harmless (option_map_or (λ address. option_map_or (λ action. view.begins address action) w view.unusable) a view.unusable)
   each None w f = tt
   each (Some a) None f = tt
   each (Some a) (Some w) f = no_change w f
 
 harmless_end : (failed : Bool) (d : Data) → TellsNoChange d → Harmless (view.end_of failed d)
-harmless_end failed d e = each (view.address_of d) (view.hook_text (codes "action") d) e where
+harmless_end failed d e = each (address_of d) (hook_text (codes "action") d) e where
   each : (a w : Option (List ℕ)) → option_map_or words.is_change w false ≡ false → Harmless (option_map_or (λ address. option_map_or (λ action. view.ends address action failed) w view.unusable) a view.unusable)
   each None w f = tt
   each (Some a) None f = tt

@@ -5,7 +5,7 @@ use Rattle.std.specs.Str.{bytes_eq}
 use Rattle.apply_json.specs.Tree.{◌>>=◌, text_of, tree_of}
 use Rattle.stream_check.specs.declared.messages.totals.Totals.{Totals}
 use Rattle.laws_timeline.specs.Messages.{message_in}
-use Rattle.stream_timeline.specs.Messages.{hook_text}
+use Rattle.stream_message.specs.Members.{hook_text}
 use Rattle.stream_timeline.specs.Numbers.{completed_of}
 use Rattle.stream_timeline.specs.Steps.{StepRead}
 

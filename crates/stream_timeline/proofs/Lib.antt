@@ -14,12 +14,11 @@ pub mod SweptSoFar
 pub mod LastOne
 pub mod Levels
 pub mod Marking
-pub mod TimeOnly
 pub mod OpenAt
 pub mod PlaceBytes
 pub mod Places
 pub mod Printed
 pub mod Ranking
+pub mod SlotContents
 pub mod Sums
 pub mod Swept
-pub mod Trimmed

@@ -1,11 +1,9 @@
 -- From what holds before a line, or before its content, to the result.
-use Rattle.std.proofs.Common.{◌≡◌, ◌<◌, ℕ, ◌+◌, ℤ, List, false, Option, Some, Result, Ok, Err, refl, sym, ap, ◌∙◌, subst, arith}
+use Rattle.std.proofs.Common.{◌≡◌, ◌<◌, ℕ, ◌+◌, List, false, Result, Ok, Err, refl, sym, ap, ◌∙◌, subst, arith}
 use Rattle.stream_timeline.specs.declared.reading.timeline_fault.TimelineFault.{TimelineFault}
 use Rattle.stream_timeline.specs.declared.reading.timeline_fault.TimelineFault.TheVariants as fault
 use Rattle.stream_timeline.specs.declared.reading.builder.TimelineBuilder.{TimelineBuilder}
-use Rattle.stream_timeline.specs.LineSlots.{time_only}
-use Rattle.stream_timeline.specs.Messages.{Message, message_of}
-use Rattle.stream_timeline.specs.TimeRange.{with_time}
+use Rattle.stream_timeline.specs.Messages.{message_of}
 use Rattle.stream_timeline.specs.declared.reading.open_places.OpenPlaces.{OpenPlaces}
 use Rattle.stream_timeline.specs.OpenPlaces.{HoldsPlaces}
 use Rattle.stream_timeline.specs.TimelineRead.{TimelineRead, max_lines, is_blank_line, with_line_content, with_message_or_passed_over}
@@ -13,16 +11,27 @@ use Rattle.stream_timeline.specs.Building.{ReadsMore, HasRead, IsTooMuch, IsRead
 
 -- ---- answers
 
--- the same result, if what holds before implies what the result needs
-pub goes_from : (Before Then : TimelineRead → Type 0) (new : TimelineBuilder) (f g : TimelineRead → TimelineRead) (r : Result (Unit {0}) TimelineFault)
-    → ((t : TimelineRead) → Before t → (u : TimelineRead) × Then u × (f u ≡ g t)) → ReadsMore Then new f r → ReadsMore Before new g r
-goes_from Before Then new f g (Ok done) leads h = λ t b. let k = leads t b in subst (λ (u : TimelineRead). HasRead new u) k.2 (h k.0 k.1)
-goes_from Before Then new f g (Err fault.TooManySteps) leads h = λ t b. let k = leads t b in subst (λ (u : TimelineRead). IsTooMuch u) k.2 (h k.0 k.1)
-goes_from Before Then new f g (Err fault.Memory) leads h = tt
-goes_from Before Then new f g (Err fault.TooManyLines) leads h = h
-goes_from Before Then new f g (Err (fault.TooLong number)) leads h = h
-goes_from Before Then new f g (Err fault.NoMessage) leads h = h
-goes_from Before Then new f g (Err (fault.Unread failed)) leads h = h
+held_by : (new last : TimelineBuilder) (t : TimelineRead) → last.timeline ≡ new.timeline → last.opened ≡ new.opened → HasRead new t → HasRead last t
+held_by new last t timeline opened h = record {
+  is = timeline ∙ h.is;
+  opened = subst (λ (o : OpenPlaces). HoldsPlaces o t.steps) (sym opened) h.opened;
+  begun = h.begun;
+  lines = h.lines;
+  passed_over = h.passed_over;
+  errors = h.errors;
+  warnings = h.warnings;
+}
+
+-- the same result, if what holds before implies what the result needs; the scratch does not matter
+module _ (Before Then : TimelineRead → Type 0) (new last : TimelineBuilder) (f g : TimelineRead → TimelineRead) (timeline : last.timeline ≡ new.timeline) (opened : last.opened ≡ new.opened) where
+  pub goes_from : (r : Result (Unit {0}) TimelineFault) → ((t : TimelineRead) → Before t → (u : TimelineRead) × Then u × (f u ≡ g t)) → ReadsMore Then new f r → ReadsMore Before last g r
+  goes_from (Ok done) leads h = λ t b. let k = leads t b in held_by new last (g t) timeline opened (subst (λ (u : TimelineRead). HasRead new u) k.2 (h k.0 k.1))
+  goes_from (Err fault.TooManySteps) leads h = λ t b. let k = leads t b in subst (λ (u : TimelineRead). IsTooMuch u) k.2 (h k.0 k.1)
+  goes_from (Err fault.Memory) leads h = tt
+  goes_from (Err fault.TooManyLines) leads h = h
+  goes_from (Err (fault.TooLong number)) leads h = h
+  goes_from (Err fault.NoMessage) leads h = h
+  goes_from (Err (fault.Unread failed)) leads h = h
 
 -- ---- a line is counted
 
@@ -43,18 +52,3 @@ counted_takes old new t h is room at =
 -- a line that is not blank adds what its message states
 pub not_blank : (line : List ℕ) (t : TimelineRead) → is_blank_line line ≡ false → with_message_or_passed_over (message_of line) t ≡ with_line_content line t
 not_blank line t other = rw other refl
-
--- a line that only contributes its time
-pub time_only_read : (counted new : TimelineBuilder) (t : TimelineRead) (line : List ℕ) (time : ℤ) → IsReadingLine counted t → new.timeline ≡ record counted.timeline { time_range = Some (with_time time counted.timeline.time_range) }
-    → new.opened ≡ counted.opened → is_blank_line line ≡ false → message_of line ≡ Some (time_only time) → HasRead new (with_line_content line t)
-time_only_read counted new t line time takes is at other value =
-    let held : HasRead new (record t { time_range = Some (with_time time t.time_range) }) = record {
-      is = is ∙ ap (λ (x : TimelineRead). record x { time_range = Some (with_time time x.time_range) }) takes.is;
-      opened = subst (λ (o : OpenPlaces). HoldsPlaces o t.steps) (sym at) takes.opened;
-      begun = takes.begun;
-      lines = takes.lines;
-      passed_over = omega (arith, takes.passed_over);
-      errors = omega (arith, takes.errors);
-      warnings = omega (arith, takes.warnings);
-    } in
-    subst (λ (u : TimelineRead). HasRead new u) (ap (λ (m : Option Message). with_message_or_passed_over m t) (sym value) ∙ not_blank line t other) held

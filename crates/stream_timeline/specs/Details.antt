@@ -1,11 +1,11 @@
 -- What is stored of the texts of diagnostics.
-use Rattle.std.specs.Prelude.{ℕ, ◌+◌, ◌-◌, ◌==◌, ◌||◌, nat_le, List, [], ◌++◌, codes, Bool, if◌then◌else◌, length, map, take, drop, Option, unwrap_or}
+use Rattle.std.specs.Prelude.{ℕ, ◌+◌, ◌-◌, ◌==◌, ◌||◌, nat_le, List, [], ◌++◌, codes, Bool, if◌then◌else◌, length, map, take, drop, Option}
 use Rattle.std.specs.List.{prefix_len, suffix_len}
 use Rattle.std.specs.Option.{option_map}
 use Rattle.serde_json.specs.Data.{Data}
-use Rattle.serde_json.specs.Find.{as_number, as_u64}
-use Rattle.apply_json.specs.Tree.{◌>>=◌, member_of, text_of}
+use Rattle.apply_json.specs.Tree.{text_of}
 use Rattle.stream_lines.specs.Cut.{cut_lines}
+use Rattle.stream_message.specs.Members.{file_of, line_of, text_or_empty}
 
 -- how many bytes of a long text are stored, from its front and from its back
 abbrev pub front_bytes : ℕ
@@ -61,21 +61,6 @@ pub record DiagnosticRead : Type 0 where
   pub detail : List (List ℕ)
   -- how many lines of the detail are not stored
   pub more : ℕ
-
--- a text member; empty if it is missing
-abbrev pub text_or_empty : (name : List ℕ) → Data → List ℕ
-text_or_empty name d = unwrap_or (text_of name d) []
-
--- a member that is a whole number of 64 bits and not negative
-abbrev pub count_of : (name : List ℕ) → Data → Option ℕ
-count_of name d = member_of name d >>= as_number >>= as_u64
-
--- the file that a diagnostic is about, and the line in it
-abbrev pub file_of : Data → Option (List ℕ)
-file_of d = member_of (codes "range") d >>= text_of (codes "filename")
-
-abbrev pub line_of : Data → Option ℕ
-line_of d = (member_of (codes "range") d >>= member_of (codes "start")) >>= count_of (codes "line")
 
 -- what is stored of the object `diagnostic`
 abbrev pub diagnostic_of : Data → DiagnosticRead

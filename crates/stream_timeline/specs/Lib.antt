@@ -3,7 +3,6 @@ pub mod Details
 pub mod Edges
 pub mod Faults
 pub mod Intervals
-pub mod LineSlots
 pub mod Lines
 pub mod Memory
 pub mod Messages
@@ -11,7 +10,7 @@ pub mod TimeRange
 pub mod Numbers
 pub mod OpenPlaces
 pub mod Rows
-pub mod Selection
+pub mod SlotContents
 pub mod Steps
 pub mod Stretches
 pub mod Sweeping

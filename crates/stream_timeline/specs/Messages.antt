@@ -4,9 +4,9 @@ use Rattle.std.specs.Option.{option_map_or}
 use Rattle.std.specs.Str.{bytes_eq}
 use Rattle.serde_json.specs.Data.{Data}
 use Rattle.apply_json.specs.Tree.{◌>>=◌, member_of, text_of, tree_of}
+use Rattle.stream_message.specs.Members.{address_of, count_of, hook_text, text_or_empty, time_of}
 use Rattle.stream_timeline.specs.declared.reading.totals.Totals.{Totals}
-use Rattle.stream_timeline.specs.Details.{DiagnosticRead, count_of, diagnostic_of, text_or_empty}
-use Rattle.stream_timeline.specs.TimeRange.{instant_of}
+use Rattle.stream_timeline.specs.Details.{DiagnosticRead, diagnostic_of}
 
 pub data Content : Type 0 where
   -- a step with this address and action begins, or ends
@@ -27,15 +27,6 @@ pub data Content : Type 0 where
   -- a message about a step or a provisioner without its address or action, or a diagnostic of
   -- another severity
   unusable : Content
-
--- ---- members
-
--- the address of the resource that a hook is about
-abbrev pub address_of : Data → Option (List ℕ)
-address_of d = (member_of (codes "hook") d >>= member_of (codes "resource")) >>= text_of (codes "addr")
-
-abbrev pub hook_text : (name : List ℕ) → Data → Option (List ℕ)
-hook_text name d = member_of (codes "hook") d >>= text_of name
 
 -- ---- the content of each type
 
@@ -132,10 +123,6 @@ pub record Message : Type 0 where
   -- microseconds since the start of 1970
   pub time : ℤ
   pub content : Content
-
--- the timestamp of a message
-abbrev pub time_of : Data → Option ℤ
-time_of d = text_of (codes "@timestamp") d >>= instant_of
 
 abbrev pub message_at : (name : List ℕ) → Data → ℤ → Message
 message_at name d time = record { time = time; content = content_of name d }

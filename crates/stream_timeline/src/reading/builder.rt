@@ -1,21 +1,28 @@
 //! Builds a time line from the lines of a stream.
 
 ghost use Rattle.std.specs.Prelude.{◌≡◌, ◌<◌, ◌^◌, ◌↔◌, ℕ, List, None, IfErr, IfOk, false};
-ghost use Rattle.serde_json.specs.View.{view};
 
-use crate::reading::content::{Content, time_of};
+use crate::reading::content::Content;
 use crate::reading::details::is_blank_line;
 use crate::reading::limits::MAX_LINES;
-use crate::reading::line_shape::LineShape;
-use crate::reading::line_slots::time_in;
 use crate::reading::open_places::OpenPlaces;
 use crate::reading::timeline::Timeline;
 use crate::reading::timeline_fault::TimelineFault;
 use apply_json::{JsonFault, Scratch};
-use apply_json_tree::members::text_member;
-use apply_json_tree::parse_trimmed;
-use serde_json::Value;
 use std::alloc::Global;
+use std::mem::replace;
+use stream_message::{LineSlots, Selection, read_line};
+
+/// The members that a time line needs.
+const SELECTION: Selection = Selection {
+    timestamp: true,
+    version: true,
+    hook: true,
+    change: false,
+    changes: true,
+    diagnostic: true,
+    diagnostic_texts: true,
+};
 
 /// Builds a time line from the lines of a stream, one line after another. It stores the time line
 /// so far and an index of the open steps.
@@ -29,9 +36,10 @@ pub struct TimelineBuilder {
 
 impl TimelineBuilder {
     ghost use Rattle.stream_timeline.specs.Messages.{message_of};
-    ghost use Rattle.stream_timeline.specs.TimelineRead.{max_lines, empty_timeline, with_line, with_message_or_passed_over, with_content, with_tree};
+    ghost use Rattle.stream_timeline.specs.TimelineRead.{max_lines, empty_timeline, with_line, with_message_or_passed_over, with_content};
     ghost use Rattle.stream_timeline.specs.Building.{ReadsMore, HasRead, IsReadingLine};
     ghost use Rattle.stream_timeline.specs.ContentViews.{content_view};
+    ghost use Rattle.stream_timeline.specs.SlotContents.{message_in};
     ghost use Rattle.stream_timeline.specs.declared.reading.timeline_fault.TimelineFault.TheVariants.{NoMessage};
 
     /// A builder that has read no line.
@@ -65,22 +73,25 @@ impl TimelineBuilder {
         if is_blank_line(line) {
             return Ok(());
         }
-        match time_in(alloc, &mut self.scratch, line) {
-            Some(time) => {
-                self.timeline.add_time(time);
-                Ok(())
-            }
-            None => self.line_as_tree(alloc, line),
-        }
+        // Slots borrow the scratch, so it is out of the builder while a message is applied.
+        let mut scratch = replace(&mut self.scratch, Scratch::new(alloc));
+        let result = self.line_with(alloc, &mut scratch, line);
+        self.scratch = scratch;
+        result
     }
 
-    /// Reads a line by parsing it into a tree. This covers every line for which the slots do not
-    /// suffice. The errors are those of `line`.
-    fn line_as_tree(&mut self, alloc: Global, line: &[u8]) -> Result<(), TimelineFault>
+    /// Reads a line that is not blank. A line that is no JSON is passed over. The errors are those
+    /// of `line`.
+    fn line_with(
+        &mut self,
+        alloc: Global,
+        scratch: &mut Scratch,
+        line: &[u8],
+    ) -> Result<(), TimelineFault>
         ensures { ReadsMore (IsReadingLine self.old) self.new (with_message_or_passed_over (message_of line.now)) result }
     {
-        match parse_trimmed(alloc, &mut self.scratch, line, line.len(), LineShape::Line) {
-            Ok(tree) => self.tree(alloc, &tree),
+        match read_line(alloc, scratch, SELECTION, line) {
+            Ok(slots) => self.message(alloc, &slots),
             Err(JsonFault::Memory) => Err(TimelineFault::Memory),
             Err(JsonFault::TooLarge | JsonFault::NotJson) => {
                 self.timeline.pass_over();
@@ -101,21 +112,21 @@ impl TimelineBuilder {
         Ok(self.timeline)
     }
 
-    /// Reads a line that is a JSON tree. A tree without a text `type` or without a valid
-    /// `@timestamp` is passed over.
-    fn tree(&mut self, alloc: Global, tree: &Value) -> Result<(), TimelineFault>
-        ensures { ReadsMore (IsReadingLine self.old) self.new (with_tree (view tree.now)) result }
+    /// Reads the members of a line. A line without a text `type` or without a valid `@timestamp` is
+    /// passed over.
+    fn message(&mut self, alloc: Global, line: &LineSlots<'_>) -> Result<(), TimelineFault>
+        ensures { ReadsMore (IsReadingLine self.old) self.new (with_message_or_passed_over (message_in line.now)) result }
     {
-        let Some(name) = text_member(tree, "type") else {
+        let Some(kind) = line.kind() else {
             self.timeline.pass_over();
             return Ok(());
         };
-        let Some(time) = time_of(tree) else {
+        let Some(time) = line.time() else {
             self.timeline.pass_over();
             return Ok(());
         };
         self.timeline.add_time(time);
-        self.take(alloc, time, Content::of(name, tree))
+        self.take(alloc, time, Content::of(kind, line))
     }
 
     /// Applies what a message states to the time line.
@@ -139,9 +150,9 @@ impl TimelineBuilder {
                 self.end_provisioner(address, failed, time);
                 Ok(())
             }
-            Content::Error { members } => self.error(alloc, members),
-            Content::Warning { members } => {
-                self.timeline.add_warning(alloc, members)?;
+            Content::Error { diagnostic } => self.error(alloc, &diagnostic),
+            Content::Warning { diagnostic } => {
+                self.timeline.add_warning(alloc, &diagnostic)?;
                 Ok(())
             }
             Content::Version { text } => {

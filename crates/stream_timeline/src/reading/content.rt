@@ -1,21 +1,15 @@
-//! What a message states about steps, read from its JSON tree (Machine-Readable UI, "Message
+//! What a message states about steps, by the members of its line (Machine-Readable UI, "Message
 //! Types").
 
-ghost use Rattle.std.specs.Prelude.{◌≡◌, ◌||◌, codes, option_map, List, ℕ};
-ghost use Rattle.std.specs.Option.{option_copied};
-ghost use Rattle.std.specs.Str.{bytes_eq};
-ghost use Rattle.serde_json.specs.View.{view};
-ghost use Rattle.stream_timeline.specs.LineSlots.{is_other};
-ghost use Rattle.stream_timeline.specs.Messages.{address_of, begin_of, diagnostic_content, diagnostic_with, end_of, general_content, hook_text, time_of, other_step_content, provisioner_begin_of, provisioner_end_of, provisioner_content, refresh_begin_of, refresh_end_of, content_of, summary_in, summary_of, totals_in};
+ghost use Rattle.std.specs.Prelude.{◌≡◌};
+ghost use Rattle.stream_timeline.specs.SlotContents.{begin_in, content_in, diagnostic_content_in, end_in, provisioner_begin_in, provisioner_content_in, provisioner_end_in, refresh_begin_in, refresh_content_in, refresh_end_in, severity_content_in, step_content_in, summary_content_in, totals_of};
 
-use crate::reading::diagnostic::{count_of, text_or_empty};
-use crate::reading::time_range::instant_of;
+use crate::reading::texts::text_or_empty;
 use crate::reading::totals::Totals;
 use apply_json::is_text;
-use apply_json_tree::members::{member, text_member};
-use serde_json::Value;
+use stream_message::{ChangesSlots, DiagnosticSlots, HookSlots, Kind, LineSlots, Stage};
 
-/// What a message states. Texts and objects are borrowed from its tree.
+/// What a message states. Its texts are borrowed from its line.
 #[derive(Clone, Copy)]
 pub enum Content<'a> {
     /// A step with this address and action begins.
@@ -39,13 +33,11 @@ pub enum Content<'a> {
         address: &'a str,
         failed: bool,
     },
-    /// An error, as the object `diagnostic`.
     Error {
-        members: &'a Value,
+        diagnostic: DiagnosticSlots<'a>,
     },
-    /// A warning, as the object `diagnostic`.
     Warning {
-        members: &'a Value,
+        diagnostic: DiagnosticSlots<'a>,
     },
     /// The version of Terraform.
     Version {
@@ -64,81 +56,42 @@ pub enum Content<'a> {
     Unusable,
 }
 
-/// The timestamp of a message, in microseconds since the start of 1970. `None` if the message has
-/// no valid `@timestamp`.
-pub fn time_of(tree: &Value) -> Option<i64>
-    ensures { result ≡ time_of (view tree.now) }
-{
-    instant_of(text_member(tree, "@timestamp")?)
-}
-
-/// The address in `hook.resource.addr`.
-fn address_of(tree: &Value) -> Option<&str>
-    ensures { option_copied result ≡ address_of (view tree.now) }
-{
-    text_member(member(member(tree, "hook")?, "resource")?, "addr")
-}
-
-/// The text member `name` of `hook`.
-fn hook_text<'a>(tree: &'a Value, name: &str) -> Option<&'a str>
-    ensures { option_copied result ≡ hook_text name.now (view tree.now) }
-{
-    text_member(member(tree, "hook")?, name)
-}
-
-/// Whether the name is one of the two.
-fn is_either(name: &str, first: &str, second: &str) -> bool
-    ensures { result ≡ (bytes_eq name.now first.now || bytes_eq name.now second.now) }
-{
-    is_text(name, first) || is_text(name, second)
-}
-
-/// The totals in the object `changes`.
-fn totals_in(changes: &Value) -> Totals
-    ensures { result ≡ totals_in (view changes.now) }
+/// The totals in `changes`. Without `changes` no total is known.
+fn totals_of(changes: &ChangesSlots<'_>) -> Totals
+    ensures { result ≡ totals_of changes.now }
 {
     Totals {
-        added: count_of(changes, "add"),
-        changed: count_of(changes, "change"),
-        removed: count_of(changes, "remove"),
-        imported: count_of(changes, "import"),
+        added: changes.added(),
+        changed: changes.changed(),
+        removed: changes.removed(),
+        imported: changes.imported(),
     }
 }
 
 impl<'a> Content<'a> {
     ghost use Rattle.stream_timeline.specs.ContentViews.{content_view};
 
-    /// Whether the message only contributes its timestamp.
-    pub fn is_other(self) -> bool
-        ensures { result ≡ is_other (content_view self.entry) }
-    {
-        match self {
-            Content::Other => true,
-            _ => false,
-        }
-    }
-
     /// The content of `apply_start` and `ephemeral_op_start`.
-    fn of_begin(tree: &'a Value) -> Content<'a>
-        ensures { content_view result ≡ begin_of (view tree.now) }
+    fn of_begin(hook: &HookSlots<'a>) -> Content<'a>
+        ensures { content_view result ≡ begin_in hook.now }
     {
-        let Some(address) = address_of(tree) else {
+        let Some(address) = hook.address() else {
             return Content::Unusable;
         };
-        match hook_text(tree, "action") {
+        match hook.action() {
             Some(action) => Content::Begins { address, action },
             None => Content::Unusable,
         }
     }
 
     /// The content of a message that ends a step.
-    fn of_end(tree: &'a Value, failed: bool) -> Content<'a>
-        ensures { content_view result ≡ end_of failed (view tree.now) }
+    fn of_end(hook: &HookSlots<'a>, failed: bool) -> Content<'a>
+        ensures { content_view result ≡ end_in failed hook.now }
     {
-        let Some(address) = address_of(tree) else {
+        let Some(address) = hook.address() else {
             return Content::Unusable;
         };
-        match hook_text(tree, "action") {
+        match hook.action() {
             Some(action) => Content::Ends {
                 address,
                 action,
@@ -149,10 +102,10 @@ impl<'a> Content<'a> {
     }
 
     /// The content of `refresh_start`. It has no action; `refresh` stands for it.
-    fn of_refresh_begin(tree: &'a Value) -> Content<'a>
-        ensures { content_view result ≡ refresh_begin_of (view tree.now) }
+    fn of_refresh_begin(hook: &HookSlots<'a>) -> Content<'a>
+        ensures { content_view result ≡ refresh_begin_in hook.now }
     {
-        match address_of(tree) {
+        match hook.address() {
             Some(address) => Content::Begins {
                 address,
                 action: "refresh",
@@ -162,10 +115,10 @@ impl<'a> Content<'a> {
     }
 
     /// The content of `refresh_complete`.
-    fn of_refresh_end(tree: &'a Value) -> Content<'a>
-        ensures { content_view result ≡ refresh_end_of (view tree.now) }
+    fn of_refresh_end(hook: &HookSlots<'a>) -> Content<'a>
+        ensures { content_view result ≡ refresh_end_in hook.now }
     {
-        match address_of(tree) {
+        match hook.address() {
             Some(address) => Content::Ends {
                 address,
                 action: "refresh",
@@ -176,139 +129,113 @@ impl<'a> Content<'a> {
     }
 
     /// The content of `provision_start`. A missing name is the empty text.
-    fn of_provisioner_begin(tree: &'a Value) -> Content<'a>
-        ensures { content_view result ≡ provisioner_begin_of (view tree.now) }
+    fn of_provisioner_begin(hook: &HookSlots<'a>) -> Content<'a>
+        ensures { content_view result ≡ provisioner_begin_in hook.now }
     {
-        let Some(address) = address_of(tree) else {
-            return Content::Unusable;
-        };
-        match hook_text(tree, "provisioner") {
-            Some(name) => Content::BeginsProvisioner { address, name },
-            None => Content::BeginsProvisioner { address, name: "" },
+        match hook.address() {
+            Some(address) => Content::BeginsProvisioner {
+                address,
+                name: text_or_empty(hook.provisioner()),
+            },
+            None => Content::Unusable,
         }
     }
 
     /// The content of `provision_complete` and `provision_errored`.
-    fn of_provisioner_end(tree: &'a Value, failed: bool) -> Content<'a>
-        ensures { content_view result ≡ provisioner_end_of failed (view tree.now) }
+    fn of_provisioner_end(hook: &HookSlots<'a>, failed: bool) -> Content<'a>
+        ensures { content_view result ≡ provisioner_end_in failed hook.now }
     {
-        match address_of(tree) {
+        match hook.address() {
             Some(address) => Content::EndsProvisioner { address, failed },
             None => Content::Unusable,
         }
     }
 
+    /// The content of a message about a step with an action.
+    fn of_step(stage: Stage, hook: &HookSlots<'a>) -> Content<'a>
+        ensures { content_view result ≡ step_content_in stage hook.now }
+    {
+        match stage {
+            Stage::Start => Content::of_begin(hook),
+            Stage::Progress => Content::Other,
+            Stage::Complete => Content::of_end(hook, false),
+            Stage::Errored => Content::of_end(hook, true),
+        }
+    }
+
+    /// The content of a message about a refresh.
+    fn of_refresh(stage: Stage, hook: &HookSlots<'a>) -> Content<'a>
+        ensures { content_view result ≡ refresh_content_in stage hook.now }
+    {
+        match stage {
+            Stage::Start => Content::of_refresh_begin(hook),
+            Stage::Complete => Content::of_refresh_end(hook),
+            Stage::Progress | Stage::Errored => Content::Other,
+        }
+    }
+
+    /// The content of a message about a provisioner.
+    fn of_provisioner(stage: Stage, hook: &HookSlots<'a>) -> Content<'a>
+        ensures { content_view result ≡ provisioner_content_in stage hook.now }
+    {
+        match stage {
+            Stage::Start => Content::of_provisioner_begin(hook),
+            Stage::Progress => Content::Other,
+            Stage::Complete => Content::of_provisioner_end(hook, false),
+            Stage::Errored => Content::of_provisioner_end(hook, true),
+        }
+    }
+
     /// The content of a diagnostic with this severity.
-    fn of_severity(severity: &str, members: &'a Value) -> Content<'a>
-        ensures { content_view result ≡ diagnostic_with severity.now (view members.now) }
+    fn of_severity(severity: &str, diagnostic: DiagnosticSlots<'a>) -> Content<'a>
+        ensures { content_view result ≡ severity_content_in severity.now diagnostic.entry }
     {
         if is_text(severity, "error") {
-            Content::Error { members }
+            Content::Error { diagnostic }
         } else if is_text(severity, "warning") {
-            Content::Warning { members }
+            Content::Warning { diagnostic }
         } else {
             Content::Unusable
         }
     }
 
     /// The content of `diagnostic`.
-    fn of_diagnostic(tree: &'a Value) -> Content<'a>
-        ensures { content_view result ≡ diagnostic_content (view tree.now) }
+    fn of_diagnostic(diagnostic: DiagnosticSlots<'a>) -> Content<'a>
+        ensures { content_view result ≡ diagnostic_content_in diagnostic.entry }
     {
-        match member(tree, "diagnostic") {
-            Some(members) => Content::of_severity(text_or_empty(members, "severity"), members),
+        match diagnostic.severity() {
+            Some(severity) => Content::of_severity(severity, diagnostic),
             None => Content::Unusable,
         }
     }
 
-    /// The content of a summary, by its object `changes`.
-    fn of_changes(changes: &'a Value) -> Content<'a>
-        ensures { content_view result ≡ summary_in (view changes.now) }
+    /// The content of `change_summary`.
+    fn of_summary(changes: &ChangesSlots<'a>) -> Content<'a>
+        ensures { content_view result ≡ summary_content_in changes.now }
     {
-        if text_or_empty(changes, "operation") == "plan" {
+        if is_text(text_or_empty(changes.operation()), "plan") {
             Content::PlanSummary
         } else {
             Content::Summary {
-                totals: totals_in(changes),
+                totals: totals_of(changes),
             }
         }
     }
 
-    /// The content of `change_summary`. Without `changes` no total is known.
-    fn of_summary(tree: &'a Value) -> Content<'a>
-        ensures { content_view result ≡ summary_of (view tree.now) }
+    /// The content of a message of this kind.
+    pub fn of(kind: Kind, line: &LineSlots<'a>) -> Content<'a>
+        ensures { content_view result ≡ content_in kind line.now }
     {
-        match member(tree, "changes") {
-            Some(changes) => Content::of_changes(changes),
-            None => Content::Summary {
-                totals: Totals {
-                    added: None,
-                    changed: None,
-                    removed: None,
-                    imported: None,
-                },
+        match kind {
+            Kind::Apply(stage) | Kind::Ephemeral(stage) => Content::of_step(stage, &line.hook),
+            Kind::Refresh(stage) => Content::of_refresh(stage, &line.hook),
+            Kind::Provision(stage) => Content::of_provisioner(stage, &line.hook),
+            Kind::Diagnostic => Content::of_diagnostic(line.diagnostic),
+            Kind::Version => Content::Version {
+                text: text_or_empty(line.version()),
             },
-        }
-    }
-
-    /// The content of a message with the type `name`.
-    pub fn of(name: &str, tree: &'a Value) -> Content<'a>
-        ensures { content_view result ≡ content_of name.now (view tree.now) }
-    {
-        if is_either(name, "apply_start", "ephemeral_op_start") {
-            Content::of_begin(tree)
-        } else if is_either(name, "apply_complete", "ephemeral_op_complete") {
-            Content::of_end(tree, false)
-        } else if is_either(name, "apply_errored", "ephemeral_op_errored") {
-            Content::of_end(tree, true)
-        } else {
-            Content::of_other_step(name, tree)
-        }
-    }
-
-    /// The content of a message that is not about the begin or end of an operation other than a
-    /// refresh.
-    fn of_other_step(name: &str, tree: &'a Value) -> Content<'a>
-        ensures { content_view result ≡ other_step_content name.now (view tree.now) }
-    {
-        if is_text(name, "refresh_start") {
-            Content::of_refresh_begin(tree)
-        } else if is_text(name, "refresh_complete") {
-            Content::of_refresh_end(tree)
-        } else {
-            Content::of_provisioner(name, tree)
-        }
-    }
-
-    /// The content of a message that is not about a step.
-    fn of_provisioner(name: &str, tree: &'a Value) -> Content<'a>
-        ensures { content_view result ≡ provisioner_content name.now (view tree.now) }
-    {
-        if is_text(name, "provision_start") {
-            Content::of_provisioner_begin(tree)
-        } else if is_text(name, "provision_complete") {
-            Content::of_provisioner_end(tree, false)
-        } else if is_text(name, "provision_errored") {
-            Content::of_provisioner_end(tree, true)
-        } else {
-            Content::of_other_type(name, tree)
-        }
-    }
-
-    /// The content of a message that is about neither a step nor a provisioner.
-    fn of_other_type(name: &str, tree: &'a Value) -> Content<'a>
-        ensures { content_view result ≡ general_content name.now (view tree.now) }
-    {
-        if is_text(name, "diagnostic") {
-            Content::of_diagnostic(tree)
-        } else if is_text(name, "version") {
-            Content::Version {
-                text: text_or_empty(tree, "terraform"),
-            }
-        } else if is_text(name, "change_summary") {
-            Content::of_summary(tree)
-        } else {
-            Content::Other
+            Kind::Summary => Content::of_summary(&line.changes),
+            Kind::Planned | Kind::Outputs | Kind::Other => Content::Other,
         }
     }
 }

@@ -1,17 +1,17 @@
 //! An error or a warning of a stream.
 
 ghost use Rattle.std.specs.Prelude.{◌≡◌, ◌≢◌, ◌+◌, ◌-◌, ◌<◌, ◌≤◌, drop, slice_index, All, IfOk, length, map, option_map, take};
-ghost use Rattle.serde_json.specs.View.{view};
 ghost use Rattle.std.specs.Option.{option_copied};
-ghost use Rattle.stream_timeline.specs.Details.{count_of, detail_lines, diagnostic_of, file_of, stored, line_of, lines_of_detail, text_or_empty, trimmed_line};
+ghost use Rattle.stream_timeline.specs.Details.{detail_lines, stored, lines_of_detail, trimmed_line};
+ghost use Rattle.stream_timeline.specs.SlotContents.{diagnostic_in};
 
 use crate::reading::details::{len_without_blank_lines, stored, trimmed_line};
 use crate::reading::limits::DETAIL_LINES;
-use apply_json_tree::members::{member, text_member};
+use crate::reading::texts::text_or_empty;
 use memchr::memchr;
-use serde_json::Value;
 use std::alloc::{AllocError, Global};
 use std::marker::Model;
+use stream_message::DiagnosticSlots;
 
 /// An error or a warning of a stream.
 ///
@@ -55,16 +55,16 @@ impl Model for Diagnostic {
 }
 
 impl Diagnostic {
-    /// Reads the object `diagnostic`. `Err` means that memory was refused.
-    pub(crate) fn of(alloc: Global, members: &Value) -> Result<Diagnostic, AllocError>
-        ensures { IfOk result (λ diagnostic. diagnostic ≡ diagnostic_of (view members.now)) }
+    /// Stores the members of `diagnostic`. `Err` means that memory was refused.
+    pub(crate) fn of(alloc: Global, slots: &DiagnosticSlots<'_>) -> Result<Diagnostic, AllocError>
+        ensures { IfOk result (λ diagnostic. diagnostic ≡ diagnostic_in slots.now) }
     {
-        let detail = Detail::of(alloc, text_or_empty(members, "detail").as_bytes())?;
+        let detail = Detail::of(alloc, text_or_empty(slots.detail()).as_bytes())?;
         Ok(Diagnostic {
-            summary: stored(alloc, text_or_empty(members, "summary").as_bytes())?,
-            address: stored_text(alloc, text_member(members, "address"))?,
-            file: stored_text(alloc, file_of(members))?,
-            line: line_of(members),
+            summary: stored(alloc, text_or_empty(slots.summary()).as_bytes())?,
+            address: stored_text(alloc, slots.address())?,
+            file: stored_text(alloc, slots.file())?,
+            line: slots.line(),
             detail,
         })
     }
@@ -165,16 +165,6 @@ fn after_feed(bytes: &[u8], len: usize) -> &[u8]
     }
 }
 
-/// The text member `name`; empty if it is missing.
-pub(crate) fn text_or_empty<'a>(value: &'a Value, name: &str) -> &'a str
-    ensures { result.now ≡ text_or_empty name.now (view value.now) }
-{
-    match text_member(value, name) {
-        Some(text) => text,
-        None => "",
-    }
-}
-
 /// The stored part of a text, if there is one. `Err` means that memory was refused.
 fn stored_text(alloc: Global, text: Option<&str>) -> Result<Option<Vec<u8>>, AllocError>
     ensures { IfOk result (λ value. option_map (λ bytes. bytes.items) value
@@ -184,25 +174,4 @@ fn stored_text(alloc: Global, text: Option<&str>) -> Result<Option<Vec<u8>>, All
         Some(text) => Ok(Some(stored(alloc, text.as_bytes())?)),
         None => Ok(None),
     }
-}
-
-/// The text in `range.filename`.
-fn file_of(members: &Value) -> Option<&str>
-    ensures { option_copied result ≡ file_of (view members.now) }
-{
-    text_member(member(members, "range")?, "filename")
-}
-
-/// The number in `range.start.line`.
-fn line_of(members: &Value) -> Option<u64>
-    ensures { result ≡ line_of (view members.now) }
-{
-    count_of(member(member(members, "range")?, "start")?, "line")
-}
-
-/// The member `name`, if it is a whole number of 64 bits that is not negative.
-pub(crate) fn count_of(value: &Value, name: &str) -> Option<u64>
-    ensures { result ≡ count_of name.now (view value.now) }
-{
-    member(value, name)?.as_u64()
 }

@@ -1,16 +1,15 @@
 //! The diagnostics of one severity.
 
 ghost use Rattle.std.specs.Prelude.{◌≡◌, OnErr, OnOk};
-ghost use Rattle.serde_json.specs.View.{view};
-ghost use Rattle.stream_timeline.specs.Details.{diagnostic_of};
+ghost use Rattle.stream_timeline.specs.SlotContents.{diagnostic_in};
 ghost use Rattle.stream_timeline.specs.TimelineRead.{no_diagnostics};
 ghost use Rattle.stream_timeline.specs.Building.{added};
 
 use crate::reading::diagnostic::Diagnostic;
 use crate::reading::limits::MAX_STORED;
-use serde_json::Value;
 use std::alloc::{AllocError, Global};
 use std::marker::Model;
+use stream_message::DiagnosticSlots;
 
 /// The diagnostics of one severity: the first 20, and how many there were in all.
 #[derive(Drop)]
@@ -38,14 +37,17 @@ impl Diagnostics {
         }
     }
 
-    /// Adds a diagnostic, given as the object `diagnostic`. `Err` means that memory was refused;
-    /// then nothing is changed.
-    pub(crate) fn add(&mut self, alloc: Global, members: &Value) -> Result<(), AllocError>
-        ensures ok { OnOk result (self.new ≡ added (diagnostic_of (view members.now)) self.old) }
+    /// Adds a diagnostic. `Err` means that memory was refused; then nothing is changed.
+    pub(crate) fn add(
+        &mut self,
+        alloc: Global,
+        slots: &DiagnosticSlots<'_>,
+    ) -> Result<(), AllocError>
+        ensures ok { OnOk result (self.new ≡ added (diagnostic_in slots.now) self.old) }
         ensures err { OnErr result (self.new ≡ self.old) }
     {
         if self.stored.len() < MAX_STORED {
-            let diagnostic = Diagnostic::of(alloc, members)?;
+            let diagnostic = Diagnostic::of(alloc, slots)?;
             self.stored.push(diagnostic)?;
         }
         self.count = self.count.saturating_add(1);

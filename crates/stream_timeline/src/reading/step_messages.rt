@@ -2,18 +2,16 @@
 //!
 //! `TimelineFault::Memory` means that memory was refused.
 
-ghost use Rattle.std.specs.Prelude.{◌≡◌, codes};
-ghost use Rattle.apply_json.specs.Tree.{text_of};
-ghost use Rattle.serde_json.specs.View.{view};
+ghost use Rattle.std.specs.Prelude.{◌≡◌};
+ghost use Rattle.stream_message.specs.SlotValues.{diagnostic_address_in};
 
 use crate::reading::builder::TimelineBuilder;
 use crate::reading::timeline_fault::TimelineFault;
-use apply_json_tree::members::text_member;
-use serde_json::Value;
 use std::alloc::Global;
+use stream_message::DiagnosticSlots;
 
 impl TimelineBuilder {
-    ghost use Rattle.stream_timeline.specs.Details.{diagnostic_of};
+    ghost use Rattle.stream_timeline.specs.SlotContents.{diagnostic_in};
     ghost use Rattle.stream_timeline.specs.Steps.{first_of, is_open_at, is_open_with, last_of, places};
     ghost use Rattle.stream_timeline.specs.TimelineRead.{TimelineRead, with_begin, with_end, with_error, with_provisioner_begin, with_provisioner_end};
     ghost use Rattle.stream_timeline.specs.Building.{ReadsMore, HasRead, IsReadingLine};
@@ -117,12 +115,15 @@ impl TimelineBuilder {
     }
 
     /// Stores an error, and marks the steps that are open at its address as failed.
-    pub(crate) fn error(&mut self, alloc: Global, members: &Value) -> Result<(), TimelineFault>
-        ensures { ReadsMore (IsReadingLine self.old) self.new (with_error (text_of (codes "address") (view members.now)) (diagnostic_of (view members.now)))
-            result }
+    pub(crate) fn error(
+        &mut self,
+        alloc: Global,
+        slots: &DiagnosticSlots<'_>,
+    ) -> Result<(), TimelineFault>
+        ensures { ReadsMore (IsReadingLine self.old) self.new (with_error (diagnostic_address_in slots.now) (diagnostic_in slots.now)) result }
     {
-        self.timeline.add_error(alloc, members)?;
-        if let Some(address) = text_member(members, "address") {
+        self.timeline.add_error(alloc, slots)?;
+        if let Some(address) = slots.address() {
             self.timeline.mark_all(self.opened.at(address));
         }
         Ok(())

@@ -3,9 +3,7 @@
 ghost use Rattle.std.specs.Prelude.{◌≡◌, Some};
 ghost use Rattle.std.specs.Int.{int_gap};
 ghost use Rattle.stream_timeline.specs.Intervals.{span_of};
-ghost use Rattle.stream_timeline.specs.TimeRange.{instant_of, with_time};
-
-use jiff::Timestamp;
+ghost use Rattle.stream_timeline.specs.TimeRange.{with_time};
 
 /// The least and the greatest timestamp of the messages of a stream, in microseconds since the
 /// start of 1970. In real streams timestamps go back by some milliseconds, because workers write
@@ -52,16 +50,5 @@ pub(crate) fn with_time(time_range: Option<TimeRange>, time: i64) -> TimeRange
             first: time,
             last: time,
         },
-    }
-}
-
-/// Reads a text as an instant, in whole microseconds since the start of 1970, rounded down. `None`
-/// if the text is no instant.
-pub(crate) fn instant_of(text: &str) -> Option<i64>
-    ensures { result ≡ instant_of text.now }
-{
-    match text.parse::<Timestamp>() {
-        Ok(instant) => Some(instant.as_microsecond()),
-        Err(_) => None,
     }
 }

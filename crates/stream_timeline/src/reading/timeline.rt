@@ -2,8 +2,7 @@
 
 ghost use Rattle.std.specs.Prelude.{◌≡◌, ◌<◌, ◌+◌, ◌^◌, min, nat_le, option_map, OnOk, Some, true};
 ghost use Rattle.std.specs.Str.{bytes_eq};
-ghost use Rattle.serde_json.specs.View.{view};
-ghost use Rattle.stream_timeline.specs.Details.{diagnostic_of};
+ghost use Rattle.stream_timeline.specs.SlotContents.{diagnostic_in};
 ghost use Rattle.stream_timeline.specs.TimeRange.{with_time};
 ghost use Rattle.stream_timeline.specs.Steps.{StepRead, at_place, ended, marked, passes_at, has_open_provisioner, with_provisioner, with_provisioner_ended};
 ghost use Rattle.stream_timeline.specs.TimelineRead.{max_steps, empty_timeline, with_begin};
@@ -15,9 +14,9 @@ use crate::reading::step::Step;
 use crate::reading::time_range::{TimeRange, with_time};
 use crate::reading::totals::Totals;
 use crate::reading::version::Version;
-use serde_json::Value;
 use std::alloc::{AllocError, Global};
 use std::marker::Model;
+use stream_message::DiagnosticSlots;
 
 /// What was read of a stream: its steps, diagnostics and totals, and how many lines were passed
 /// over. Its memory grows only with the number of steps and provisioners.
@@ -118,20 +117,26 @@ impl Timeline {
         self.has_plan_summary = true;
     }
 
-    /// Adds an error, given as the object `diagnostic`. `Err` means that memory was refused.
-    pub(crate) fn add_error(&mut self, alloc: Global, members: &Value) -> Result<(), AllocError>
-        ensures { OnOk result (self.new
-            ≡ record self.old { errors = added (diagnostic_of (view members.now)) self.old.errors }) }
+    /// Adds an error. `Err` means that memory was refused.
+    pub(crate) fn add_error(
+        &mut self,
+        alloc: Global,
+        slots: &DiagnosticSlots<'_>,
+    ) -> Result<(), AllocError>
+        ensures { OnOk result (self.new ≡ record self.old { errors = added (diagnostic_in slots.now) self.old.errors }) }
     {
-        self.errors.add(alloc, members)
+        self.errors.add(alloc, slots)
     }
 
-    /// Adds a warning, given as the object `diagnostic`. `Err` means that memory was refused.
-    pub(crate) fn add_warning(&mut self, alloc: Global, members: &Value) -> Result<(), AllocError>
-        ensures { OnOk result (self.new
-            ≡ record self.old { warnings = added (diagnostic_of (view members.now)) self.old.warnings }) }
+    /// Adds a warning. `Err` means that memory was refused.
+    pub(crate) fn add_warning(
+        &mut self,
+        alloc: Global,
+        slots: &DiagnosticSlots<'_>,
+    ) -> Result<(), AllocError>
+        ensures { OnOk result (self.new ≡ record self.old { warnings = added (diagnostic_in slots.now) self.old.warnings }) }
     {
-        self.warnings.add(alloc, members)
+        self.warnings.add(alloc, slots)
     }
 
     /// Whether 100,000 steps and provisioners have begun.

@@ -1,7 +1,7 @@
 use Rattle.std.proofs.Common.{◌≡◌, ◌+◌, ◌<◌, ◌≤◌, ◌∷◌, [], ◌++◌, List, ℕ, ap, ap₂, length, min, refl, rules, ◌∙◌}
 use Rattle.std.proofs.lemmas.Bool.{le-ltb, lt-ltb}
-use Rattle.serde_json.specs.View.{view}
-use Rattle.stream_timeline.specs.Details.{DiagnosticRead, diagnostic_of}
+use Rattle.stream_timeline.specs.Details.{DiagnosticRead}
+use Rattle.stream_timeline.specs.SlotContents.{diagnostic_in}
 use Rattle.stream_timeline.specs.TimelineRead.{DiagnosticsRead, max_stored}
 use Rattle.stream_timeline.specs.Building.{added}
 use Rattle.stream_timeline.proofs.reading.diagnostics.Diagnostics.add.Goals as goal
@@ -20,7 +20,7 @@ without_room d ds stored count full same one = rw (le-ltb (length ds.stored) max
 
 pub returns-clause-ok : goal.returns-clause-ok
 returns-clause-ok c =
-    let d = diagnostic_of (view c.args.members.now) in
+    let d = diagnostic_in c.args.slots.now in
     let old = made c.self.inside.stored.items c.self.inside.count in
     elim c.if-len-lt-MAX_STORED.branch [
       | then-len-lt-MAX_STORED+in_ok-diagnostic+in_ok-push w ↦
