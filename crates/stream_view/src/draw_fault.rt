@@ -1,6 +1,7 @@
 //! Why a picture was not drawn to its end.
 
 use std::alloc::{AllocError, AllocFailed};
+use stream_tool::WriteFault;
 use thiserror::Error;
 
 /// Why a picture was not drawn to its end.
@@ -16,6 +17,15 @@ pub enum DrawFault {
     /// A write or a flush failed for another reason.
     #[error("the output could not be written")]
     Unwritten,
+}
+
+impl From<WriteFault> for DrawFault {
+    fn from(fault: WriteFault) -> DrawFault {
+        match fault {
+            WriteFault::Gone => DrawFault::Gone,
+            WriteFault::Unwritten => DrawFault::Unwritten,
+        }
+    }
 }
 
 impl From<AllocError> for DrawFault {
