@@ -52,7 +52,7 @@ arguments = record {
 pub record HasChecked (settings : Settings) (given before after : Option (List ℕ)) (checked : Checked) (status : ℕ) : Type 0 where
   pub judged : IfSome given (λ bytes. IsAnswer settings.mode (cut_lines bytes) checked.verdict)
   pub reported : IsReported (is_some settings.file) settings.mode given settings.form checked.verdict checked.reported before after
-  pub status : status ≡ status_of checked.verdict checked.reported
+  pub exit : status ≡ status_of checked.verdict checked.reported
 
 -- there is no whole stream
 abbrev pub is_fault : Checked → Bool
