@@ -1,7 +1,7 @@
 -- The options of `check`, the settings they state, and what the command does.
 use Rattle.std.specs.Prelude.{◌≡◌, ◌⊎◌, ℕ, Bool, List, [], ◌∷◌, Option, Some, IfSome, Ok, Err, true, false, codes, is_err, is_some, option_map, string_bytes}
 use Rattle.clap.specs.Simple.{App, new_shape}
-use Rattle.clap.specs.Walk.{Row, Text, first_of, one_of}
+use Rattle.clap.specs.Walk.{Row, first_of, one_of}
 use Rattle.stream_lines.specs.Cut.{cut_lines}
 use Rattle.stream_tool.specs.Arguments.{Arguments}
 use Rattle.stream_tool.specs.Words.{file_rule, flag_rule, unless_dash}

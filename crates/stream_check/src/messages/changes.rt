@@ -16,9 +16,10 @@ use stream_message::ChangesSlots;
 pub fn summary_of<'a>(changes: &ChangesSlots<'a>) -> Result<Message<'a>, Fault>
     ensures { mapped message_view result ≡ summary_of_slots changes.now }
 {
-    match object_at(Path::Operation, Path::Changes, changes.is)
-        .and(text_at(Path::Operation, changes.operation))
-    {
+    match object_at(Path::Operation, Path::Changes, changes.is).and(text_at(
+        Path::Operation,
+        changes.operation,
+    )) {
         Ok(operation) => match totals_of(changes) {
             Ok(totals) => Ok(Message::of_totals(operation, totals)),
             Err(fault) => Err(fault),

@@ -17,9 +17,10 @@ use stream_message::DiagnosticSlots;
 pub fn diagnostic_of<'a>(diagnostic: &DiagnosticSlots<'a>) -> Result<Message<'a>, Fault>
     ensures { mapped message_view result ≡ diagnostic_of_slots diagnostic.now }
 {
-    match object_at(Path::Severity, Path::Diagnostic, diagnostic.is)
-        .and(text_at(Path::Severity, diagnostic.severity))
-    {
+    match object_at(Path::Severity, Path::Diagnostic, diagnostic.is).and(text_at(
+        Path::Severity,
+        diagnostic.severity,
+    )) {
         Ok(severity) => Ok(Message::Diagnostic {
             is_error: is_text(severity, "error"),
             address: diagnostic.address(),

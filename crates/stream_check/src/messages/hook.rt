@@ -35,8 +35,8 @@ fn start_of<'a>(hook: &HookSlots<'a>) -> Result<Message<'a>, Fault>
     }
 }
 
-/// Returns the message of a progress or an end, with its seconds. `Err` where a member is
-/// missing or has another type.
+/// Returns the message of a progress or an end, with its seconds. `Err` where a member is missing
+/// or has another type.
 fn timed_of<'a>(hook: &HookSlots<'a>, stage: Stage) -> Result<Message<'a>, Fault>
     ensures { mapped message_view result ≡ timed_of_slots (timed_stage_of stage) hook.now }
 {
@@ -91,6 +91,9 @@ fn subject_of<'a>(hook: &HookSlots<'a>) -> Result<Subject<'a>, Fault>
 fn address_of<'a>(hook: &HookSlots<'a>) -> Result<&'a str, Fault>
     ensures { mapped (λ address. address.now) result ≡ address_of_slots hook.now }
 {
-    object_at(Path::Address, Path::Hook, hook.is)
-        .and(inner_text_at(Path::Address, Path::Resource, hook.resource))
+    object_at(Path::Address, Path::Hook, hook.is).and(inner_text_at(
+        Path::Address,
+        Path::Resource,
+        hook.resource,
+    ))
 }

@@ -1,4 +1,3 @@
-use Rattle.std.proofs.Common.{subst, ◌≤◌}
 use Rattle.stream_check.proofs.Statuses.{silent_at, status_most}
 use Rattle.stream_check.proofs.command.tool.CheckTool.run.Goals as goal
 
