@@ -7,7 +7,7 @@ use Rattle.std.proofs.lemmas.Bool.{or_parts}
 use Rattle.std.proofs.lemmas.List.Sums.{sum_by-cons}
 use Rattle.stream_check.specs.declared.messages.action.Action.{Action}
 use Rattle.stream_check.specs.declared.messages.action.Action.TheVariants.{Create, Update, Delete, Read, Refresh}
-use Rattle.stream_check.specs.declared.messages.timed_stage.Stage.{Stage}
+use Rattle.stream_message.specs.declared.stage.Stage.{Stage}
 use Rattle.stream_check.specs.declared.messages.timed_stage.TimedStage.{TimedStage}
 use Rattle.stream_check.specs.declared.messages.timed_stage.TimedStage.TheVariants.{Start, Progress, Complete, Errored}
 use Rattle.stream_check.specs.declared.rules.address_state.Failures.{Failures}

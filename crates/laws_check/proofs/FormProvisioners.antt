@@ -3,8 +3,8 @@ use Rattle.std.proofs.Common.{◌≡◌, ℕ, ◌+◌, ◌-◌, ◌≤◌, ◌�
 use Rattle.std.specs.Option.{option_map_or}
 use Rattle.std.proofs.lemmas.List.Sums.{sum_by-cons}
 use Rattle.stream_check.specs.declared.messages.action.Action.TheVariants.{Read}
-use Rattle.stream_check.specs.declared.messages.timed_stage.Stage.{Stage}
-use Rattle.stream_check.specs.declared.messages.timed_stage.Stage.TheVariants as stage
+use Rattle.stream_message.specs.declared.stage.Stage.{Stage}
+use Rattle.stream_message.specs.declared.stage.Stage.TheVariants as stage
 use Rattle.stream_check.specs.declared.rules.fault.Fault.{Fault}
 use Rattle.stream_check.specs.declared.rules.fault.Fault.TheVariants.{AfterSummary, NoStep, NoVersion}
 use Rattle.stream_check.specs.declared.rules.pending.Pending.{Pending}

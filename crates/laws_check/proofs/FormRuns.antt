@@ -13,7 +13,7 @@ use Rattle.apply_model.specs.Plan.SavedPlan.{SavedPlan}
 use Rattle.apply_model.specs.Script.OutcomeMap.{OutcomeMap, outcome_of}
 use Rattle.stream_check.specs.declared.messages.action.Action.{Action}
 use Rattle.stream_check.specs.declared.messages.action.Action.TheVariants.{Create, Update, Delete, Read, Refresh}
-use Rattle.stream_check.specs.declared.messages.timed_stage.Stage.TheVariants as stage
+use Rattle.stream_message.specs.declared.stage.Stage.TheVariants as stage
 use Rattle.stream_check.specs.declared.messages.timed_stage.TimedStage.{TimedStage}
 use Rattle.stream_check.specs.declared.messages.timed_stage.TimedStage.TheVariants as timed_stage
 use Rattle.stream_check.specs.declared.rules.fault.Fault.{Fault}

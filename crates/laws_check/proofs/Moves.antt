@@ -5,7 +5,7 @@ use Rattle.std.proofs.lemmas.Option.{cond_some}
 use Rattle.std.proofs.lemmas.Slice.Eq.{bytes_eq-Decides}
 use Rattle.stream_check.specs.declared.messages.action.Action.{Action}
 use Rattle.stream_check.specs.declared.messages.action.Action.TheVariants.{Delete}
-use Rattle.stream_check.specs.declared.messages.timed_stage.Stage.{Stage}
+use Rattle.stream_message.specs.declared.stage.Stage.{Stage}
 use Rattle.stream_check.specs.declared.rules.pending.Pending.{Pending}
 use Rattle.stream_check.specs.declared.rules.address_state.AddressState.{AddressState}
 use Rattle.stream_check.specs.declared.messages.timed_stage.TimedStage.{TimedStage}

@@ -5,7 +5,7 @@ use Rattle.apply_model.specs.declared.plan.step_kind.StepKind.TheVariants.{Creat
 use Rattle.apply_model.specs.declared.script.diag.Diag.{Diag}
 use Rattle.apply_model.specs.declared.script.outcome.Outcome.{Outcome}
 use Rattle.apply_plan.specs.Plan.ResourceChange.{ResourceChange}
-use Rattle.stream_check.specs.declared.messages.timed_stage.Stage.TheVariants as stage
+use Rattle.stream_message.specs.declared.stage.Stage.TheVariants as stage
 use Rattle.stream_check.specs.declared.messages.timed_stage.TimedStage.TheVariants as timed_stage
 use Rattle.stream_check.specs.Lines.{tree_message}
 use Rattle.stream_check.specs.Message.{step, provision, diagnostic, typed_message, start_of, timed_of, provision_of, diagnostic_of}

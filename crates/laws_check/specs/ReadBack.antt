@@ -6,7 +6,7 @@ use Rattle.apply_model.specs.declared.plan.step_kind.StepKind.TheVariants as kin
 use Rattle.apply_plan.specs.Plan.SavedPlan.{SavedPlan}
 use Rattle.stream_check.specs.declared.messages.action.Action.{Action}
 use Rattle.stream_check.specs.declared.messages.action.Action.TheVariants as action
-use Rattle.stream_check.specs.declared.messages.timed_stage.Stage.TheVariants as stage
+use Rattle.stream_message.specs.declared.stage.Stage.TheVariants as stage
 use Rattle.stream_check.specs.declared.messages.timed_stage.TimedStage.TheVariants as timed_stage
 use Rattle.stream_check.specs.Message.{Message, step, provision, diagnostic}
 use Rattle.apply_events.specs.declared.event.Event.{Event}

@@ -8,7 +8,7 @@ use Rattle.serde_json.specs.Data.{Data}
 use Rattle.apply_json.specs.Tree.{member_of}
 use Rattle.stream_check.specs.declared.messages.action.Action.{Action}
 use Rattle.stream_check.specs.declared.messages.action.Action.TheVariants.{Create, Update, Delete, Read, Refresh}
-use Rattle.stream_check.specs.declared.messages.timed_stage.Stage.{Stage}
+use Rattle.stream_message.specs.declared.stage.Stage.{Stage}
 use Rattle.stream_check.specs.declared.messages.path.Path.TheVariants as path
 use Rattle.stream_check.specs.declared.messages.timed_stage.TimedStage.{TimedStage}
 use Rattle.stream_check.specs.declared.messages.timed_stage.TimedStage.TheVariants.{Start, Progress, Complete, Errored}

@@ -7,7 +7,7 @@ use Rattle.std.proofs.lemmas.Bool.{cases_Bool}
 use Rattle.serde_json.specs.Data.{Data}
 use Rattle.stream_check.specs.declared.messages.action.Action.{Action}
 use Rattle.stream_check.specs.declared.messages.action.Action.TheVariants.{Create, Update, Delete, Read, Refresh}
-use Rattle.stream_check.specs.declared.messages.timed_stage.Stage.TheVariants as stage
+use Rattle.stream_message.specs.declared.stage.Stage.TheVariants as stage
 use Rattle.stream_check.specs.Message as check
 use Rattle.stream_check.specs.Words.{action_word}
 use Rattle.stream_message.specs.Members.{address_of, hook_text}

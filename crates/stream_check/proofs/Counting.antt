@@ -8,7 +8,7 @@ use Rattle.stream_check.specs.declared.messages.action.Action.TheVariants.{Creat
 use Rattle.stream_check.specs.declared.messages.intent.Intent.{Intent}
 use Rattle.stream_check.specs.declared.messages.intent.Intent.TheVariants as intent
 use Rattle.stream_check.specs.declared.messages.intent.Intent.TheVariants.{Nothing}
-use Rattle.stream_check.specs.declared.messages.timed_stage.Stage.{Stage}
+use Rattle.stream_message.specs.declared.stage.Stage.{Stage}
 use Rattle.stream_check.specs.declared.messages.timed_stage.TimedStage.{TimedStage}
 use Rattle.stream_check.specs.declared.messages.timed_stage.TimedStage.TheVariants.{Start, Progress, Complete, Errored}
 use Rattle.stream_check.specs.declared.messages.totals.Totals.{Totals}

@@ -20,7 +20,6 @@ pub mod Pendings
 pub mod Progress
 pub mod Putting
 pub mod MessageText
-pub mod Slots
 pub mod Statuses
 pub mod Summaries
 pub mod Summing

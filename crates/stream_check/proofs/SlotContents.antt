@@ -1,73 +1,50 @@
 -- The message of the slots is the message of the line.
-use Rattle.std.proofs.Common.{◌≡◌, ℕ, List, length, codes, Bool, Option, Some, None, Result, Ok, Err, refl, sym, ap, subst, ◌∙◌, arith}
+use Rattle.std.proofs.Common.{◌≡◌, ℕ, List, length, codes, Bool, false, Option, Some, None, Result, Ok, Err, refl, sym, ap, subst, ◌∙◌, arith}
 use Rattle.std.specs.Prelude.{option_map}
 use Rattle.std.specs.Option.{option_and_then, option_map_or}
 use Rattle.serde_json.specs.Data.{Data, null, boolean, number, string, array, object, Members}
 use Rattle.serde_json.specs.Find.{as_str, get_member}
 use Rattle.apply_json.specs.declared.json_fault.JsonFault.{JsonFault}
 use Rattle.apply_json.specs.declared.json_fault.JsonFault.TheVariants.{TooLarge, NotJson, Memory}
-use Rattle.apply_json.specs.declared.shallow.Shallow.{Shallow}
-use Rattle.apply_json.specs.declared.shallow.Shallow.TheVariants as scalar
 use Rattle.apply_json.specs.Parsed.{IsNoTree}
-use Rattle.apply_json.specs.ShallowView.{ShallowView, an_object, members_in, shallow_view, shallow_of, shallow_text}
+use Rattle.apply_json.specs.ShallowView.{ShallowView, members_in, shallow_view}
 use Rattle.apply_json.specs.Tree as tree
-use Rattle.apply_json.specs.Tree.{text_of, tree_of, unless_null}
-use Rattle.apply_json.proofs.Held.{get_in, member_in, text_in}
-use Rattle.stream_check.specs.declared.messages.changes_slots.ChangesSlots.{ChangesSlots}
-use Rattle.stream_check.specs.declared.messages.hook_slots.HookSlots.{HookSlots}
-use Rattle.stream_check.specs.declared.messages.inner_slot.InnerSlot.{InnerSlot}
-use Rattle.stream_check.specs.declared.messages.kind.Kind.{Kind}
-use Rattle.stream_check.specs.declared.messages.kind.Kind.TheVariants as kind
+use Rattle.apply_json.specs.Tree.{member_of, text_of, tree_of}
+use Rattle.apply_json.proofs.Held.{get_in}
+use Rattle.stream_message.specs.declared.changes_slots.ChangesSlots.{ChangesSlots}
+use Rattle.stream_message.specs.declared.hook_slots.HookSlots.{HookSlots}
+use Rattle.stream_message.specs.declared.inner_slot.InnerSlot.{InnerSlot}
+use Rattle.stream_message.specs.declared.kind.Kind.{Kind}
+use Rattle.stream_message.specs.declared.kind.Kind.TheVariants as kind
+use Rattle.stream_message.specs.declared.line_slots.LineSlots.{LineSlots}
+use Rattle.stream_message.specs.declared.presence.Presence.{Presence}
+use Rattle.stream_message.specs.declared.stage.Stage.{Stage}
+use Rattle.stream_message.specs.declared.stage.Stage.TheVariants as stage
+use Rattle.stream_message.specs.Kinds.{kind_named}
+use Rattle.stream_message.specs.Slots.{HoldsChanges, HoldsDiagnostic, HoldsHook, HoldsLine, inner_of, inner_view, inside, presence_of, shallow_value}
+use Rattle.stream_message.specs.SlotValues.{provisioner_in}
+use Rattle.stream_message.proofs.TreeMembers as slots
+use Rattle.stream_message.proofs.TreeMembers.{slot_text}
+use Rattle.stream_check.specs.declared.messages.line.TheConstants.{SELECTION}
 use Rattle.stream_check.specs.declared.messages.member_fault.MemberFault.TheVariants.{NoText, NoWholeNumber}
-use Rattle.stream_check.specs.declared.messages.line_slots.LineSlots.{LineSlots}
 use Rattle.stream_check.specs.declared.messages.path.Path.{Path}
 use Rattle.stream_check.specs.declared.messages.path.Path.TheVariants as path
-use Rattle.stream_check.specs.declared.messages.presence.Presence.{Presence}
-use Rattle.stream_check.specs.declared.messages.presence.Presence.TheVariants.{NoObject, Object}
-use Rattle.stream_check.specs.declared.messages.timed_stage.Stage.{Stage}
 use Rattle.stream_check.specs.declared.messages.timed_stage.TimedStage.{TimedStage}
 use Rattle.stream_check.specs.declared.rules.fault.Fault.{Fault}
 use Rattle.stream_check.specs.declared.rules.fault.Fault.TheVariants as fault
 use Rattle.stream_check.specs.declared.rules.fault.Fault.TheVariants.{Malformed}
 use Rattle.stream_check.specs.About.{about_line, about_message, about_tree, message_in, of_provisioner, provisioner_of}
-use Rattle.stream_check.specs.SlotContents.{HoldsChanges, HoldsDiagnostic, HoldsHook, HoldsLine, about_of_slots, about_result, address_of_slots, required_count, diagnostic_of_slots, inner_of, required_inner_text, inner_view, inside, kind_of_slots, message_of_slots, required_object, planned_of_slots, presence_of, provision_of_slots, refresh_of_slots, shallow_value, start_of_slots, subject_of_slots, summary_of_slots, required_text, optional_text, timed_of_slots, totals_of_slots}
-use Rattle.stream_check.specs.MessageKinds.{kind_message, kind_named}
+use Rattle.stream_check.specs.SlotContents.{about_of_slots, about_result, address_of_slots, diagnostic_of_slots, kind_of_slots, message_of_slots, planned_of_slots, provision_of_slots, refresh_of_slots, required_count, required_inner_text, required_object, required_text, start_of_slots, step_of_slots, subject_of_slots, summary_of_slots, timed_of_slots, totals_of_slots}
 use Rattle.stream_check.specs.Lines.{text_message, tree_message, untyped_message}
 use Rattle.stream_check.specs.Members.{as_container, count_at, object_at, text_at, there, whole_number}
 use Rattle.stream_check.specs.Message.{Message, version, step, provision, planned, plan_summary, summary, diagnostic, outputs, other, foreign, diagnostic_of, hook_address_of, planned_of, provision_of, refresh_of, start_of, subject_of, summary_of, timed_of, timed_stage_of, totals_in, typed_message}
 use Rattle.stream_check.specs.Results.{Gives, ◌>>=◌, mapped, or_refuse}
-use Rattle.stream_check.proofs.MessageKinds.{kind_is}
+use Rattle.stream_check.proofs.MessageKinds.{kind_is, kind_message, step_message}
 
 -- one step after another
 assoc : {A B C : Type 0} (r : Result A Fault) (f : A → Result B Fault) (g : B → Result C Fault) → ((r >>= f) >>= g) ≡ (r >>= λ x. f x >>= g)
 assoc (Ok x) f g = refl
 assoc (Err fault) f g = refl
-
--- ---- a value that was read
-
-pub an_object_is : (d : Data) → an_object ≡ shallow_of (Some d) → Object ≡ presence_of (Some d)
-an_object_is null is = absurd cc
-an_object_is (boolean b) is = absurd cc
-an_object_is (number n) is = absurd cc
-an_object_is (string s) is = absurd cc
-an_object_is (array ds) is = absurd cc
-an_object_is (object ms) is = refl
-
-pub no_object_is : (d : Data) → (an_object ≡ shallow_of (Some d) → ⊥) → NoObject ≡ presence_of (Some d)
-no_object_is null is = refl
-no_object_is (boolean b) is = refl
-no_object_is (number n) is = refl
-no_object_is (string s) is = refl
-no_object_is (array ds) is = refl
-no_object_is (object ms) is = absurd (is refl)
-
-pub not_object : (value : Shallow) → (value ≡ scalar.Object → ⊥) → an_object ≡ shallow_view value → ⊥
-not_object scalar.Absent never is = absurd cc
-not_object (scalar.Bool b) never is = absurd cc
-not_object (scalar.Number n) never is = absurd cc
-not_object (scalar.Text t) never is = absurd cc
-not_object scalar.Array never is = absurd cc
-not_object scalar.Object never is = never refl
 
 -- ---- members
 
@@ -92,13 +69,6 @@ count_is member k d v is = rw (is, get_in k d) (each (get_member k (members_in d
   each (Some (string s)) = refl
   each (Some (array ds)) = refl
   each (Some (object ms)) = refl
-
--- a text that may be there
-there_is : (k : List ℕ) (d : Data) (v : Option ShallowView) → v ≡ shallow_value (get_member k (members_in d)) → optional_text v ≡ text_of k d
-there_is k d v is = ap optional_text is ∙ each (get_member k (members_in d)) ∙ sym (text_in k d) where
-  each : (o : Option Data) → optional_text (shallow_value o) ≡ shallow_text (shallow_of o)
-  each None = refl
-  each (Some d) = refl
 
 -- what is made of the members of an object
 inside_is : {B : Type 0} (member : Path) (k : List ℕ) (container : Path) (d : Data) (is : Presence) (held : Result B Fault) (g : Data → Result B Fault) → is ≡ presence_of (get_member k (members_in d))
@@ -131,25 +101,25 @@ totals_is slots changes holds =
     rw (count_is path.Added (codes "add") changes (option_map shallow_view slots.added) holds.added, count_is path.Changed (codes "change") changes (option_map shallow_view slots.changed) holds.changed, count_is path.Removed (codes "remove") changes (option_map shallow_view slots.removed) holds.removed)
     refl
 
-module _ (line : LineSlots) (d : Data) (holds : HoldsLine line (members_in d)) where
+module _ (line : LineSlots) (d : Data) (holds : HoldsLine SELECTION line (members_in d)) where
   start_is : start_of_slots line.hook ≡ start_of d
   unfolding start_of
   start_is =
-      inside_is path.Address (codes "hook") path.Hook d line.hook.is _ _ holds.hook.0
-      (λ ms e. rw (subject_is line.hook (object ms) (subst (λ (o : Option Data). HoldsHook line.hook (inside o)) e holds.hook.1)) refl)
+      inside_is path.Address (codes "hook") path.Hook d line.hook.is _ _ (holds.hook refl).0
+      (λ ms e. rw (subject_is line.hook (object ms) (subst (λ (o : Option Data). HoldsHook line.hook (inside o)) e (holds.hook refl).1)) refl)
 
   timed_is : (timed : ℕ → TimedStage) → timed_of_slots timed line.hook ≡ timed_of timed d
   unfolding timed_of
   timed_is timed =
-      inside_is path.Address (codes "hook") path.Hook d line.hook.is _ _ holds.hook.0
+      inside_is path.Address (codes "hook") path.Hook d line.hook.is _ _ (holds.hook refl).0
       (λ ms e.
-      let held = subst (λ (o : Option Data). HoldsHook line.hook (inside o)) e holds.hook.1 in
+      let held = subst (λ (o : Option Data). HoldsHook line.hook (inside o)) e (holds.hook refl).1 in
       rw (count_is path.Seconds (codes "elapsed_seconds") (object ms) (option_map shallow_view line.hook.seconds) held.seconds, subject_is line.hook (object ms) held) refl)
 
   address_is : address_of_slots line.hook ≡ hook_address_of d
   address_is =
-      inside_is path.Address (codes "hook") path.Hook d line.hook.is _ _ holds.hook.0
-      (λ ms e. inner_text_is path.Address path.Resource (codes "resource") (codes "addr") (object ms) line.hook.resource (subst (λ (o : Option Data). HoldsHook line.hook (inside o)) e holds.hook.1).resource)
+      inside_is path.Address (codes "hook") path.Hook d line.hook.is _ _ (holds.hook refl).0
+      (λ ms e. inner_text_is path.Address path.Resource (codes "resource") (codes "addr") (object ms) line.hook.resource (subst (λ (o : Option Data). HoldsHook line.hook (inside o)) e (holds.hook refl).1).resource)
 
   provision_is : (p : Stage) → provision_of_slots p line.hook ≡ provision_of p d
   unfolding provision_of
@@ -162,31 +132,37 @@ module _ (line : LineSlots) (d : Data) (holds : HoldsLine line (members_in d)) w
   planned_is : planned_of_slots line ≡ planned_of d
   unfolding planned_of
   planned_is =
-      rw (inner_text_is path.ChangeAction path.Change (codes "change") (codes "action") d line.change holds.change)
+      rw (inner_text_is path.ChangeAction path.Change (codes "change") (codes "action") d line.change (holds.change refl))
       (assoc (object_at path.ChangeAction (codes "change") path.Change d) (text_at path.ChangeAction (codes "action")) _)
 
   summary_is : summary_of_slots line.changes ≡ summary_of d
   unfolding summary_of
   summary_is =
-      inside_is path.Operation (codes "changes") path.Changes d line.changes.is _ _ holds.changes.0
+      inside_is path.Operation (codes "changes") path.Changes d line.changes.is _ _ (holds.changes refl).0
       (λ ms e.
-      let held = subst (λ (o : Option Data). HoldsChanges line.changes (inside o)) e holds.changes.1 in
+      let held = subst (λ (o : Option Data). HoldsChanges line.changes (inside o)) e (holds.changes refl).1 in
       rw (text_is path.Operation (codes "operation") (object ms) (option_map shallow_view line.changes.operation) held.operation, totals_is line.changes (object ms) held) refl)
 
   diagnostic_is : diagnostic_of_slots line.diagnostic ≡ diagnostic_of d
   unfolding diagnostic_of
   diagnostic_is =
-      inside_is path.Severity (codes "diagnostic") path.Diagnostic d line.diagnostic.is _ _ holds.diagnostic.0
+      inside_is path.Severity (codes "diagnostic") path.Diagnostic d line.diagnostic.is _ _ (holds.diagnostic refl).0
       (λ ms e.
-      let held = subst (λ (o : Option Data). HoldsDiagnostic line.diagnostic (inside o)) e holds.diagnostic.1 in
-      rw (text_is path.Severity (codes "severity") (object ms) (option_map shallow_view line.diagnostic.severity) held.severity, there_is (codes "address") (object ms) (option_map shallow_view line.diagnostic.address) held.address) refl)
+      let held = subst (λ (o : Option Data). HoldsDiagnostic false line.diagnostic (inside o)) e (holds.diagnostic refl).1 in
+      rw (text_is path.Severity (codes "severity") (object ms) (option_map shallow_view line.diagnostic.severity) held.severity, slot_text (codes "address") (object ms) (option_map shallow_view line.diagnostic.address) held.address) refl)
+
+  step_is : (given : Stage) → step_of_slots given line.hook ≡ step_message given d
+  step_is stage.Start = start_is
+  step_is stage.Progress = timed_is (timed_stage_of stage.Progress)
+  step_is stage.Complete = timed_is (timed_stage_of stage.Complete)
+  step_is stage.Errored = timed_is (timed_stage_of stage.Errored)
 
   kind_stated : (k : Kind) → kind_of_slots k line ≡ kind_message k d
   kind_stated kind.Version = refl
-  kind_stated kind.Start = start_is
-  kind_stated (kind.Timed stage) = timed_is (timed_stage_of stage)
-  kind_stated (kind.Refresh stage) = refresh_is (timed_stage_of stage 0)
-  kind_stated (kind.Provision stage) = provision_is stage
+  kind_stated (kind.Apply given) = step_is given
+  kind_stated (kind.Refresh given) = refresh_is (timed_stage_of given 0)
+  kind_stated (kind.Provision given) = provision_is given
+  kind_stated (kind.Ephemeral given) = refl
   kind_stated kind.Planned = planned_is
   kind_stated kind.Summary = summary_is
   kind_stated kind.Diagnostic = diagnostic_is
@@ -195,25 +171,20 @@ module _ (line : LineSlots) (d : Data) (holds : HoldsLine line (members_in d)) w
 
   message_is : (find : Bool) → message_of_slots find line ≡ tree_message find d
   unfolding tree_message
-  message_is find = rw (text_in (codes "type") d, holds.type_name) (each (shallow_text (shallow_of (get_member (codes "type") (members_in d))))) where
-    each : (o : Option (List ℕ)) → option_map_or (λ name. kind_of_slots (kind_named name) line) o (untyped_message find) ≡ option_map_or (λ name. typed_message name d) o (untyped_message find)
+  message_is find = ap (λ (o : Option Kind). option_map_or (λ k. kind_of_slots k line) o (untyped_message find)) (slots.kind_is SELECTION line d holds) ∙ each (text_of (codes "type") d) where
+    each : (o : Option (List ℕ)) → option_map_or (λ k. kind_of_slots k line) (option_map kind_named o) (untyped_message find) ≡ option_map_or (λ name. typed_message name d) o (untyped_message find)
     each None = refl
     each (Some name) = kind_stated (kind_named name) ∙ kind_is d name
 
   -- ---- what the message is about
 
-  provisioner_is : optional_text (option_map shallow_view line.hook.provisioner) ≡ provisioner_of d
-  provisioner_is = ap optional_text holds.hook.1.provisioner ∙ each (get_member (codes "hook") (members_in d)) ∙ sym (ap (option_and_then (text_of (codes "provisioner"))) (member_in (codes "hook") d)) where
-    each : (o : Option Data) → optional_text (shallow_value (get_member (codes "provisioner") (inside o))) ≡ option_and_then (text_of (codes "provisioner")) (tree.◌>>=◌ o unless_null)
+  provisioner_is : provisioner_in line.hook ≡ provisioner_of d
+  provisioner_is = slots.provisioner_is SELECTION line d holds refl ∙ each (member_of (codes "hook") d) where
+    each : (o : Option Data) → (tree.◌>>=◌ o (text_of (codes "provisioner"))) ≡ option_and_then (text_of (codes "provisioner")) o
     each None = refl
-    each (Some null) = refl
-    each (Some (boolean b)) = refl
-    each (Some (number n)) = refl
-    each (Some (string s)) = refl
-    each (Some (array ds)) = refl
-    each (Some (object ms)) = there_is (codes "provisioner") (object ms) _ refl
+    each (Some hook) = refl
 
-  about_same : (r : Result Message Fault) → about_result (option_map shallow_view line.hook.provisioner) r ≡ about_message d r
+  about_same : (r : Result Message Fault) → about_result (provisioner_in line.hook) r ≡ about_message d r
   about_same (Ok (provision address stage)) = ap (λ (name : Option (List ℕ)). Some (of_provisioner name address)) provisioner_is
   about_same (Ok (step address action stage)) = refl
   about_same (Ok version) = refl
@@ -228,18 +199,18 @@ module _ (line : LineSlots) (d : Data) (holds : HoldsLine line (members_in d)) w
 
   about_is : about_of_slots line ≡ about_tree d
   unfolding about_tree
-  about_is = rw (text_in (codes "type") d, holds.type_name) (each (shallow_text (shallow_of (get_member (codes "type") (members_in d))))) where
-    each : (o : Option (List ℕ)) → option_and_then (λ name. about_result (option_map shallow_view line.hook.provisioner) (kind_of_slots (kind_named name) line)) o ≡ option_and_then (λ name. about_message d (typed_message name d)) o
+  about_is = ap (option_and_then (λ k. about_result (provisioner_in line.hook) (kind_of_slots k line))) (slots.kind_is SELECTION line d holds) ∙ each (text_of (codes "type") d) where
+    each : (o : Option (List ℕ)) → option_and_then (λ k. about_result (provisioner_in line.hook) (kind_of_slots k line)) (option_map kind_named o) ≡ option_and_then (λ name. about_message d (typed_message name d)) o
     each None = refl
-    each (Some name) = ap (about_result (option_map shallow_view line.hook.provisioner)) (kind_stated (kind_named name) ∙ kind_is d name) ∙ about_same (typed_message name d)
+    each (Some name) = ap (about_result (provisioner_in line.hook)) (kind_stated (kind_named name) ∙ kind_is d name) ∙ about_same (typed_message name d)
 
 -- ---- texts
 
 -- the message of the slots is the message of the text
-pub message_in_text : (find : Bool) (text : List ℕ) (line : LineSlots) → (d : Data) × (tree_of text ≡ Some d) × HoldsLine line (members_in d) → text_message find text ≡ message_of_slots find line
+pub message_in_text : (find : Bool) (text : List ℕ) (line : LineSlots) → (d : Data) × (tree_of text ≡ Some d) × HoldsLine SELECTION line (members_in d) → text_message find text ≡ message_of_slots find line
 message_in_text find text line read = rw read.1 (sym (message_is line read.0 read.2 find))
 
-pub about_found : (find : Bool) (text piece : List ℕ) (line : LineSlots) → Some piece ≡ message_in find text → (d : Data) × (tree_of piece ≡ Some d) × HoldsLine line (members_in d) → about_of_slots line ≡ about_line find text
+pub about_found : (find : Bool) (text piece : List ℕ) (line : LineSlots) → Some piece ≡ message_in find text → (d : Data) × (tree_of piece ≡ Some d) × HoldsLine SELECTION line (members_in d) → about_of_slots line ≡ about_line find text
 about_found find text piece line value read = rw (← value, read.1) (about_is line read.0 read.2)
 
 pub about_none : (find : Bool) (text piece : List ℕ) → Some piece ≡ message_in find text → tree_of piece ≡ None → None ≡ about_line find text

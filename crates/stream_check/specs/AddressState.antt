@@ -6,8 +6,8 @@ use Rattle.stream_check.specs.declared.messages.action.Action.{Action}
 use Rattle.stream_check.specs.declared.messages.action.Action.TheVariants.{Create, Update, Delete, Read, Refresh}
 use Rattle.stream_check.specs.declared.rules.fault.Fault.{Fault}
 use Rattle.stream_check.specs.declared.rules.fault.Fault.TheVariants.{NoStep, ProvisionerRuns, NoProvisioner, LeavesProvisioner}
-use Rattle.stream_check.specs.declared.messages.timed_stage.Stage.{Stage}
-use Rattle.stream_check.specs.declared.messages.timed_stage.Stage.TheVariants as stage
+use Rattle.stream_message.specs.declared.stage.Stage.{Stage}
+use Rattle.stream_message.specs.declared.stage.Stage.TheVariants as stage
 use Rattle.stream_check.specs.declared.rules.pending.Pending.{Pending}
 use Rattle.stream_check.specs.declared.rules.address_state.Failures.{Failures}
 use Rattle.stream_check.specs.declared.rules.address_state.AddressState.{AddressState}

@@ -1,7 +1,7 @@
 -- The options of `check`, the settings they state, and what the command does.
 use Rattle.std.specs.Prelude.{◌≡◌, ◌⊎◌, ℕ, Bool, List, [], ◌∷◌, Option, Some, IfSome, Ok, Err, true, false, codes, is_err, is_some, option_map, string_bytes}
 use Rattle.clap.specs.Simple.{App, new_shape}
-use Rattle.clap.specs.Walk.{Row, Text, first_of, one_of}
+use Rattle.clap.specs.Walk.{Row, first_of, one_of}
 use Rattle.stream_lines.specs.Cut.{cut_lines}
 use Rattle.stream_tool.specs.Arguments.{Arguments}
 use Rattle.stream_tool.specs.Words.{file_rule, flag_rule, unless_dash}
@@ -52,7 +52,7 @@ arguments = record {
 pub record HasChecked (settings : Settings) (given before after : Option (List ℕ)) (checked : Checked) (status : ℕ) : Type 0 where
   pub judged : IfSome given (λ bytes. IsAnswer settings.mode (cut_lines bytes) checked.verdict)
   pub reported : IsReported (is_some settings.file) settings.mode given settings.form checked.verdict checked.reported before after
-  pub status : status ≡ status_of checked.verdict checked.reported
+  pub exit : status ≡ status_of checked.verdict checked.reported
 
 -- there is no whole stream
 abbrev pub is_fault : Checked → Bool

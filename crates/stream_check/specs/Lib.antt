@@ -15,7 +15,6 @@ pub mod Lines
 pub mod Malformed
 pub mod Members
 pub mod Message
-pub mod MessageKinds
 pub mod MessageView
 pub mod Objects
 pub mod Open

@@ -8,8 +8,8 @@ use Rattle.stream_check.specs.declared.messages.action.Action.TheVariants.{Refre
 use Rattle.stream_check.specs.declared.messages.intent.Intent.{Intent}
 use Rattle.stream_check.specs.declared.messages.intent.Intent.TheVariants as intent
 use Rattle.stream_check.specs.declared.messages.path.Path.TheVariants as path
-use Rattle.stream_check.specs.declared.messages.timed_stage.Stage.{Stage}
-use Rattle.stream_check.specs.declared.messages.timed_stage.Stage.TheVariants as stage
+use Rattle.stream_message.specs.declared.stage.Stage.{Stage}
+use Rattle.stream_message.specs.declared.stage.Stage.TheVariants as stage
 use Rattle.stream_check.specs.declared.messages.timed_stage.TimedStage.{TimedStage}
 use Rattle.stream_check.specs.declared.messages.timed_stage.TimedStage.TheVariants.{Start, Progress, Complete, Errored}
 use Rattle.stream_check.specs.declared.messages.totals.Totals.{Totals}

@@ -1,25 +1,24 @@
--- What the slots of a line hold, and the message that they make, for private types.
-use Rattle.std.specs.Prelude.{◌≡◌, ⊤, ℕ, List, codes, Bool, Option, Some, None, option_map, Result, Ok, Err}
+-- The message that the slots of a line make, for private clauses.
+use Rattle.std.specs.Prelude.{⊤, ℕ, List, codes, Bool, Option, Some, None, option_map, Result, Ok, Err}
 use Rattle.std.specs.Option.{option_and_then, option_map_or}
 use Rattle.std.specs.Str.{bytes_eq}
-use Rattle.serde_json.specs.Data.{Data, null, boolean, number, string, array, object, Members, no_members}
-use Rattle.serde_json.specs.Find.{get_member}
-use Rattle.apply_json.specs.ShallowView.{ShallowView, members_in, shallow_view, shallow_of, shallow_text, shallow_whole}
+use Rattle.apply_json.specs.ShallowView.{ShallowView, shallow_view, shallow_text, shallow_whole}
+use Rattle.stream_message.specs.declared.changes_slots.ChangesSlots.{ChangesSlots}
+use Rattle.stream_message.specs.declared.diagnostic_slots.DiagnosticSlots.{DiagnosticSlots}
+use Rattle.stream_message.specs.declared.hook_slots.HookSlots.{HookSlots}
+use Rattle.stream_message.specs.declared.inner_slot.InnerSlot.{InnerSlot}
+use Rattle.stream_message.specs.declared.kind.Kind.{Kind}
+use Rattle.stream_message.specs.declared.kind.Kind.TheVariants as kind
+use Rattle.stream_message.specs.declared.line_slots.LineSlots.{LineSlots}
+use Rattle.stream_message.specs.declared.presence.Presence.{Presence}
+use Rattle.stream_message.specs.declared.presence.Presence.TheVariants.{Missing, NoObject, Object}
+use Rattle.stream_message.specs.declared.stage.Stage.{Stage}
+use Rattle.stream_message.specs.declared.stage.Stage.TheVariants as stage
+use Rattle.stream_message.specs.SlotValues.{diagnostic_address_in, kind_in, provisioner_in}
 use Rattle.stream_check.specs.declared.messages.action.Action.TheVariants.{Refresh}
-use Rattle.stream_check.specs.declared.messages.changes_slots.ChangesSlots.{ChangesSlots}
-use Rattle.stream_check.specs.declared.messages.diagnostic_slots.DiagnosticSlots.{DiagnosticSlots}
-use Rattle.stream_check.specs.declared.messages.hook_slots.HookSlots.{HookSlots}
-use Rattle.stream_check.specs.declared.messages.inner_slot.InnerSlot.{InnerSlot}
-use Rattle.stream_check.specs.declared.messages.kind.Kind.{Kind}
-use Rattle.stream_check.specs.declared.messages.kind.Kind.TheVariants as kind
 use Rattle.stream_check.specs.declared.messages.member_fault.MemberFault.TheVariants as member_fault
-use Rattle.stream_check.specs.declared.messages.line_slots.LineSlots.{LineSlots}
-use Rattle.stream_check.specs.declared.messages.named_slot.NamedSlot.{NamedSlot}
 use Rattle.stream_check.specs.declared.messages.path.Path.{Path}
 use Rattle.stream_check.specs.declared.messages.path.Path.TheVariants as path
-use Rattle.stream_check.specs.declared.messages.presence.Presence.{Presence}
-use Rattle.stream_check.specs.declared.messages.presence.Presence.TheVariants.{Missing, NoObject, Object}
-use Rattle.stream_check.specs.declared.messages.timed_stage.Stage.{Stage}
 use Rattle.stream_check.specs.declared.messages.timed_stage.TimedStage.{TimedStage}
 use Rattle.stream_check.specs.declared.messages.timed_stage.TimedStage.TheVariants.{Start}
 use Rattle.stream_check.specs.declared.messages.totals.Totals.{Totals}
@@ -27,74 +26,8 @@ use Rattle.stream_check.specs.declared.rules.fault.Fault.{Fault}
 use Rattle.stream_check.specs.declared.rules.fault.Fault.TheVariants.{Malformed}
 use Rattle.stream_check.specs.About.{About, of_provisioner, of_step}
 use Rattle.stream_check.specs.Lines.{untyped_message}
-use Rattle.stream_check.specs.MessageKinds.{kind_named}
 use Rattle.stream_check.specs.Message.{Message, version, step, provision, planned, plan_summary, summary, diagnostic, outputs, other, foreign, intent_named, step_or_other, summary_named, timed_stage_of}
 use Rattle.stream_check.specs.Results.{◌>>=◌, or_refuse}
-
--- ---- the contents of slots
-
--- the members of an optional value; only an object has any
-abbrev pub inside : Option Data → Members
-inside None = no_members
-inside (Some d) = members_in d
-
--- an optional value without its inner values; it may be `null`
-abbrev pub shallow_value : Option Data → Option ShallowView
-shallow_value value = option_map (λ d. shallow_of (Some d)) value
-
--- the presence of an object
-abbrev pub presence_of : Option Data → Presence
-presence_of None = Missing
-presence_of (Some null) = NoObject
-presence_of (Some (boolean b)) = NoObject
-presence_of (Some (number n)) = NoObject
-presence_of (Some (string s)) = NoObject
-presence_of (Some (array ds)) = NoObject
-presence_of (Some (object ms)) = Object
-
--- the presence of an object, and its member of that name without inner values
-abbrev pub inner_of : (name : List ℕ) → Option Data → Presence × Option ShallowView
-inner_of name value = (presence_of value, shallow_value (get_member name (inside value)))
-
-abbrev pub inner_view : InnerSlot → Presence × Option ShallowView
-inner_view slot = (slot.is, option_map shallow_view slot.value)
-
-pub record HoldsNamed (name : List ℕ) (slot : NamedSlot) (ms : Members) : Type 0 where
-  pub named : slot.name.now ≡ name
-  pub value : option_map shallow_view slot.value ≡ shallow_value (get_member name ms)
-
-pub record HoldsHook (slots : HookSlots) (ms : Members) : Type 0 where
-  pub resource : inner_view slots.resource ≡ inner_of (codes "addr") (get_member (codes "resource") ms)
-  pub action : option_map shallow_view slots.action ≡ shallow_value (get_member (codes "action") ms)
-  pub seconds : option_map shallow_view slots.seconds ≡ shallow_value (get_member (codes "elapsed_seconds") ms)
-  pub provisioner : option_map shallow_view slots.provisioner ≡ shallow_value (get_member (codes "provisioner") ms)
-
-pub record HoldsChanges (slots : ChangesSlots) (ms : Members) : Type 0 where
-  pub operation : option_map shallow_view slots.operation ≡ shallow_value (get_member (codes "operation") ms)
-  pub added : option_map shallow_view slots.added ≡ shallow_value (get_member (codes "add") ms)
-  pub changed : option_map shallow_view slots.changed ≡ shallow_value (get_member (codes "change") ms)
-  pub removed : option_map shallow_view slots.removed ≡ shallow_value (get_member (codes "remove") ms)
-
-pub record HoldsDiagnostic (slots : DiagnosticSlots) (ms : Members) : Type 0 where
-  pub severity : option_map shallow_view slots.severity ≡ shallow_value (get_member (codes "severity") ms)
-  pub address : option_map shallow_view slots.address ≡ shallow_value (get_member (codes "address") ms)
-
--- slots of an optional value
-abbrev pub IsHook : HookSlots → Option Data → Type 0
-IsHook slots value = (slots.is ≡ presence_of value) × HoldsHook slots (inside value)
-
-abbrev pub AreChanges : ChangesSlots → Option Data → Type 0
-AreChanges slots value = (slots.is ≡ presence_of value) × HoldsChanges slots (inside value)
-
-abbrev pub IsDiagnostic : DiagnosticSlots → Option Data → Type 0
-IsDiagnostic slots value = (slots.is ≡ presence_of value) × HoldsDiagnostic slots (inside value)
-
-pub record HoldsLine (slots : LineSlots) (ms : Members) : Type 0 where
-  pub type_name : shallow_view slots.type_name ≡ shallow_of (get_member (codes "type") ms)
-  pub hook : IsHook slots.hook (get_member (codes "hook") ms)
-  pub change : inner_view slots.change ≡ inner_of (codes "action") (get_member (codes "change") ms)
-  pub changes : AreChanges slots.changes (get_member (codes "changes") ms)
-  pub diagnostic : IsDiagnostic slots.diagnostic (get_member (codes "diagnostic") ms)
 
 -- ---- required members
 
@@ -111,10 +44,6 @@ required_text member (Some s) = or_refuse (Malformed member member_fault.NoText)
 abbrev pub required_count : (member : Path) → Option ShallowView → Result ℕ Fault
 required_count member None = Err (Malformed member member_fault.Missing)
 required_count member (Some s) = or_refuse (Malformed member member_fault.NoWholeNumber) (shallow_whole s)
-
--- the text, where there is one
-abbrev pub optional_text : Option ShallowView → Option (List ℕ)
-optional_text value = option_and_then shallow_text value
 
 abbrev pub required_inner_text : (member : Path) → (container : Path) → InnerSlot → Result (List ℕ) Fault
 required_inner_text member container slot =
@@ -144,6 +73,12 @@ timed_of_slots stage hook = do
   subject ← subject_of_slots hook
   seconds ← required_count path.Seconds (option_map shallow_view hook.seconds)
   Ok (step_or_other subject (stage seconds))
+
+abbrev pub step_of_slots : Stage → HookSlots → Result Message Fault
+step_of_slots stage.Start hook = start_of_slots hook
+step_of_slots stage.Progress hook = timed_of_slots (timed_stage_of stage.Progress) hook
+step_of_slots stage.Complete hook = timed_of_slots (timed_stage_of stage.Complete) hook
+step_of_slots stage.Errored hook = timed_of_slots (timed_stage_of stage.Errored) hook
 
 abbrev pub provision_of_slots : Stage → HookSlots → Result Message Fault
 provision_of_slots stage hook = do
@@ -178,15 +113,15 @@ abbrev pub diagnostic_of_slots : DiagnosticSlots → Result Message Fault
 diagnostic_of_slots members = do
   there ← required_object path.Severity path.Diagnostic members.is
   severity ← required_text path.Severity (option_map shallow_view members.severity)
-  Ok (diagnostic (bytes_eq severity (codes "error")) (optional_text (option_map shallow_view members.address)))
+  Ok (diagnostic (bytes_eq severity (codes "error")) (diagnostic_address_in members))
 
 -- the message of that kind
 abbrev pub kind_of_slots : Kind → LineSlots → Result Message Fault
 kind_of_slots kind.Version line = Ok version
-kind_of_slots kind.Start line = start_of_slots line.hook
-kind_of_slots (kind.Timed stage) line = timed_of_slots (timed_stage_of stage) line.hook
-kind_of_slots (kind.Refresh stage) line = refresh_of_slots (timed_stage_of stage 0) line.hook
-kind_of_slots (kind.Provision stage) line = provision_of_slots stage line.hook
+kind_of_slots (kind.Apply given) line = step_of_slots given line.hook
+kind_of_slots (kind.Refresh given) line = refresh_of_slots (timed_stage_of given 0) line.hook
+kind_of_slots (kind.Provision given) line = provision_of_slots given line.hook
+kind_of_slots (kind.Ephemeral given) line = Ok other
 kind_of_slots kind.Planned line = planned_of_slots line
 kind_of_slots kind.Summary line = summary_of_slots line.changes
 kind_of_slots kind.Diagnostic line = diagnostic_of_slots line.diagnostic
@@ -195,14 +130,13 @@ kind_of_slots kind.Other line = Ok other
 
 -- a line without a type is a message only in a log
 abbrev pub message_of_slots : (find : Bool) → LineSlots → Result Message Fault
-message_of_slots find line =
-    option_map_or (λ name. kind_of_slots (kind_named name) line) (shallow_text (shallow_view line.type_name)) (untyped_message find)
+message_of_slots find line = option_map_or (λ k. kind_of_slots k line) (kind_in line) (untyped_message find)
 
 -- ---- what the message is about
 
-abbrev pub about_result : (provisioner : Option ShallowView) → Result Message Fault → Option About
+abbrev pub about_result : (provisioner : Option (List ℕ)) → Result Message Fault → Option About
 about_result provisioner (Ok (step address action stage)) = Some (of_step action address)
-about_result provisioner (Ok (provision address stage)) = Some (of_provisioner (optional_text provisioner) address)
+about_result provisioner (Ok (provision address stage)) = Some (of_provisioner provisioner address)
 about_result provisioner (Ok version) = None
 about_result provisioner (Ok (planned intent)) = None
 about_result provisioner (Ok (plan_summary totals)) = None
@@ -214,6 +148,4 @@ about_result provisioner (Ok foreign) = None
 about_result provisioner (Err fault) = None
 
 abbrev pub about_of_slots : LineSlots → Option About
-about_of_slots line =
-    option_and_then (λ name. about_result (option_map shallow_view line.hook.provisioner) (kind_of_slots (kind_named name) line))
-    (shallow_text (shallow_view line.type_name))
+about_of_slots line = option_and_then (λ k. about_result (provisioner_in line.hook) (kind_of_slots k line)) (kind_in line)

@@ -7,13 +7,12 @@ ghost use Rattle.stream_check.specs.SlotContents.{about_of_slots};
 
 use crate::located::{from_mark, through_brace};
 use crate::messages::action::Action;
-use crate::messages::kind::Kind;
-use crate::messages::line_slots::{LineSlots, read_line};
-use crate::messages::members::text_in;
+use crate::messages::line::{SELECTION, message_of_kind};
 use crate::messages::message::Message;
 use crate::rules::mode::Mode;
 use apply_json::{JsonFault, Scratch};
 use std::alloc::{AllocError, Global};
+use stream_message::{LineSlots, read_line};
 
 /// The subject of a message about a step or a provisioner.
 #[derive(Clone, Copy)]
@@ -35,8 +34,7 @@ impl<'a> Object<'a> {
     fn of(line: &LineSlots<'a>) -> Option<Object<'a>>
         ensures { option_map object_view result ≡ about_of_slots line.now }
     {
-        let name = line.type_name.text()?;
-        match line.of_kind(Kind::named(name)) {
+        match message_of_kind(line, line.kind()?) {
             Ok(
                 Message::Step {
                     address,
@@ -45,7 +43,7 @@ impl<'a> Object<'a> {
                 },
             ) => Some(Object::Step { action, address }),
             Ok(Message::Provision { address, .. }) => Some(Object::Provisioner {
-                name: text_in(line.hook.provisioner),
+                name: line.hook.provisioner(),
                 address,
             }),
             _ => None,
@@ -81,7 +79,7 @@ pub fn object_in<'a>(
     let Some(piece) = message_in(mode, text) else {
         return Ok(None);
     };
-    match read_line(alloc, scratch, piece) {
+    match read_line(alloc, scratch, SELECTION, piece) {
         Ok(line) => Ok(Object::of(&line)),
         Err(JsonFault::Memory) => Err(AllocError),
         Err(_) => Ok(None),

@@ -32,6 +32,7 @@ pub struct Check;
 
 impl Tool for Check {
     type Settings = Settings;
+
     type Answer = Checked;
 
     ghost arguments = { arguments };

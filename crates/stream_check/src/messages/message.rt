@@ -5,9 +5,10 @@ ghost use Rattle.stream_check.specs.Message.{step_or_other, summary_named};
 
 use crate::messages::action::Action;
 use crate::messages::intent::Intent;
-use crate::messages::timed_stage::{Stage, TimedStage};
+use crate::messages::timed_stage::TimedStage;
 use crate::messages::totals::Totals;
 use apply_json::is_text;
+use stream_message::Stage;
 
 /// A message that borrows its texts from its line, or from the scratch of the reader.
 #[derive(Clone, Copy)]

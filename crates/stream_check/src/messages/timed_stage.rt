@@ -1,16 +1,9 @@
-//! The stages of a step or a provisioner.
+//! The stages of a step.
 
 ghost use Rattle.std.specs.Prelude.{◌≡◌};
 ghost use Rattle.stream_check.specs.Message.{timed_stage_of};
 
-/// A stage of a provisioner, or of a step without its seconds.
-#[derive(Clone, Copy)]
-pub enum Stage {
-    Start,
-    Progress,
-    Complete,
-    Errored,
-}
+use stream_message::Stage;
 
 /// A stage of a step, with the seconds since its start.
 #[derive(Clone, Copy)]

@@ -6,10 +6,11 @@ ghost use Rattle.stream_check.specs.Results.{mapped};
 ghost use Rattle.stream_check.specs.AddressState.{failures_cleared, failed_by, idle, is_idle, may_fail, may_provision, one_failure_more, pending_at, provision_on, provisioned, step_on, unless_provisioner_left, with_pending};
 
 use crate::messages::action::Action;
-use crate::messages::timed_stage::{Stage, TimedStage};
+use crate::messages::timed_stage::TimedStage;
 use crate::rules::fault::Fault;
 use crate::rules::limits::MAX_LINES;
 use crate::rules::pending::{Pending, after};
+use stream_message::Stage;
 
 /// What counts as open, next to creates, updates and deletes.
 #[derive(Clone, Copy)]

@@ -5,7 +5,7 @@ ghost use Rattle.std.specs.List.{list_any};
 ghost use Rattle.stream_check.specs.Small.{IsSmall};
 
 use crate::located::piece_of;
-use crate::messages::line_slots::message_in;
+use crate::messages::line::message_in;
 use crate::rules::fault::Fault;
 use crate::rules::limits::{MAX_BYTES, MAX_LINES};
 use crate::rules::mode::Mode;

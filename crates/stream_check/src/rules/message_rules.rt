@@ -8,12 +8,13 @@ ghost use Rattle.stream_check.specs.Tally.{failure_count};
 use crate::messages::action::Action;
 use crate::messages::intent::Intent;
 use crate::messages::message::Message;
-use crate::messages::timed_stage::{Stage, TimedStage};
+use crate::messages::timed_stage::TimedStage;
 use crate::messages::totals::{Totals, agree};
 use crate::rules::address_state::{Failures, failures_cleared, provision_on, step_on};
 use crate::rules::checker::Checker;
 use crate::rules::fault::Fault;
 use std::alloc::Global;
+use stream_message::Stage;
 
 impl Checker {
     ghost use Rattle.stream_check.specs.Checking.{Continues, lines_read};
