@@ -5,8 +5,8 @@ ghost use Rattle.std.specs.Io.KnownBytes.{Appends, Keeps};
 ghost use Rattle.stream_check.specs.declared.command.unreported.Unreported.TheVariants.{Gone, Memory};
 
 use crate::command::unreported::Unreported;
-use std::io::{self, ErrorKind, Write};
-use stream_tool::report;
+use std::io::Write;
+use stream_tool::{WriteFault, flush, report, write_whole};
 
 /// Writes the text and a line feed, then flushes.
 ///
@@ -16,28 +16,28 @@ pub fn write_line<W: Write>(out: &mut W, text: &str) -> Result<(), Unreported>
     ensures written { OnOk result (Appends (W.contents out.old) (W.contents out.new) (text.now ++ 10 ∷ [])) }
     ensures unwritten { IfErr result (λ unreported. unreported ≢ Memory) }
 {
-    match write_whole(out, text) {
+    match write_text(out, text) {
         Ok(()) => Ok(()),
-        Err(error) => Err(unwritten(&error)),
+        Err(fault) => Err(unwritten(fault)),
     }
 }
 
 /// Writes the text and a line feed, then flushes. `Err` where a write or the flush fails.
-fn write_whole<W: Write>(out: &mut W, text: &str) -> io::Result<()>
+fn write_text<W: Write>(out: &mut W, text: &str) -> Result<(), WriteFault>
     ensures { OnOk result (Appends (W.contents out.old) (W.contents out.new) (text.now ++ 10 ∷ [])) }
 {
-    writeln!(out, "{text}")?;
-    out.flush()
+    write_whole(out, text.as_bytes())?;
+    write_whole(out, b"\n")?;
+    flush(out)
 }
 
-/// Classifies a failed write or flush.
-fn unwritten(error: &io::Error) -> Unreported
+/// Returns why a verdict was not reported, after a failed write or flush.
+fn unwritten(fault: WriteFault) -> Unreported
     ensures { result ≢ Memory }
 {
-    if error.kind() == ErrorKind::BrokenPipe {
-        Unreported::Gone
-    } else {
-        Unreported::Unwritten
+    match fault {
+        WriteFault::Gone => Unreported::Gone,
+        WriteFault::Unwritten => Unreported::Unwritten,
     }
 }
 
