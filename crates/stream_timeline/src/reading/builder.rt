@@ -9,8 +9,7 @@ use crate::reading::open_places::OpenPlaces;
 use crate::reading::timeline::Timeline;
 use crate::reading::timeline_fault::TimelineFault;
 use apply_json::{JsonFault, Scratch};
-use std::alloc::Global;
-use std::mem::replace;
+use std::alloc::{AllocError, Global};
 use stream_message::{LineSlots, Selection, read_line};
 
 /// The members that a time line needs.
@@ -30,8 +29,9 @@ const SELECTION: Selection = Selection {
 pub struct TimelineBuilder {
     pub(crate) timeline: Timeline,
     pub(crate) opened: OpenPlaces,
-    // Reused from line to line, so that reading a line takes no memory of its own.
-    scratch: Scratch,
+    // Stored between lines, so that a line needs no memory of its own. It is boxed because reading
+    // a line takes it out.
+    scratch: Option<Box<Scratch>>,
 }
 
 impl TimelineBuilder {
@@ -49,7 +49,7 @@ impl TimelineBuilder {
         TimelineBuilder {
             timeline: Timeline::new(alloc),
             opened: OpenPlaces::new(alloc),
-            scratch: Scratch::new(alloc),
+            scratch: None,
         }
     }
 
@@ -73,10 +73,10 @@ impl TimelineBuilder {
         if is_blank_line(line) {
             return Ok(());
         }
-        // Slots borrow the scratch, so it is out of the builder while a message is applied.
-        let mut scratch = replace(&mut self.scratch, Scratch::new(alloc));
-        let result = self.line_with(alloc, &mut scratch, line);
-        self.scratch = scratch;
+        // A message borrows from the scratch while it is applied to the builder.
+        let mut scratch = take_scratch(alloc, &mut self.scratch)?;
+        let result = self.line_with(alloc, &mut *scratch, line);
+        self.scratch = Some(scratch);
         result
     }
 
@@ -173,5 +173,16 @@ impl TimelineBuilder {
                 Ok(())
             }
         }
+    }
+}
+
+/// Takes the stored scratch, or makes one. `Err` where memory is refused.
+fn take_scratch(
+    alloc: Global,
+    stored: &mut Option<Box<Scratch>>,
+) -> Result<Box<Scratch>, AllocError> {
+    match stored.take() {
+        Some(scratch) => Ok(scratch),
+        None => Ok(Box::new(alloc, Scratch::new(alloc))?),
     }
 }

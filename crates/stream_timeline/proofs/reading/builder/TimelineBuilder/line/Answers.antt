@@ -10,10 +10,8 @@ pub returns : goal.returns
 returns c =
     let old = c.args.self.now in
     let line = c.args.line.now in
-    let read = c.line_with-result.new in
-    let counted : TimelineBuilder = record { timeline = c.count_line.new.self; opened = old.opened; scratch = c.replace-scratch.new.dest } in
-    let last : TimelineBuilder = record { timeline = read.self.timeline; opened = read.self.opened; scratch = read.scratch } in
-    goes_from (HasRead old) (IsReadingLine counted) read.self last (with_message_or_passed_over (message_of line)) (with_line line) refl refl c.line_with-result.result
+    let counted : TimelineBuilder = record { timeline = c.count_line.new.self; opened = old.opened; scratch = c.take_scratch.new.stored } in
+    goes_from (HasRead old) (IsReadingLine counted) c.line_with-result.new.self _ (with_message_or_passed_over (message_of line)) (with_line line) refl refl c.line_with-result.result
     (λ t timeline. (
       record t { lines = t.lines + 1 },
       counted_takes old counted t timeline c.count_line.ensures c.requires refl,
