@@ -22,3 +22,4 @@ pub mod Ranking
 pub mod SlotContents
 pub mod Sums
 pub mod Swept
+mod TimeLines

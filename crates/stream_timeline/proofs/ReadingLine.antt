@@ -1,9 +1,11 @@
 -- From what holds before a line, or before its content, to the result.
-use Rattle.std.proofs.Common.{◌≡◌, ◌<◌, ℕ, ◌+◌, List, false, Result, Ok, Err, refl, sym, ap, ◌∙◌, subst, arith}
+use Rattle.std.proofs.Common.{◌≡◌, ◌<◌, ℕ, ℤ, ◌+◌, Option, Some, List, false, Result, Ok, Err, refl, sym, ap, ◌∙◌, subst, arith}
 use Rattle.stream_timeline.specs.declared.reading.timeline_fault.TimelineFault.{TimelineFault}
 use Rattle.stream_timeline.specs.declared.reading.timeline_fault.TimelineFault.TheVariants as fault
 use Rattle.stream_timeline.specs.declared.reading.builder.TimelineBuilder.{TimelineBuilder}
-use Rattle.stream_timeline.specs.Messages.{message_of}
+use Rattle.stream_timeline.specs.Messages.{Message, message_of}
+use Rattle.stream_timeline.specs.SlotContents.{time_only}
+use Rattle.stream_timeline.specs.TimeRange.{with_time}
 use Rattle.stream_timeline.specs.declared.reading.open_places.OpenPlaces.{OpenPlaces}
 use Rattle.stream_timeline.specs.OpenPlaces.{HoldsPlaces}
 use Rattle.stream_timeline.specs.TimelineRead.{TimelineRead, max_lines, is_blank_line, with_line_content, with_message_or_passed_over}
@@ -52,3 +54,19 @@ counted_takes old new t h is room at =
 -- a line that is not blank adds what its message states
 pub not_blank : (line : List ℕ) (t : TimelineRead) → is_blank_line line ≡ false → with_message_or_passed_over (message_of line) t ≡ with_line_content line t
 not_blank line t other = rw other refl
+
+-- a line that only contributes its timestamp
+pub time_only_read : (old new : TimelineBuilder) (t : TimelineRead) (line : List ℕ) (time : ℤ) → IsReadingLine old t
+    → new.timeline ≡ record old.timeline { time_range = Some (with_time time old.timeline.time_range) } → new.opened ≡ old.opened
+    → message_of line ≡ Some (time_only time) → HasRead new (with_message_or_passed_over (message_of line) t)
+time_only_read old new t line time reading is at value =
+    let held : HasRead new (record t { time_range = Some (with_time time t.time_range) }) = record {
+      is = is ∙ ap (λ (x : TimelineRead). record x { time_range = Some (with_time time x.time_range) }) reading.is;
+      opened = subst (λ (o : OpenPlaces). HoldsPlaces o t.steps) (sym at) reading.opened;
+      begun = reading.begun;
+      lines = reading.lines;
+      passed_over = omega (arith, reading.passed_over);
+      errors = omega (arith, reading.errors);
+      warnings = omega (arith, reading.warnings);
+    } in
+    subst (λ (u : TimelineRead). HasRead new u) (ap (λ (m : Option Message). with_message_or_passed_over m t) (sym value)) held

@@ -1,5 +1,5 @@
 -- What the slots of a line state, for private clauses: as Messages.antt, by the kind of the message.
-use Rattle.std.specs.Prelude.{ℕ, List, [], codes, Bool, true, false, ◌-◌, if◌then◌else◌, length, map, take, option_map, Option, Some, unwrap_or}
+use Rattle.std.specs.Prelude.{ℕ, ℤ, List, [], codes, Bool, true, false, ◌-◌, if◌then◌else◌, length, map, take, option_map, Option, Some, None, unwrap_or}
 use Rattle.std.specs.Option.{option_map_or}
 use Rattle.std.specs.Str.{bytes_eq}
 use Rattle.apply_json.specs.Tree.{◌>>=◌}
@@ -112,3 +112,31 @@ content_in kind.Other line = other
 abbrev pub message_in : LineSlots → Option Message
 message_in line =
     kind_in line >>= λ kind. (time_in line >>= λ time. Some (let message : Message = record { time = time; content = content_in kind line } in message))
+
+-- ---- messages that only contribute their timestamp
+
+abbrev pub is_progress : Stage → Bool
+is_progress stage.Start = false
+is_progress stage.Progress = true
+is_progress stage.Complete = false
+is_progress stage.Errored = false
+
+-- a message of this kind only contributes its timestamp
+abbrev pub is_time_only : Kind → Bool
+is_time_only kind.Version = false
+is_time_only (kind.Apply stage) = is_progress stage
+is_time_only (kind.Refresh stage) = false
+is_time_only (kind.Provision stage) = is_progress stage
+is_time_only (kind.Ephemeral stage) = is_progress stage
+is_time_only kind.Planned = true
+is_time_only kind.Summary = false
+is_time_only kind.Diagnostic = false
+is_time_only kind.Outputs = true
+is_time_only kind.Other = true
+
+abbrev pub time_only : ℤ → Message
+time_only time = record { time = time; content = other }
+
+-- the timestamp of such a message
+abbrev pub time_only_in : LineSlots → Option ℤ
+time_only_in line = kind_in line >>= λ kind. (if is_time_only kind then time_in line else None)

@@ -11,6 +11,7 @@ pub(crate) mod provisioner;
 pub(crate) mod step;
 pub(crate) mod step_messages;
 pub(crate) mod texts;
+pub(crate) mod time_lines;
 pub(crate) mod time_range;
 pub(crate) mod timeline;
 pub(crate) mod timeline_fault;

@@ -6,6 +6,7 @@ use crate::reading::content::Content;
 use crate::reading::details::is_blank_line;
 use crate::reading::limits::MAX_LINES;
 use crate::reading::open_places::OpenPlaces;
+use crate::reading::time_lines::time_in;
 use crate::reading::timeline::Timeline;
 use crate::reading::timeline_fault::TimelineFault;
 use apply_json::{JsonFault, Scratch};
@@ -80,9 +81,27 @@ impl TimelineBuilder {
         result
     }
 
-    /// Reads a line that is not blank. A line that is no JSON is passed over. The errors are those
-    /// of `line`.
+    /// Reads a line that is not blank. The errors are those of `line`.
     fn line_with(
+        &mut self,
+        alloc: Global,
+        scratch: &mut Scratch,
+        line: &[u8],
+    ) -> Result<(), TimelineFault>
+        ensures { ReadsMore (IsReadingLine self.old) self.new (with_message_or_passed_over (message_of line.now)) result }
+    {
+        match time_in(alloc, scratch, line) {
+            Some(time) => {
+                self.timeline.add_time(time);
+                Ok(())
+            }
+            None => self.whole_line(alloc, scratch, line),
+        }
+    }
+
+    /// Reads a line with all members that a time line needs. A line that is no JSON is passed over.
+    /// The errors are those of `line`.
+    fn whole_line(
         &mut self,
         alloc: Global,
         scratch: &mut Scratch,

@@ -1,0 +1,70 @@
+//! Reads lines that only contribute their timestamp, such as those of progress.
+
+ghost use Rattle.std.specs.Prelude.{◌≡◌, IfSome, Some};
+ghost use Rattle.stream_timeline.specs.Messages.{message_of};
+ghost use Rattle.stream_timeline.specs.SlotContents.{is_progress, is_time_only, time_only, time_only_in};
+
+use apply_json::Scratch;
+use std::alloc::Global;
+use stream_message::{Kind, LineSlots, Selection, Stage, read_line};
+
+/// The type and the timestamp, which suffice for most lines of a stream.
+const SELECTION: Selection = Selection {
+    timestamp: true,
+    version: false,
+    hook: false,
+    change: false,
+    changes: false,
+    diagnostic: false,
+    diagnostic_texts: false,
+};
+
+/// The longest line that is read twice where its type and timestamp do not suffice, in bytes.
+const MAX_LEN: usize = 65_536;
+
+/// Returns the timestamp of a line that only contributes its timestamp, in microseconds since the
+/// start of 1970. `None` if the line has to be read with all members: because its message states
+/// more, because it is no message, because it is long, or because memory was refused.
+pub fn time_in(alloc: Global, scratch: &mut Scratch, line: &[u8]) -> Option<i64>
+    ensures { IfSome result (λ time. message_of line.now ≡ Some (time_only time)) }
+{
+    if line.len() > MAX_LEN {
+        return None;
+    }
+    match read_line(alloc, scratch, SELECTION, line) {
+        Ok(slots) => time_of(&slots),
+        Err(_) => None,
+    }
+}
+
+/// Returns the timestamp, if the kind of the message contributes nothing else.
+fn time_of(line: &LineSlots<'_>) -> Option<i64>
+    ensures { result ≡ time_only_in line.now }
+{
+    if is_time_only(line.kind()?) {
+        line.time()
+    } else {
+        None
+    }
+}
+
+/// Whether messages of this kind only contribute their timestamp.
+fn is_time_only(kind: Kind) -> bool
+    ensures { result ≡ is_time_only kind }
+{
+    match kind {
+        Kind::Apply(stage) | Kind::Provision(stage) | Kind::Ephemeral(stage) => is_progress(stage),
+        Kind::Planned | Kind::Outputs | Kind::Other => true,
+        Kind::Version | Kind::Refresh(_) | Kind::Summary | Kind::Diagnostic => false,
+    }
+}
+
+/// Whether a stage is neither a start nor an end.
+fn is_progress(stage: Stage) -> bool
+    ensures { result ≡ is_progress stage }
+{
+    match stage {
+        Stage::Progress => true,
+        Stage::Start | Stage::Complete | Stage::Errored => false,
+    }
+}
