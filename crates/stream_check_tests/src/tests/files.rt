@@ -21,9 +21,7 @@ fn file_alone_is_read(
     let printed = leaked(rt, alloc, Vec::new(alloc));
     let faults = leaked(rt, alloc, Vec::new(alloc));
     let words = array::from_ref(word);
-    let actual = run_tool(
-        &Check, rt, alloc, words, false, &mut input, printed, faults,
-    );
+    let actual = run_tool(&Check, rt, alloc, words, false, &mut input, printed, faults);
     fs::remove_file(rt, name).expect(rt, "the file");
     holds(rt, name, actual.status == status);
     holds(rt, name, input == UNREAD);
