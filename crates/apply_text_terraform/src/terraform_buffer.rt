@@ -1,5 +1,4 @@
-//! A buffer for the lines of a stream in Terraform's form. Every `Err` means that memory was
-//! refused.
+//! A buffer for lines in Terraform's form. Every `Err` means that memory was refused.
 
 ghost use Rattle.std.specs.Prelude.{◌≡◌, ◌≤◌, ◌+◌, ◌++◌, [], true, IfOk, IsOk, List, OnOk, OnErr, ℕ};
 ghost use Rattle.std.specs.Option.{option_copied};
@@ -42,9 +41,8 @@ const FIRST_PROGRESS: u32 = 10;
 const TEXT_LEN: usize = 256;
 
 /// Lines of a stream in Terraform's form, one after another. `clear` leaves the memory in place, so
-/// that later lines need no growth. Only a step that is new to the cache may take more.
-///
-/// Contracts see the bytes of the lines.
+/// that later lines need no growth. Only a step that is new to the cache may take more. Contracts
+/// see the bytes of the lines.
 #[derive(Drop)]
 pub struct TerraformBuffer {
     alloc: Global,
