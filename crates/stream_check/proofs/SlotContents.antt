@@ -171,7 +171,7 @@ module _ (line : LineSlots) (d : Data) (holds : HoldsLine SELECTION line (member
 
   message_is : (find : Bool) → message_of_slots find line ≡ tree_message find d
   unfolding tree_message
-  message_is find = ap (λ (o : Option Kind). option_map_or (λ k. kind_of_slots k line) o (untyped_message find)) (slots.kind_is SELECTION line d holds) ∙ each (text_of (codes "type") d) where
+  message_is find = ap (λ (o : Option Kind). option_map_or (λ k. kind_of_slots k line) o (untyped_message find)) (slots.kind_is line.head d holds.head) ∙ each (text_of (codes "type") d) where
     each : (o : Option (List ℕ)) → option_map_or (λ k. kind_of_slots k line) (option_map kind_named o) (untyped_message find) ≡ option_map_or (λ name. typed_message name d) o (untyped_message find)
     each None = refl
     each (Some name) = kind_stated (kind_named name) ∙ kind_is d name
@@ -199,7 +199,7 @@ module _ (line : LineSlots) (d : Data) (holds : HoldsLine SELECTION line (member
 
   about_is : about_of_slots line ≡ about_tree d
   unfolding about_tree
-  about_is = ap (option_and_then (λ k. about_result (provisioner_in line.hook) (kind_of_slots k line))) (slots.kind_is SELECTION line d holds) ∙ each (text_of (codes "type") d) where
+  about_is = ap (option_and_then (λ k. about_result (provisioner_in line.hook) (kind_of_slots k line))) (slots.kind_is line.head d holds.head) ∙ each (text_of (codes "type") d) where
     each : (o : Option (List ℕ)) → option_and_then (λ k. about_result (provisioner_in line.hook) (kind_of_slots k line)) (option_map kind_named o) ≡ option_and_then (λ name. about_message d (typed_message name d)) o
     each None = refl
     each (Some name) = ap (about_result (provisioner_in line.hook)) (kind_stated (kind_named name) ∙ kind_is d name) ∙ about_same (typed_message name d)

@@ -130,7 +130,7 @@ kind_of_slots kind.Other line = Ok other
 
 -- a line without a type is a message only in a log
 abbrev pub message_of_slots : (find : Bool) → LineSlots → Result Message Fault
-message_of_slots find line = option_map_or (λ k. kind_of_slots k line) (kind_in line) (untyped_message find)
+message_of_slots find line = option_map_or (λ k. kind_of_slots k line) (kind_in line.head) (untyped_message find)
 
 -- ---- what the message is about
 
@@ -148,4 +148,4 @@ about_result provisioner (Ok foreign) = None
 about_result provisioner (Err fault) = None
 
 abbrev pub about_of_slots : LineSlots → Option About
-about_of_slots line = option_and_then (λ k. about_result (provisioner_in line.hook) (kind_of_slots k line)) (kind_in line)
+about_of_slots line = option_and_then (λ k. about_result (provisioner_in line.hook) (kind_of_slots k line)) (kind_in line.head)

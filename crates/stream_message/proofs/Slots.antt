@@ -9,11 +9,12 @@ use Rattle.apply_json.proofs.OneMember.{after_member, located_after}
 use Rattle.stream_message.specs.declared.changes_slots.ChangesSlots.{ChangesSlots}
 use Rattle.stream_message.specs.declared.diagnostic_slots.DiagnosticSlots.{DiagnosticSlots}
 use Rattle.stream_message.specs.declared.hook_slots.HookSlots.{HookSlots}
+use Rattle.stream_message.specs.declared.line_head.LineHead.{LineHead}
 use Rattle.stream_message.specs.declared.line_slots.LineSlots.{LineSlots}
 use Rattle.stream_message.specs.declared.range_slots.RangeSlots.{RangeSlots}
 use Rattle.stream_message.specs.declared.selection.Selection.{Selection}
 use Rattle.stream_message.specs.Selected.{is_selected}
-use Rattle.stream_message.specs.Slots.{AreChanges, HoldsChanges, HoldsDiagnostic, HoldsHook, HoldsLine, HoldsRange, IsDiagnostic, IsHook, IsRange, inner_of, inner_view, shallow_value}
+use Rattle.stream_message.specs.Slots.{AreChanges, HoldsChanges, HoldsDiagnostic, HoldsHead, HoldsHook, HoldsLine, HoldsRange, IsDiagnostic, IsHook, IsRange, inner_of, inner_view, shallow_value}
 
 -- ---- the test of a name
 
@@ -80,17 +81,25 @@ module _ (k q : List ℕ) (d : Data) (ms : Members) (here : bytes_eq k q ≡ tru
     range = λ asked. all_after (IsRange slots.range) (codes "range") k q d ms here (range asked);
   }
 
-  pub line_after : (selection : Selection) (slots : LineSlots) → shallow_view slots.type_name ≡ shallow_of (located_after q d ms (codes "type"))
-      → (selection.timestamp ≡ true → shallow_view slots.timestamp ≡ shallow_of (located_after q d ms (codes "@timestamp")))
+  pub head_after : (slots : LineHead) → shallow_view slots.type_name ≡ shallow_of (located_after q d ms (codes "type"))
+      → shallow_view slots.timestamp ≡ shallow_of (located_after q d ms (codes "@timestamp")) → HoldsHead slots (put k d ms)
+  head_after slots type_name timestamp = record {
+    type_name = after_member shallow_of (codes "type") k q d ms _ here type_name;
+    timestamp = after_member shallow_of (codes "@timestamp") k q d ms _ here timestamp;
+  }
+
+  pub line_after : (selection : Selection) (slots : LineSlots) → slots.selection ≡ selection
+      → shallow_view slots.head.type_name ≡ shallow_of (located_after q d ms (codes "type"))
+      → shallow_view slots.head.timestamp ≡ shallow_of (located_after q d ms (codes "@timestamp"))
       → (selection.version ≡ true → shallow_view slots.terraform ≡ shallow_of (located_after q d ms (codes "terraform")))
       → (selection.hook ≡ true → IsHook slots.hook (located_after q d ms (codes "hook")))
       → (selection.change ≡ true → inner_view slots.change ≡ inner_of (codes "action") (located_after q d ms (codes "change")))
       → (selection.changes ≡ true → AreChanges slots.changes (located_after q d ms (codes "changes")))
       → (selection.diagnostic ≡ true → IsDiagnostic selection.diagnostic_texts slots.diagnostic (located_after q d ms (codes "diagnostic")))
       → HoldsLine selection slots (put k d ms)
-  line_after selection slots type_name timestamp terraform hook change changes diagnostic = record {
-    type_name = after_member shallow_of (codes "type") k q d ms _ here type_name;
-    timestamp = λ asked. after_member shallow_of (codes "@timestamp") k q d ms _ here (timestamp asked);
+  line_after selection slots selection_is type_name timestamp terraform hook change changes diagnostic = record {
+    selection_is = selection_is;
+    head = head_after slots.head type_name timestamp;
     terraform = λ asked. after_member shallow_of (codes "terraform") k q d ms _ here (terraform asked);
     hook = λ asked. all_after (IsHook slots.hook) (codes "hook") k q d ms here (hook asked);
     change = λ asked. after_member (inner_of (codes "action")) (codes "change") k q d ms _ here (change asked);

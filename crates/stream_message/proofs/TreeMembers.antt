@@ -10,12 +10,13 @@ use Rattle.apply_json.specs.ShallowView.{ShallowView, members_in, shallow_view, 
 use Rattle.apply_json.specs.Tree.{◌>>=◌, member_of, text_of, tree_of, unless_null}
 use Rattle.apply_json.proofs.Held.{member_in, text_in, whole_in}
 use Rattle.stream_message.specs.declared.inner_slot.InnerSlot.{InnerSlot}
+use Rattle.stream_message.specs.declared.line_head.LineHead.{LineHead}
 use Rattle.stream_message.specs.declared.line_slots.LineSlots.{LineSlots}
 use Rattle.stream_message.specs.declared.presence.Presence.{Presence}
 use Rattle.stream_message.specs.declared.selection.Selection.{Selection}
 use Rattle.stream_message.specs.Kinds.{kind_named}
 use Rattle.stream_message.specs.Members.{address_of, change_action, changes_count, changes_text, count_of, diagnostic_file, diagnostic_line, diagnostic_text, file_of, hook_count, hook_text, kind_of, line_of, message_time, type_of, version_of}
-use Rattle.stream_message.specs.Slots.{HoldsLine, inner_of, inner_view, inside, shallow_value}
+use Rattle.stream_message.specs.Slots.{HoldsHead, HoldsLine, inner_of, inner_view, inside, shallow_value}
 use Rattle.stream_message.specs.SlotValues.{action_in, added_in, address_in, changed_in, detail_in, file_in, imported_in, kind_in, line_in, operation_in, diagnostic_address_in, provisioner_in, removed_in, seconds_in, severity_in, summary_in, text_in_inner, text_of_slot, time_in, type_in, version_in, whole_of_slot}
 use Rattle.stream_message.specs.Timestamp.{instant_of}
 
@@ -81,20 +82,23 @@ then_then : {A B C : Type 0} (o : Option A) (f : A → Option B) (g : B → Opti
 then_then None f g = refl
 then_then (Some x) f g = refl
 
+-- ---- the head of a line
+
+module _ (head : LineHead) (d : Data) (holds : HoldsHead head (members_in d)) where
+  pub type_is : type_in head ≡ type_of d
+  type_is = ap shallow_text holds.type_name ∙ sym (text_in (codes "type") d)
+
+  pub kind_is : kind_in head ≡ kind_of d
+  kind_is = ap (option_map kind_named) type_is
+
+  pub time_is : time_in head ≡ message_time d
+  time_is =
+      ap (λ (o : Option (List ℕ)). o >>= λ name. (shallow_text (shallow_view head.timestamp) >>= instant_of)) type_is
+      ∙ ap (λ (o : Option (List ℕ)). type_of d >>= λ name. (o >>= instant_of)) (ap shallow_text holds.timestamp ∙ sym (text_in (codes "@timestamp") d))
+
 -- ---- the members of a line
 
 module _ (selection : Selection) (line : LineSlots) (d : Data) (holds : HoldsLine selection line (members_in d)) where
-  pub type_is : type_in line ≡ type_of d
-  type_is = ap shallow_text holds.type_name ∙ sym (text_in (codes "type") d)
-
-  pub kind_is : kind_in line ≡ kind_of d
-  kind_is = ap (option_map kind_named) type_is
-
-  pub time_is : selection.timestamp ≡ true → time_in line ≡ message_time d
-  time_is selected =
-      ap (λ (o : Option (List ℕ)). o >>= λ name. (shallow_text (shallow_view line.timestamp) >>= instant_of)) type_is
-      ∙ ap (λ (o : Option (List ℕ)). type_of d >>= λ name. (o >>= instant_of)) (ap shallow_text (holds.timestamp selected) ∙ sym (text_in (codes "@timestamp") d))
-
   pub version_is : selection.version ≡ true → version_in line ≡ version_of d
   version_is selected = ap shallow_text (holds.terraform selected) ∙ sym (text_in (codes "terraform") d)
 
@@ -201,7 +205,5 @@ no_tree NotJson text never is = is.1
 no_tree Memory text never is = absurd (never refl)
 
 -- the timestamp of the message in a text that was read
-pub text_time_is : (selection : Selection) (line : LineSlots) (text : List ℕ) → (d : Data) × (tree_of text ≡ Some d) × HoldsLine selection line (members_in d)
-    → selection.timestamp ≡ true → time_in line ≡ (tree_of text >>= message_time)
-text_time_is selection line text read selected =
-    time_is selection line read.0 read.2 selected ∙ sym (ap (λ (o : Option Data). o >>= message_time) read.1)
+pub text_time_is : (head : LineHead) (text : List ℕ) → (d : Data) × (tree_of text ≡ Some d) × HoldsHead head (members_in d) → time_in head ≡ (tree_of text >>= message_time)
+text_time_is head text read = time_is head read.0 read.2 ∙ sym (ap (λ (o : Option Data). o >>= message_time) read.1)

@@ -1,4 +1,4 @@
--- What slots hold while they are read, for private types.
+-- What slots hold while they are read.
 use Rattle.std.specs.Prelude.{◌≡◌, ℕ, List, Bool, false, if◌then◌else◌, option_map}
 use Rattle.std.specs.Str.{bytes_eq}
 use Rattle.serde_json.specs.Data.{Members}
@@ -6,9 +6,7 @@ use Rattle.serde_json.specs.Find.{get_member}
 use Rattle.apply_json.specs.ShallowView.{shallow_view}
 use Rattle.stream_message.specs.declared.named_slot.NamedSlot.{NamedSlot}
 use Rattle.stream_message.specs.declared.selected_diagnostic.SelectedDiagnostic.{SelectedDiagnostic}
-use Rattle.stream_message.specs.declared.selected_line.SelectedLine.{SelectedLine}
-use Rattle.stream_message.specs.declared.selection.Selection.{Selection}
-use Rattle.stream_message.specs.Slots.{HoldsDiagnostic, HoldsLine, shallow_value}
+use Rattle.stream_message.specs.Slots.{HoldsDiagnostic, shallow_value}
 
 abbrev pub is_selected : (selected : Bool) → (name member : List ℕ) → Bool
 is_selected selected name member = if selected then bytes_eq name member else false
@@ -20,7 +18,3 @@ pub record HoldsNamed (name : List ℕ) (slot : NamedSlot) (ms : Members) : Type
 pub record HoldsSelectedDiagnostic (texts : Bool) (now : SelectedDiagnostic) (ms : Members) : Type 0 where
   pub texts_are : now.texts ≡ texts
   pub holds : HoldsDiagnostic now.texts now.slots ms
-
-pub record HoldsSelectedLine (selection : Selection) (now : SelectedLine) (ms : Members) : Type 0 where
-  pub selection_is : now.selection ≡ selection
-  pub holds : HoldsLine now.selection now.slots ms

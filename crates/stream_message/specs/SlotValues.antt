@@ -8,6 +8,7 @@ use Rattle.stream_message.specs.declared.diagnostic_slots.DiagnosticSlots.{Diagn
 use Rattle.stream_message.specs.declared.hook_slots.HookSlots.{HookSlots}
 use Rattle.stream_message.specs.declared.inner_slot.InnerSlot.{InnerSlot}
 use Rattle.stream_message.specs.declared.kind.Kind.{Kind}
+use Rattle.stream_message.specs.declared.line_head.LineHead.{LineHead}
 use Rattle.stream_message.specs.declared.line_slots.LineSlots.{LineSlots}
 use Rattle.stream_message.specs.Kinds.{kind_named}
 use Rattle.stream_message.specs.Timestamp.{instant_of}
@@ -78,14 +79,14 @@ line_in diagnostic = whole_in_inner diagnostic.range.start
 
 -- ---- the line
 
-abbrev pub type_in : LineSlots → Option (List ℕ)
-type_in line = shallow_text (shallow_view line.type_name)
+abbrev pub type_in : LineHead → Option (List ℕ)
+type_in head = shallow_text (shallow_view head.type_name)
 
-abbrev pub kind_in : LineSlots → Option Kind
-kind_in line = option_map kind_named (type_in line)
+abbrev pub kind_in : LineHead → Option Kind
+kind_in head = option_map kind_named (type_in head)
 
-abbrev pub time_in : LineSlots → Option ℤ
-time_in line = type_in line >>= λ name. (shallow_text (shallow_view line.timestamp) >>= instant_of)
+abbrev pub time_in : LineHead → Option ℤ
+time_in head = type_in head >>= λ name. (shallow_text (shallow_view head.timestamp) >>= instant_of)
 
 abbrev pub version_in : LineSlots → Option (List ℕ)
 version_in line = shallow_text (shallow_view line.terraform)

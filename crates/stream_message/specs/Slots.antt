@@ -7,6 +7,7 @@ use Rattle.stream_message.specs.declared.changes_slots.ChangesSlots.{ChangesSlot
 use Rattle.stream_message.specs.declared.diagnostic_slots.DiagnosticSlots.{DiagnosticSlots}
 use Rattle.stream_message.specs.declared.hook_slots.HookSlots.{HookSlots}
 use Rattle.stream_message.specs.declared.inner_slot.InnerSlot.{InnerSlot}
+use Rattle.stream_message.specs.declared.line_head.LineHead.{LineHead}
 use Rattle.stream_message.specs.declared.line_slots.LineSlots.{LineSlots}
 use Rattle.stream_message.specs.declared.presence.Presence.{Presence}
 use Rattle.stream_message.specs.declared.presence.Presence.TheVariants.{Missing, NoObject, Object}
@@ -78,10 +79,14 @@ AreChanges slots value = (slots.is ≡ presence_of value) × HoldsChanges slots 
 abbrev pub IsDiagnostic : (texts : Bool) → DiagnosticSlots → Option Data → Type 0
 IsDiagnostic texts slots value = (slots.is ≡ presence_of value) × HoldsDiagnostic texts slots (inside value)
 
+pub record HoldsHead (slots : LineHead) (ms : Members) : Type 0 where
+  pub type_name : shallow_view slots.type_name ≡ shallow_of (get_member (codes "type") ms)
+  pub timestamp : shallow_view slots.timestamp ≡ shallow_of (get_member (codes "@timestamp") ms)
+
 -- the slots hold the selected members
 pub record HoldsLine (selection : Selection) (slots : LineSlots) (ms : Members) : Type 0 where
-  pub type_name : shallow_view slots.type_name ≡ shallow_of (get_member (codes "type") ms)
-  pub timestamp : selection.timestamp ≡ true → shallow_view slots.timestamp ≡ shallow_of (get_member (codes "@timestamp") ms)
+  pub selection_is : slots.selection ≡ selection
+  pub head : HoldsHead slots.head ms
   pub terraform : selection.version ≡ true → shallow_view slots.terraform ≡ shallow_of (get_member (codes "terraform") ms)
   pub hook : selection.hook ≡ true → IsHook slots.hook (get_member (codes "hook") ms)
   pub change : selection.change ≡ true → inner_view slots.change ≡ inner_of (codes "action") (get_member (codes "change") ms)

@@ -2,25 +2,27 @@
 
 ghost use Rattle.std.specs.Prelude.{◌≡◌};
 ghost use Rattle.std.specs.Option.{option_copied};
+ghost use Rattle.apply_json.specs.Verbatim.{none_verbatim};
 ghost use Rattle.stream_message.specs.Slots.{HoldsLine};
-ghost use Rattle.stream_message.specs.SlotValues.{kind_in, time_in, version_in};
+ghost use Rattle.stream_message.specs.SlotValues.{version_in};
 
 use crate::changes_slots::ChangesSlots;
 use crate::diagnostic_slots::DiagnosticSlots;
 use crate::hook_slots::HookSlots;
 use crate::inner_slot::InnerSlot;
-use crate::kind::Kind;
-use crate::timestamp::instant_of;
-use apply_json::Shallow;
+use crate::line_head::LineHead;
+use crate::members::is_selected;
+use crate::selection::Selection;
+use apply_json::{ReadFault, Reader, Shallow, Slots, read_shallow_into};
+use std::alloc::Global;
 
-/// The members of a line that a tool selects (Machine-Readable UI, "Message Types"). Its methods
-/// count a member with another type than theirs as missing.
+/// The members of a line that a tool selects (Machine-Readable UI, "Message Types").
 #[derive(Clone, Copy, Drop)]
 pub struct LineSlots<'a> {
-    /// `type`.
-    pub type_name: Shallow<'a>,
-    /// `@timestamp`.
-    pub timestamp: Shallow<'a>,
+    /// Which members are read.
+    pub selection: Selection,
+    /// `type` and `@timestamp`.
+    pub head: LineHead<'a>,
     /// `terraform`, the version.
     pub terraform: Shallow<'a>,
     pub hook: HookSlots<'a>,
@@ -32,15 +34,14 @@ pub struct LineSlots<'a> {
 
 impl<'a> LineSlots<'a> {
     ghost use Rattle.serde_json.specs.Data.{no_members};
-    ghost use Rattle.stream_message.specs.declared.selection.Selection.{Selection};
 
-    /// Slots of an object without members.
-    pub(crate) fn new() -> LineSlots<'a>
-        ensures { (selection : Selection) → HoldsLine selection result no_members }
+    /// Slots of an object without members, for the members that are selected.
+    pub fn new(selection: Selection) -> LineSlots<'a>
+        ensures { HoldsLine selection result no_members }
     {
         LineSlots {
-            type_name: Shallow::Absent,
-            timestamp: Shallow::Absent,
+            selection,
+            head: LineHead::new(),
             terraform: Shallow::Absent,
             hook: HookSlots::new(),
             change: InnerSlot::new(),
@@ -49,29 +50,39 @@ impl<'a> LineSlots<'a> {
         }
     }
 
-    /// Returns the kind of the message. `None` if the line has no text `type`: it is no message.
-    pub fn kind(&self) -> Option<Kind>
-        ensures { result ≡ kind_in self.now }
-    {
-        match self.type_name.text() {
-            Some(name) => Some(Kind::named(name)),
-            None => None,
-        }
-    }
-
-    /// Returns the timestamp of the message, in microseconds since the start of 1970, rounded down.
-    /// `None` if the line is no message, or has no valid `@timestamp`.
-    pub fn time(&self) -> Option<i64>
-        ensures { result ≡ time_in self.now }
-    {
-        self.type_name.text()?;
-        instant_of(self.timestamp.text()?)
-    }
-
-    /// Returns the version of Terraform (`terraform`).
+    /// Returns the version of Terraform (`terraform`). `None` if it is missing or no text.
     pub fn version(&self) -> Option<&'a str>
         ensures { option_copied result ≡ version_in self.now }
     {
         self.terraform.text()
+    }
+}
+
+impl<'a> Slots<'a> for LineSlots<'a> {
+    ghost is_verbatim = { none_verbatim };
+
+    ghost holds = { λ start now ms. HoldsLine start.selection now ms };
+
+    fn take(
+        &mut self,
+        alloc: Global,
+        name: &str,
+        reader: &mut Reader<'a>,
+        depth: usize,
+    ) -> Result<(), ReadFault> {
+        if is_selected(self.selection.hook, name, "hook") {
+            HookSlots::read(alloc, reader, depth, &mut self.hook)
+        } else if is_selected(self.selection.change, name, "change") {
+            InnerSlot::read(alloc, reader, depth, "action", &mut self.change)
+        } else if is_selected(self.selection.changes, name, "changes") {
+            ChangesSlots::read(alloc, reader, depth, &mut self.changes)
+        } else if is_selected(self.selection.diagnostic, name, "diagnostic") {
+            let texts = self.selection.diagnostic_texts;
+            DiagnosticSlots::read(alloc, reader, depth, texts, &mut self.diagnostic)
+        } else if is_selected(self.selection.version, name, "terraform") {
+            read_shallow_into(reader, depth, &mut self.terraform)
+        } else {
+            self.head.take(alloc, name, reader, depth)
+        }
     }
 }

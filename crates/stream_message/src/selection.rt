@@ -1,11 +1,9 @@
 //! Which members of a line a tool reads.
 
-/// The members of a line that a tool reads next to `type`, which is always read. All others are
-/// skipped.
+/// The members of a line that a tool reads next to `type` and `@timestamp`, which are always read.
+/// All others are skipped.
 #[derive(Clone, Copy)]
 pub struct Selection {
-    /// `@timestamp`.
-    pub timestamp: bool,
     /// `terraform`, the version.
     pub version: bool,
     /// `hook`.

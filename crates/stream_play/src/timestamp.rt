@@ -5,18 +5,7 @@ ghost use Rattle.stream_play.specs.Timestamp.{timestamp_of};
 
 use apply_json::{JsonFault, Scratch};
 use std::alloc::{AllocError, Global};
-use stream_message::{Selection, read_line};
-
-/// The timestamp alone is read, next to the type.
-const SELECTION: Selection = Selection {
-    timestamp: true,
-    version: false,
-    hook: false,
-    change: false,
-    changes: false,
-    diagnostic: false,
-    diagnostic_texts: false,
-};
+use stream_message::read_head;
 
 /// Returns the timestamp of a line, in microseconds since 1970, the rest cut off. `jiff` reads it
 /// from the text `@timestamp` of a message: an object (RFC 8259) with a text `type`.
@@ -30,8 +19,8 @@ pub fn timestamp_of(
 ) -> Result<Option<i64>, AllocError>
     ensures { IfOk result (λ timestamp. timestamp ≡ timestamp_of line.now) }
 {
-    match read_line(alloc, scratch, SELECTION, line) {
-        Ok(slots) => Ok(slots.time()),
+    match read_head(alloc, scratch, line) {
+        Ok(head) => Ok(head.time()),
         Err(JsonFault::Memory) => Err(AllocError),
         Err(JsonFault::TooLarge | JsonFault::NotJson) => Ok(None),
     }

@@ -23,7 +23,6 @@ use Rattle.stream_timeline.specs.SlotContents.{begin_in, content_in, diagnostic_
 -- the members that a time line needs
 abbrev pub timeline_selection : Selection
 timeline_selection = record {
-  timestamp = true;
   version = true;
   hook = true;
   change = false;
@@ -132,7 +131,7 @@ module _ (line : LineSlots) (d : Data) (holds : HoldsLine timeline_selection lin
   message_is : message_in line ≡ tree_message d
   message_is =
       ap₂ (λ (k : Option Kind) (time : Option ℤ). k >>= λ kind. (time >>= λ time. Some (let m : Message = record { time = time; content = content_in kind line } in m)))
-      (members.kind_is timeline_selection line d holds) (members.time_is timeline_selection line d holds refl)
+      (members.kind_is line.head d holds.head) (members.time_is line.head d holds.head)
       ∙ each (type_of d) (time_of d) where
         each : (n : Option (List ℕ)) (t : Option ℤ) → (option_map kind_named n >>= λ kind. ((n >>= λ name. t) >>= λ time. Some (let m : Message = record { time = time; content = content_in kind line } in m)))
             ≡ (n >>= λ name. (t >>= λ time. Some (message_at name d time)))

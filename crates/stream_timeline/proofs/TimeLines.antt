@@ -7,26 +7,13 @@ use Rattle.apply_json.specs.ShallowView.{members_in}
 use Rattle.apply_json.specs.Tree.{◌>>=◌}
 use Rattle.apply_json.proofs.Held.{is_name}
 use Rattle.stream_message.specs.declared.kind.Kind.{Kind}
-use Rattle.stream_message.specs.declared.line_slots.LineSlots.{LineSlots}
-use Rattle.stream_message.specs.declared.selection.Selection.{Selection}
+use Rattle.stream_message.specs.declared.line_head.LineHead.{LineHead}
 use Rattle.stream_message.specs.Kinds.{kind_named}
 use Rattle.stream_message.specs.Members.{time_of, type_of}
-use Rattle.stream_message.specs.Slots.{HoldsLine}
+use Rattle.stream_message.specs.Slots.{HoldsHead}
 use Rattle.stream_message.proofs.TreeMembers as members
 use Rattle.stream_timeline.specs.Messages.{Content, Message, content_of, message_at, other, tree_message}
 use Rattle.stream_timeline.specs.SlotContents.{is_time_only, time_only, time_only_in}
-
--- the type and the timestamp
-abbrev pub time_selection : Selection
-time_selection = record {
-  timestamp = true;
-  version = false;
-  hook = false;
-  change = false;
-  changes = false;
-  diagnostic = false;
-  diagnostic_texts = false;
-}
 
 module _ (name : List ℕ) (d : Data) where
   -- this name, or another
@@ -62,10 +49,10 @@ module _ (name : List ℕ) (d : Data) where
       rw (is_start, is_ephemeral_start, is_complete, is_ephemeral_complete, is_errored, is_ephemeral_errored, is_refresh_start, is_refresh_complete, is_provision_start, is_provision_complete, is_provision_errored, is_diagnostic, is_version, is_summary) refl)))))))))))))))))))
 
 -- the message of a line that only contributes its timestamp
-pub time_alone : (line : LineSlots) (d : Data) → HoldsLine time_selection line (members_in d) → IfSome (time_only_in line) (λ time. tree_message d ≡ Some (time_only time))
-time_alone line d holds =
+pub time_alone : (head : LineHead) (d : Data) → HoldsHead head (members_in d) → IfSome (time_only_in head) (λ time. tree_message d ≡ Some (time_only time))
+time_alone head d holds =
     subst (λ (value : Option ℤ). IfSome value (λ time. tree_message d ≡ Some (time_only time)))
-    (sym (ap₂ (λ (k : Option Kind) (t : Option ℤ). k >>= λ kind. cond (is_time_only kind) t None) (members.kind_is time_selection line d holds) (members.time_is time_selection line d holds refl)))
+    (sym (ap₂ (λ (k : Option Kind) (t : Option ℤ). k >>= λ kind. cond (is_time_only kind) t None) (members.kind_is head d holds) (members.time_is head d holds)))
     (each (type_of d) (time_of d))
   where
     of : (name : List ℕ) (time : ℤ) (b : Bool) → is_time_only (kind_named name) ≡ b

@@ -8,6 +8,7 @@ use Rattle.stream_message.specs.declared.diagnostic_slots.DiagnosticSlots.{Diagn
 use Rattle.stream_message.specs.declared.hook_slots.HookSlots.{HookSlots}
 use Rattle.stream_message.specs.declared.kind.Kind.{Kind}
 use Rattle.stream_message.specs.declared.kind.Kind.TheVariants as kind
+use Rattle.stream_message.specs.declared.line_head.LineHead.{LineHead}
 use Rattle.stream_message.specs.declared.line_slots.LineSlots.{LineSlots}
 use Rattle.stream_message.specs.declared.stage.Stage.{Stage}
 use Rattle.stream_message.specs.declared.stage.Stage.TheVariants as stage
@@ -111,7 +112,7 @@ content_in kind.Other line = other
 -- the message in a line, which needs a text `type` and a valid `@timestamp`
 abbrev pub message_in : LineSlots → Option Message
 message_in line =
-    kind_in line >>= λ kind. (time_in line >>= λ time. Some (let message : Message = record { time = time; content = content_in kind line } in message))
+    kind_in line.head >>= λ kind. (time_in line.head >>= λ time. Some (let message : Message = record { time = time; content = content_in kind line } in message))
 
 -- ---- messages that only contribute their timestamp
 
@@ -138,5 +139,5 @@ abbrev pub time_only : ℤ → Message
 time_only time = record { time = time; content = other }
 
 -- the timestamp of such a message
-abbrev pub time_only_in : LineSlots → Option ℤ
-time_only_in line = kind_in line >>= λ kind. (if is_time_only kind then time_in line else None)
+abbrev pub time_only_in : LineHead → Option ℤ
+time_only_in head = kind_in head >>= λ kind. (if is_time_only kind then time_in head else None)

@@ -34,7 +34,7 @@ impl<'a> Object<'a> {
     fn of(line: &LineSlots<'a>) -> Option<Object<'a>>
         ensures { option_map object_view result ≡ about_of_slots line.now }
     {
-        match message_of_kind(line, line.kind()?) {
+        match message_of_kind(line, line.head.kind()?) {
             Ok(
                 Message::Step {
                     address,
@@ -79,8 +79,9 @@ pub fn object_in<'a>(
     let Some(piece) = message_in(mode, text) else {
         return Ok(None);
     };
-    match read_line(alloc, scratch, SELECTION, piece) {
-        Ok(line) => Ok(Object::of(&line)),
+    let mut line = LineSlots::new(SELECTION);
+    match read_line(alloc, scratch, piece, &mut line) {
+        Ok(()) => Ok(Object::of(&line)),
         Err(JsonFault::Memory) => Err(AllocError),
         Err(_) => Ok(None),
     }

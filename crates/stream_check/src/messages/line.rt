@@ -21,7 +21,6 @@ use stream_message::{Kind, LineSlots, Selection, read_line};
 
 /// The members that the rules read.
 pub const SELECTION: Selection = Selection {
-    timestamp: false,
     version: false,
     hook: true,
     change: true,
@@ -40,8 +39,9 @@ pub fn message_in<'a>(
 ) -> Result<Message<'a>, Fault>
     ensures { Gives Fault.Memory message_view result (text_message find text.now) }
 {
-    match read_line(alloc, scratch, SELECTION, text) {
-        Ok(line) => message_of(&line, find),
+    let mut line = LineSlots::new(SELECTION);
+    match read_line(alloc, scratch, text, &mut line) {
+        Ok(()) => message_of(&line, find),
         Err(JsonFault::TooLarge) => Err(Fault::TooLong),
         Err(JsonFault::NotJson) => Err(Fault::NotJson),
         Err(JsonFault::Memory) => Err(Fault::Memory),
@@ -56,7 +56,7 @@ pub fn message_in<'a>(
 fn message_of<'a>(line: &LineSlots<'a>, find: bool) -> Result<Message<'a>, Fault>
     ensures { mapped message_view result ≡ message_of_slots find line.now }
 {
-    match line.kind() {
+    match line.head.kind() {
         Some(kind) => message_of_kind(line, kind),
         None => if find {
             Ok(Message::Foreign)

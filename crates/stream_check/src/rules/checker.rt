@@ -12,7 +12,8 @@ use crate::rules::mode::Mode;
 use crate::rules::open_steps::OpenSteps;
 use crate::rules::tally::Tally;
 use apply_json::Scratch;
-use std::alloc::{AllocError, Global};
+use std::alloc::Global;
+use stream_message::take_scratch;
 
 /// The state of a check. It grows only with the number of addresses at which something stands open,
 /// and with the longest line.
@@ -128,16 +129,5 @@ impl Checker {
         } else {
             None
         }
-    }
-}
-
-/// Takes the stored scratch, or makes one. `Err` where memory is refused.
-fn take_scratch(
-    alloc: Global,
-    stored: &mut Option<Box<Scratch>>,
-) -> Result<Box<Scratch>, AllocError> {
-    match stored.take() {
-        Some(scratch) => Ok(scratch),
-        None => Ok(Box::new(alloc, Scratch::new(alloc))?),
     }
 }

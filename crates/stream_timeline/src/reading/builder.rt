@@ -10,12 +10,11 @@ use crate::reading::time_lines::time_in;
 use crate::reading::timeline::Timeline;
 use crate::reading::timeline_fault::TimelineFault;
 use apply_json::{JsonFault, Scratch};
-use std::alloc::{AllocError, Global};
-use stream_message::{LineSlots, Selection, read_line};
+use std::alloc::Global;
+use stream_message::{LineSlots, Selection, read_line, take_scratch};
 
 /// The members that a time line needs.
 const SELECTION: Selection = Selection {
-    timestamp: true,
     version: true,
     hook: true,
     change: false,
@@ -109,8 +108,9 @@ impl TimelineBuilder {
     ) -> Result<(), TimelineFault>
         ensures { ReadsMore (IsReadingLine self.old) self.new (with_message_or_passed_over (message_of line.now)) result }
     {
-        match read_line(alloc, scratch, SELECTION, line) {
-            Ok(slots) => self.message(alloc, &slots),
+        let mut slots = LineSlots::new(SELECTION);
+        match read_line(alloc, scratch, line, &mut slots) {
+            Ok(()) => self.message(alloc, &slots),
             Err(JsonFault::Memory) => Err(TimelineFault::Memory),
             Err(JsonFault::TooLarge | JsonFault::NotJson) => {
                 self.timeline.pass_over();
@@ -136,11 +136,11 @@ impl TimelineBuilder {
     fn message(&mut self, alloc: Global, line: &LineSlots<'_>) -> Result<(), TimelineFault>
         ensures { ReadsMore (IsReadingLine self.old) self.new (with_message_or_passed_over (message_in line.now)) result }
     {
-        let Some(kind) = line.kind() else {
+        let Some(kind) = line.head.kind() else {
             self.timeline.pass_over();
             return Ok(());
         };
-        let Some(time) = line.time() else {
+        let Some(time) = line.head.time() else {
             self.timeline.pass_over();
             return Ok(());
         };
@@ -192,16 +192,5 @@ impl TimelineBuilder {
                 Ok(())
             }
         }
-    }
-}
-
-/// Takes the stored scratch, or makes one. `Err` where memory is refused.
-fn take_scratch(
-    alloc: Global,
-    stored: &mut Option<Box<Scratch>>,
-) -> Result<Box<Scratch>, AllocError> {
-    match stored.take() {
-        Some(scratch) => Ok(scratch),
-        None => Ok(Box::new(alloc, Scratch::new(alloc))?),
     }
 }

@@ -6,18 +6,7 @@ ghost use Rattle.stream_timeline.specs.SlotContents.{is_progress, is_time_only, 
 
 use apply_json::Scratch;
 use std::alloc::Global;
-use stream_message::{Kind, LineSlots, Selection, Stage, read_line};
-
-/// The type and the timestamp, which suffice for most lines of a stream.
-const SELECTION: Selection = Selection {
-    timestamp: true,
-    version: false,
-    hook: false,
-    change: false,
-    changes: false,
-    diagnostic: false,
-    diagnostic_texts: false,
-};
+use stream_message::{Kind, LineHead, Stage, read_head};
 
 /// The longest line that is read twice where its type and timestamp do not suffice, in bytes.
 const MAX_LEN: usize = 65_536;
@@ -31,18 +20,18 @@ pub fn time_in(alloc: Global, scratch: &mut Scratch, line: &[u8]) -> Option<i64>
     if line.len() > MAX_LEN {
         return None;
     }
-    match read_line(alloc, scratch, SELECTION, line) {
-        Ok(slots) => time_of(&slots),
+    match read_head(alloc, scratch, line) {
+        Ok(head) => time_of(&head),
         Err(_) => None,
     }
 }
 
 /// Returns the timestamp, if the kind of the message contributes nothing else.
-fn time_of(line: &LineSlots<'_>) -> Option<i64>
-    ensures { result ≡ time_only_in line.now }
+fn time_of(head: &LineHead<'_>) -> Option<i64>
+    ensures { result ≡ time_only_in head.now }
 {
-    if is_time_only(line.kind()?) {
-        line.time()
+    if is_time_only(head.kind()?) {
+        head.time()
     } else {
         None
     }

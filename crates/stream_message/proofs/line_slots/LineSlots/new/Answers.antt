@@ -2,12 +2,12 @@ use Rattle.std.proofs.Common.{codes, refl}
 use Rattle.stream_message.proofs.line_slots.LineSlots.new.Goals as goal
 
 pub returns : goal.returns
-returns c = λ selection. record {
-  type_name = refl;
-  timestamp = λ selected. refl;
+returns c = record {
+  selection_is = refl;
+  head = c.new.ensures;
   terraform = λ selected. refl;
-  hook = λ selected. (c.new.ensures.is, c.new.ensures.holds);
-  change = λ selected. c.new-2.ensures (codes "action");
-  changes = λ selected. (c.new-3.ensures.is, c.new-3.ensures.holds);
-  diagnostic = λ selected. (c.new-4.ensures.is, c.new-4.ensures.holds selection.diagnostic_texts);
+  hook = λ selected. (c.new-2.ensures.is, c.new-2.ensures.holds);
+  change = λ selected. c.new-3.ensures (codes "action");
+  changes = λ selected. (c.new-4.ensures.is, c.new-4.ensures.holds);
+  diagnostic = λ selected. (c.new-5.ensures.is, c.new-5.ensures.holds c.args.selection.diagnostic_texts);
 }

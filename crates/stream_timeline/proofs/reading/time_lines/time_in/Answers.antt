@@ -11,4 +11,4 @@ pub returns-in-Ok : goal.returns-in-Ok
 returns-in-Ok c =
     let read = c.in-Ok.ensures.ok in
     subst (λ (o : Option Message). IfSome c.time_of.result (λ time. o ≡ Some (time_only time))) (sym (ap (λ (o : Option Data). o >>= tree_message) read.1))
-    (subst (λ (value : Option ℤ). IfSome value (λ time. tree_message read.0 ≡ Some (time_only time))) (sym c.time_of.ensures) (time_alone c.in-Ok.slots read.0 read.2))
+    (subst (λ (value : Option ℤ). IfSome value (λ time. tree_message read.0 ≡ Some (time_only time))) (sym c.time_of.ensures) (time_alone c.in-Ok.head read.0 read.2))
