@@ -28,7 +28,7 @@ use Rattle.stream_check.specs.Unended.{AreAllOpen}
 use Rattle.stream_check.specs.Message.{Message}
 use Rattle.stream_lines.specs.Reading.{Gives}
 use Rattle.stream_check.specs.Reading.{IsAnswer, IsFaultAt, IsNoAnswer}
-use Rattle.stream_check.proofs.Cut.{cut_first}
+use Rattle.stream_lines.proofs.FirstLine.{cut_first}
 use Rattle.stream_check.proofs.OneLine.{too_long}
 use Rattle.stream_check.proofs.WholeStream.{finding_at, goes_on, is_done, is_faulty, with_one}
 

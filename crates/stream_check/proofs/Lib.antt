@@ -3,7 +3,6 @@ pub mod Actions
 pub mod Balance
 pub mod Continuing
 pub mod Counting
-pub mod Cut
 pub mod Doubling
 pub mod Floats
 pub mod FromReader
@@ -11,7 +10,6 @@ pub mod Held
 pub mod Joined
 pub mod SlotContents
 pub mod OpenEntries
-pub mod Marks
 pub mod MessageKinds
 pub mod OneLine
 pub mod OpenSteps

@@ -6,7 +6,7 @@ use Rattle.stream_check.specs.declared.rules.checker.Checker.{Checker}
 use Rattle.stream_check.specs.declared.rules.fault.Fault.{Fault}
 use Rattle.stream_check.specs.declared.rules.fault.Fault.TheVariants.{TooLong, NotJson}
 use Rattle.stream_check.specs.Checking.{Continues, HasRead}
-use Rattle.stream_check.specs.Located.{from_mark, through_brace}
+use Rattle.stream_message.specs.Located.{from_mark, through_brace}
 use Rattle.stream_lines.specs.Limits.{max_bytes}
 use Rattle.stream_check.specs.Lines.{as_first, after_version, located_message, line_message, next, read_line, read_text, text_message}
 use Rattle.stream_check.specs.Message.{Message, foreign}

@@ -7,7 +7,7 @@ use Rattle.stream_check.specs.declared.command.object.Object.{Object}
 use Rattle.stream_check.specs.declared.command.object.Object.TheVariants as object
 use Rattle.stream_check.specs.declared.messages.action.Action.{Action}
 use Rattle.stream_check.specs.declared.rules.fault.Fault.{Fault}
-use Rattle.stream_check.specs.Located.{from_mark, through_brace}
+use Rattle.stream_message.specs.Located.{message_text}
 use Rattle.stream_check.specs.Message.{Message, version, step, provision, planned, plan_summary, summary, diagnostic, outputs, other, foreign, typed_message}
 
 pub data About : Type 0 where
@@ -42,7 +42,7 @@ about_tree d = option_and_then (λ name. about_message d (typed_message name d))
 
 -- the text of the line's message
 abbrev pub message_in : (find : Bool) → List ℕ → Option (List ℕ)
-message_in find text = if find then option_and_then through_brace (from_mark text) else Some text
+message_in find text = if find then message_text text else Some text
 
 -- what the message of a line is about
 abbrev pub about_line : (find : Bool) → List ℕ → Option About

@@ -5,7 +5,6 @@ pub mod CommandLine
 pub mod Counted
 pub mod Course
 pub mod Faults
-pub mod Located
 pub mod Intents
 pub mod Judged
 pub mod SlotContents

@@ -14,7 +14,7 @@ use Rattle.stream_check.specs.declared.verdict.finding.Finding.{Finding}
 use Rattle.stream_check.specs.declared.verdict.whole.Whole.{Whole}
 use Rattle.stream_check.specs.Counted.{is_used_up}
 use Rattle.stream_lines.specs.Limits.{max_bytes}
-use Rattle.stream_check.specs.Located.{from_mark, through_brace}
+use Rattle.stream_message.specs.Located.{from_mark, through_brace}
 use Rattle.stream_check.specs.Message.{Message, version, step, provision, planned, plan_summary, summary, diagnostic, outputs, other, foreign, typed_message}
 use Rattle.stream_check.specs.Open.{any_open}
 use Rattle.stream_check.specs.Results.{◌>>=◌, or_refuse}

@@ -2,7 +2,7 @@
 use Rattle.std.specs.Prelude.{ℕ, List, Bool, if◌then◌else◌, Option, Some, None, Result, Ok}
 use Rattle.stream_check.specs.declared.rules.fault.Fault.{Fault}
 use Rattle.stream_check.specs.declared.rules.fault.Fault.TheVariants.{NotJson}
-use Rattle.stream_check.specs.Located.{from_mark, through_brace}
+use Rattle.stream_message.specs.Located.{from_mark, through_brace}
 use Rattle.stream_check.specs.Results.{mapped, or_refuse}
 
 -- the text up to the last closing brace; none where no message starts

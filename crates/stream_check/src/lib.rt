@@ -2,7 +2,6 @@
 #![tactic(auto)]
 
 mod command;
-pub(crate) mod located;
 mod messages;
 mod rules;
 mod verdict;

@@ -10,4 +10,5 @@ pub(crate) mod mode;
 pub(crate) mod open_entry;
 pub(crate) mod open_steps;
 pub(crate) mod pending;
+pub(crate) mod piece;
 pub(crate) mod tally;

@@ -1,3 +1,4 @@
+pub mod Marks
 pub mod ReadValues
 pub mod Slots
 pub mod TreeMembers

@@ -1,4 +1,5 @@
 pub mod Kinds
+pub mod Located
 pub mod Members
 pub mod Selected
 pub mod SlotValues

@@ -6,7 +6,7 @@ use Rattle.clap.specs.Walk.{Row, Rule, Text, first_of, one_of}
 use Rattle.clap.specs.declared.builder.value_parser.ValueParser.TheVariants as values
 use Rattle.stream_tool.specs.Arguments.{Arguments}
 use Rattle.stream_tool.specs.Running.{Giving}
-use Rattle.stream_tool.specs.Words.{file_rule, unless_dash}
+use Rattle.stream_tool.specs.Words.{file_rule, flag_rule, unless_dash}
 use Rattle.stream_play.specs.Due.{most_speed}
 use Rattle.stream_play.specs.Played.{IsPlayed}
 use Rattle.stream_play.specs.declared.command.settings.Settings.{Settings}
@@ -27,7 +27,7 @@ speed_rule = record (new_rule (codes "speed")) {
 -- the command `play` and its options
 abbrev pub command_line : App
 command_line = record {
-  top = record (new_shape (codes "applystream play")) { no_binary_name = true; rules = speed_rule ∷ file_rule ∷ [] };
+  top = record (new_shape (codes "applystream play")) { no_binary_name = true; rules = speed_rule ∷ flag_rule (codes "find") ∷ file_rule ∷ [] };
   subs = [];
 }
 
@@ -42,6 +42,8 @@ IsSpeed text speed = IsNumeral 10 (without_leading_plus text) → 1 ≤ digits_v
 pub record AreStated (rows : List Row) (settings : Settings) : Type 0 where
   pub file : option_map string_bytes settings.file ≡ unless_dash (first_of (codes "file") rows)
   pub speed : IfSome (one_of (codes "speed") rows) (λ text. IsSpeed text settings.speed)
+  pub find : one_of (codes "find") rows ≡ Some (codes "true") → settings.find ≡ true
+  pub no_find : one_of (codes "find") rows ≡ Some (codes "false") → settings.find ≡ false
 
 -- how arguments state them; all options go together
 abbrev pub arguments : Arguments Settings
@@ -76,7 +78,7 @@ IsStatusOf is_named (Err fault) status = IsFaultStatus is_named fault status
 -- A stream was played: what was written, and the exit status.
 abbrev pub HasPlayed : Giving Settings (Result Unit PlayFault)
 HasPlayed settings given before after answer status =
-    IfSome given (λ bytes. IsPlayed bytes before after answer) × IsStatusOf (is_some settings.file) answer status
+    IfSome given (λ bytes. IsPlayed settings.find bytes before after answer) × IsStatusOf (is_some settings.file) answer status
 
 abbrev pub is_fault : Result Unit PlayFault → Bool
 is_fault (Ok done) = false

@@ -1,10 +1,12 @@
 -- What playing writes.
-use Rattle.std.specs.Prelude.{◌≡◌, ◌≢◌, ◌<◌, ◌++◌, ◌-◌, ◌^◌, ℕ, List, [], length, take, ⊤, Option, Result, Ok, Err}
+use Rattle.std.specs.Prelude.{◌≡◌, ◌≢◌, ◌<◌, ◌++◌, ◌-◌, ◌^◌, ℕ, List, [], ◌∷◌, Bool, if◌then◌else◌, length, take, ⊤, Option, Result, Ok, Err}
 use Rattle.std.specs.Io.KnownBytes.{Appends, Keeps}
-use Rattle.stream_lines.specs.Cut.{after_lines, line_at}
+use Rattle.std.specs.Option.{option_map_or}
+use Rattle.stream_lines.specs.Cut.{after_lines, cut_lines, line_at}
 use Rattle.stream_lines.specs.Limits.{max_bytes}
 use Rattle.stream_lines.specs.declared.line_fault.LineFault.{LineFault}
 use Rattle.stream_lines.specs.declared.line_fault.LineFault.TheVariants as of
+use Rattle.stream_message.specs.Located.{found_message}
 use Rattle.stream_tool.specs.declared.writing.WriteFault.{WriteFault}
 use Rattle.stream_tool.specs.declared.writing.WriteFault.TheVariants as write
 use Rattle.stream_play.specs.declared.play_fault.PlayFault.{PlayFault}
@@ -20,37 +22,53 @@ abbrev pub write_fault : WriteFault → PlayFault
 write_fault write.Gone = play.Gone
 write_fault write.Unwritten = play.Unwritten
 
--- the first `count` lines were written whole, and nothing else
-pub record LinesWritten (bytes : List ℕ) (count : ℕ) (before after : Option (List ℕ)) : Type 0 where
+-- what is written of a line of a log: the message that is found in it, and a line feed
+abbrev pub found_line : List ℕ → List ℕ
+found_line line = option_map_or (λ message. message ++ 10 ∷ []) (found_message line) []
+
+abbrev pub found_lines : List (List ℕ) → List ℕ
+found_lines [] = []
+found_lines (line ∷ lines) = found_line line ++ found_lines lines
+
+-- what is written of a line, which may end in a line feed
+abbrev pub written_of : (find : Bool) → List ℕ → (has_feed : Bool) → List ℕ
+written_of find line feed = if find then found_line line else line ++ (if feed then 10 ∷ [] else [])
+
+-- what is written of a stream: its bytes, or the messages that are found in its lines
+abbrev pub output_of : (find : Bool) → List ℕ → List ℕ
+output_of find bytes = if find then found_lines (cut_lines bytes) else bytes
+
+-- What the first `count` lines give was written whole, and nothing else.
+pub record LinesWritten (find : Bool) (bytes : List ℕ) (count : ℕ) (before after : Option (List ℕ)) : Type 0 where
   pub lines : List ℕ
-  pub cut : bytes ≡ lines ++ after_lines count bytes
+  pub cut : output_of find bytes ≡ lines ++ output_of find (after_lines count bytes)
   pub written : Appends before after lines
 
 -- The greatest number of lines was written, and the last of them exists.
-pub record TooManyWritten (bytes : List ℕ) (before after : Option (List ℕ)) : Type 0 where
+pub record TooManyWritten (find : Bool) (bytes : List ℕ) (before after : Option (List ℕ)) : Type 0 where
   pub count : ℕ
   pub most : count ≡ 2 ^ 64 - 1
   pub last : after_lines (count - 1) bytes ≢ []
-  pub written : LinesWritten bytes count before after
+  pub written : LinesWritten find bytes count before after
 
--- a front of the bytes was written: whole lines, and a part of one
-pub record FrontWritten (bytes : List ℕ) (before after : Option (List ℕ)) : Type 0 where
+-- a front of the output was written: whole lines, and a part of one
+pub record FrontWritten (find : Bool) (bytes : List ℕ) (before after : Option (List ℕ)) : Type 0 where
   pub front : List ℕ
   pub rest : List ℕ
-  pub cut : bytes ≡ front ++ rest
+  pub cut : output_of find bytes ≡ front ++ rest
   pub written : Appends before after front
 
 -- What was written of the stream: all of it, or a front. A fault of reading leaves whole lines; a
 -- failed write may leave a part of a line.
-abbrev pub IsPlayed : List ℕ → (before after : Option (List ℕ)) → Result Unit PlayFault → Type 0
-IsPlayed bytes before after (Ok done) = Appends before after bytes
-IsPlayed bytes before after (Err (play.TooLong number)) =
-    LinesWritten bytes (number - 1) before after × (max_bytes < length (line_at number bytes))
-IsPlayed bytes before after (Err play.TooMany) = TooManyWritten bytes before after
-IsPlayed bytes before after (Err (play.Unread failed)) = (count : ℕ) × LinesWritten bytes count before after
-IsPlayed bytes before after (Err play.Memory) = (count : ℕ) × LinesWritten bytes count before after
-IsPlayed bytes before after (Err play.Gone) = FrontWritten bytes before after
-IsPlayed bytes before after (Err play.Unwritten) = FrontWritten bytes before after
+abbrev pub IsPlayed : (find : Bool) → List ℕ → (before after : Option (List ℕ)) → Result Unit PlayFault → Type 0
+IsPlayed find bytes before after (Ok done) = Appends before after (output_of find bytes)
+IsPlayed find bytes before after (Err (play.TooLong number)) =
+    LinesWritten find bytes (number - 1) before after × (max_bytes < length (line_at number bytes))
+IsPlayed find bytes before after (Err play.TooMany) = TooManyWritten find bytes before after
+IsPlayed find bytes before after (Err (play.Unread failed)) = (count : ℕ) × LinesWritten find bytes count before after
+IsPlayed find bytes before after (Err play.Memory) = (count : ℕ) × LinesWritten find bytes count before after
+IsPlayed find bytes before after (Err play.Gone) = FrontWritten find bytes before after
+IsPlayed find bytes before after (Err play.Unwritten) = FrontWritten find bytes before after
 
 -- What was written of one line: all of it, a part where a write failed, or nothing where memory was
 -- refused.

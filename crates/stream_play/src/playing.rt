@@ -1,9 +1,9 @@
 //! Plays a stream: each line at its own time.
 
-ghost use Rattle.std.specs.Prelude.{◌≡◌, ◌++◌, ◌∷◌, [], IfErr, IfOk, IfSome, OnOk, OnSome, if◌then◌else◌};
+ghost use Rattle.std.specs.Prelude.{◌≡◌, IfErr, IfOk, IfSome, OnOk, OnSome};
 ghost use Rattle.std.specs.Io.Buffered.{reader_remaining};
 ghost use Rattle.std.specs.Io.KnownBytes.{IsAtEnd, Keeps};
-ghost use Rattle.stream_play.specs.Played.{IsLineWritten, IsPlayed, IsReadFault};
+ghost use Rattle.stream_play.specs.Played.{IsLineWritten, IsPlayed, IsReadFault, found_line, written_of};
 ghost use Rattle.stream_lines.specs.Reading.{Gives};
 
 use crate::play_fault::PlayFault;
@@ -14,9 +14,11 @@ use std::alloc::{AllocError, Global};
 use std::io::{BufReader, Read, Write};
 use std::time::Clock;
 use stream_lines::{LineEnd, next_line};
+use stream_message::found_message;
 use stream_tool::{flush, write_whole};
 
-/// Writes the lines of the reader unchanged, each when it is due.
+/// Writes the lines of the reader unchanged, each when it is due. With `find` they are the lines of
+/// a log: the messages that are found in them are written, each with a line feed, and nothing else.
 ///
 /// A line is due at the time of its timestamp, counted from the first message and divided by the
 /// speed. The count starts when the first message was read. A line follows at once where it is no
@@ -38,11 +40,12 @@ pub fn play<R: Read, W: Write, C: Clock>(
     alloc: Global,
     clock: &C,
     speed: Speed,
+    find: bool,
     reader: &mut BufReader<R>,
     output: &mut W,
 ) -> Result<(), PlayFault>
     ensures played { IfSome (reader_remaining R.remaining reader.old)
-        (λ bytes. IsPlayed bytes (W.contents output.old) (W.contents output.new) result) }
+        (λ bytes. IsPlayed find bytes (W.contents output.old) (W.contents output.new) result) }
     ensures at_end { OnOk result
         (OnSome (reader_remaining R.remaining reader.old) (IsAtEnd (reader_remaining R.remaining reader.new))) }
 {
@@ -57,7 +60,7 @@ pub fn play<R: Read, W: Write, C: Clock>(
             LineEnd::End => return Ok(()),
             LineEnd::TooLong => return Err(PlayFault::TooLong(before + 1)),
             LineEnd::Line { has_feed } => {
-                match play_line(alloc, clock, &mut timing, &mut line, has_feed, output) {
+                match play_line(alloc, clock, &mut timing, find, &mut line, has_feed, output) {
                     Ok(()) => {}
                     Err(fault) => return Err(fault),
                 }
@@ -87,32 +90,49 @@ fn read_next<R: Read, W: Write>(
     Ok(next_line(reader, line)?)
 }
 
-/// Writes a line that was just read, when it is due, with its line feed where it had one.
+/// Writes what is written of a line that was just read, when it is due.
 ///
 /// `Err` where a write or a flush fails, or memory is refused.
 fn play_line<W: Write, C: Clock>(
     alloc: Global,
     clock: &C,
     timing: &mut Timing,
+    find: bool,
     line: &mut Vec<u8>,
     has_feed: bool,
     output: &mut W,
 ) -> Result<(), PlayFault>
-    ensures { IsLineWritten (line.old.items ++ (if has_feed then 10 ∷ [] else [])) (W.contents output.old) (W.contents output.new) result }
+    ensures { IsLineWritten (written_of find line.old.items has_feed) (W.contents output.old) (W.contents output.new) result }
 {
-    match close(line, has_feed) {
+    match close(alloc, find, line, has_feed) {
         Ok(()) => write_when_due(alloc, clock, timing, line, output),
         Err(_) => Err(PlayFault::Memory),
     }
 }
 
-/// Adds the line feed where the line had one. `Err` where memory is refused.
-fn close(line: &mut Vec<u8>, has_feed: bool) -> Result<(), AllocError>
-    ensures { OnOk result (line.new.items ≡ line.old.items ++ (if has_feed then 10 ∷ [] else [])) }
+/// Makes of a line what is written of it. `Err` where memory is refused.
+fn close(alloc: Global, find: bool, line: &mut Vec<u8>, has_feed: bool) -> Result<(), AllocError>
+    ensures { OnOk result (line.new.items ≡ written_of find line.old.items has_feed) }
 {
-    if has_feed {
+    if find {
+        keep_message(alloc, line)?;
+    } else if has_feed {
         line.push(b'\n')?;
     }
+    Ok(())
+}
+
+/// Keeps of a line of a log the message that is found in it, and adds a line feed. `Err` where
+/// memory is refused.
+fn keep_message(alloc: Global, line: &mut Vec<u8>) -> Result<(), AllocError>
+    ensures { OnOk result (line.new.items ≡ found_line line.old.items) }
+{
+    let mut found = Vec::new(alloc);
+    if let Some(message) = found_message(alloc, line)? {
+        found.extend_from_slice(message)?;
+        found.push(b'\n')?;
+    }
+    *line = found;
     Ok(())
 }
 

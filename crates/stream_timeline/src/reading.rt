@@ -6,6 +6,7 @@ pub(crate) mod details;
 pub(crate) mod diagnostic;
 pub(crate) mod diagnostics;
 pub(crate) mod limits;
+pub(crate) mod log_line;
 pub(crate) mod open_places;
 pub(crate) mod provisioner;
 pub(crate) mod step;

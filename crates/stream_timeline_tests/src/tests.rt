@@ -31,7 +31,7 @@ no message
 
 /// The time line of the stream.
 fn timeline_of(rt: &impl Abort, alloc: Global) -> Timeline {
-    read(alloc, &mut STREAM.as_bytes()).expect(rt, "a message")
+    read(alloc, false, &mut STREAM.as_bytes()).expect(rt, "a message")
 }
 
 #[test]
@@ -148,7 +148,9 @@ fn a_read_fails(rt: HostRuntime) {
         bytes: STREAM.as_bytes(),
     };
     let mut reader = BufReader::new(rt.alloc(), broken).expect(&rt, "memory");
-    let fault = read(rt.alloc(), &mut reader).err().expect(&rt, "a fault");
+    let fault = read(rt.alloc(), false, &mut reader)
+        .err()
+        .expect(&rt, "a fault");
     reports(&rt, rt.alloc(), fault, "the stream could not be read");
 }
 
@@ -161,9 +163,9 @@ fn reports(rt: &impl Abort, alloc: Global, fault: TimelineFault, wanted: &str) {
 #[test]
 fn faults(rt: HostRuntime) {
     let alloc = rt.alloc();
-    let none = read(alloc, &mut "{}\n\n \t\r\n".as_bytes()).err();
+    let none = read(alloc, false, &mut "{}\n\n \t\r\n".as_bytes()).err();
     assert!(rt; none == Some(TimelineFault::NoMessage));
-    assert!(rt; read(alloc, &mut "".as_bytes()).err() == none);
+    assert!(rt; read(alloc, false, &mut "".as_bytes()).err() == none);
     reports(
         &rt,
         alloc,

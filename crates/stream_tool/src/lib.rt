@@ -17,7 +17,7 @@ mod writing;
 
 pub use arguments::{file, file_of};
 pub use draining::flush_and_drain;
-pub use options::{flag, is_given, with_option};
+pub use options::{FIND, flag, is_given, with_option};
 pub use outcome::{Outcome, Report};
 pub use parsing::matches_of;
 pub use refusals::{answer_usage, refuse_file, refuse_memory, refuse_unread};

@@ -9,6 +9,9 @@ ghost use Rattle.stream_tool.specs.Words.{flag_rule};
 use clap::{Arg, ArgAction, ArgMatches, Command};
 use std::alloc::{AllocError, Global};
 
+/// The help text of `--find`, which every tool that reads a stream has.
+pub const FIND: &str = "Find the messages in the lines of a log, and ignore the other lines";
+
 /// Adds an option to the command. Taking a `Result` lets a list of options
 /// return once, and not once for each option.
 ///

@@ -50,7 +50,7 @@ command_line colours = record {
   top = record (new_shape (codes "applystream view")) {
     no_binary_name = true;
     rules = flag_rule (codes "svg") ∷ number_named (codes "rows") 1 100000 ∷ flag_rule (codes "all") ∷ width_rule ∷ colour_rule colours
-        ∷ file_rule ∷ [];
+        ∷ flag_rule (codes "find") ∷ file_rule ∷ [];
   };
   subs = [];
 }
@@ -120,6 +120,8 @@ pub record AreStated (rows : List Row) (settings : Settings) : Type 0 where
   pub text : one_of (codes "svg") rows ≡ Some (codes "false") → IsTextStated rows settings.form
   pub all : one_of (codes "all") rows ≡ Some (codes "true") → settings.rows ≡ None
   pub limit : one_of (codes "all") rows ≡ Some (codes "false") → AreRowsStated rows settings.form settings.rows
+  pub find : one_of (codes "find") rows ≡ Some (codes "true") → settings.find ≡ true
+  pub no_find : one_of (codes "find") rows ≡ Some (codes "false") → settings.find ≡ false
 
 -- how arguments state the settings
 abbrev pub arguments : Arguments Settings

@@ -60,12 +60,12 @@ pub record IsDrawnOf (timeline : TimelineRead) (limit : Option ℕ) (form : Form
 
 -- The result belongs to the lines of these bytes: a picture of their time line, or the reason why
 -- there is none.
-abbrev pub IsOfStream : List ℕ → (limit : Option ℕ) → Form → (is_wanted : Bool) → (before after : Option (List ℕ))
+abbrev pub IsOfStream : (find : Bool) → List ℕ → (limit : Option ℕ) → Form → (is_wanted : Bool) → (before after : Option (List ℕ))
     → Result (Unit {0}) PictureFault → Type 0
-IsOfStream bytes limit form is_wanted before after (Ok done) =
-    (timeline : TimelineRead) × IsReadOf bytes (Ok timeline) × IsDrawnOf timeline limit form is_wanted before after
-IsOfStream bytes limit form is_wanted before after (Err (fault.NoTimeline why)) = IsReadOf bytes (Err why)
-IsOfStream bytes limit form is_wanted before after (Err (fault.Undrawn why)) = ⊤
+IsOfStream find bytes limit form is_wanted before after (Ok done) =
+    (timeline : TimelineRead) × IsReadOf find bytes (Ok timeline) × IsDrawnOf timeline limit form is_wanted before after
+IsOfStream find bytes limit form is_wanted before after (Err (fault.NoTimeline why)) = IsReadOf find bytes (Err why)
+IsOfStream find bytes limit form is_wanted before after (Err (fault.Undrawn why)) = ⊤
 
 abbrev pub timeline_status_of : TimelineFault → ℕ
 timeline_status_of (timeline_fault.TooLong number) = 2
@@ -98,7 +98,7 @@ IsStatusOf name (Err fault) status = IsFaultStatus name fault status
 pub record HasViewed (is_wanted : Bool) (settings : Settings) (given before after : Option (List ℕ)) (answer : Result (Unit {0}) PictureFault)
     (status : ℕ) : Type 0 where
   pub drawn : WasDrawn settings.form is_wanted before after answer
-  pub stream : IfSome given (λ bytes. IsOfStream bytes settings.rows settings.form is_wanted before after answer)
+  pub stream : IfSome given (λ bytes. IsOfStream settings.find bytes settings.rows settings.form is_wanted before after answer)
   pub reported : IsStatusOf settings.file answer status
 
 -- nothing is reported: the picture was written, or the reader of the output is gone

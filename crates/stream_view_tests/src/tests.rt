@@ -67,6 +67,7 @@ fn drawn(
     let settings = Settings {
         form,
         rows: Some(40),
+        find: false,
         file: None,
     };
     let mut input = Given { bytes, is_broken };

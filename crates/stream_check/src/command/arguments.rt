@@ -11,7 +11,7 @@ use crate::command::settings::{Form, Settings};
 use crate::rules::mode::Mode;
 use clap::{ArgMatches, Command};
 use std::alloc::{AllocError, Global};
-use stream_tool::{file, file_of, flag, is_given, with_option};
+use stream_tool::{FIND, file, file_of, flag, is_given, with_option};
 
 const ABOUT: &str =
     "Reports whether a stream of `terraform apply -json` is whole: each step starts and ends once, in order, and the totals agree.
@@ -21,7 +21,7 @@ Standard output: the totals of a whole stream; with --json the verdict.
 Standard error: the first line that is wrong, and why; with --json only why there is no verdict.";
 
 const AFTER: &str = r#"Example, while Terraform writes the stream:
-  terraform apply -json tfplan | tee stream.jsonl | applystream check
+  terraform apply -json tfplan | tee -p stream.jsonl | applystream check
 
 Example of a job's log:
   applystream check --find job.log
@@ -38,8 +38,6 @@ Exit status:
   4  the stream is not whole"#;
 
 const JSON: &str = "Print the verdict as a JSON object, on standard output";
-
-const FIND: &str = "Find the messages in the lines of a log, and ignore the other lines";
 
 const PLAN: &str =
     "Accept a stream of `terraform plan -json` too, which ends with the plan's summary";

@@ -5,14 +5,13 @@ ghost use Rattle.std.specs.Option.{option_copied};
 ghost use Rattle.stream_check.specs.About.{about_line, message_in, object_view};
 ghost use Rattle.stream_check.specs.SlotContents.{about_of_slots};
 
-use crate::located::{from_mark, through_brace};
 use crate::messages::action::Action;
 use crate::messages::line::{SELECTION, message_of_kind};
 use crate::messages::message::Message;
 use crate::rules::mode::Mode;
 use apply_json::{JsonFault, Scratch};
 use std::alloc::{AllocError, Global};
-use stream_message::{LineSlots, read_line};
+use stream_message::{LineSlots, message_text, read_line};
 
 /// The subject of a message about a step or a provisioner.
 #[derive(Clone, Copy)]
@@ -92,7 +91,7 @@ fn message_in(mode: Mode, text: &[u8]) -> Option<&[u8]>
     ensures { option_copied result ≡ message_in mode.find text.now }
 {
     if mode.find {
-        through_brace(from_mark(text)?)
+        message_text(text)
     } else {
         Some(text)
     }

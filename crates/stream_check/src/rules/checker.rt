@@ -4,12 +4,12 @@ ghost use Rattle.std.specs.Prelude.{◌≡◌, ◌<◌, ◌^◌, ◌↔◌, List
 ghost use Rattle.std.specs.List.{list_any};
 ghost use Rattle.stream_check.specs.Small.{IsSmall};
 
-use crate::located::piece_of;
 use crate::messages::line::message_in;
 use crate::rules::fault::Fault;
 use crate::rules::limits::{MAX_BYTES, MAX_LINES};
 use crate::rules::mode::Mode;
 use crate::rules::open_steps::OpenSteps;
+use crate::rules::piece::piece_of;
 use crate::rules::tally::Tally;
 use apply_json::Scratch;
 use std::alloc::Global;

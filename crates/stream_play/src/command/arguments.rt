@@ -10,13 +10,13 @@ use crate::command::settings::Settings;
 use crate::speed::Speed;
 use clap::{Arg, ArgMatches, Command, value_parser};
 use std::alloc::{AllocError, Global};
-use stream_tool::{file, file_of, with_option};
+use stream_tool::{FIND, file, file_of, flag, is_given, with_option};
 
 const ABOUT: &str =
     "Writes a stream of `terraform apply -json` line by line, unchanged, each line at its own time.
 
 Standard input: the stream, unless FILE is named. It is read to its end, so that the program that writes it is never stopped.
-Standard output: the same bytes.
+Standard output: the same bytes; with --find the messages, a line each.
 Standard error: errors.";
 
 const AFTER: &str = r#"Example of a stream in its own time:
@@ -24,6 +24,9 @@ const AFTER: &str = r#"Example of a stream in its own time:
 
 Example of an hour in a minute:
   applystream play --speed 60 stream.jsonl | my-dashboard
+
+Example of the messages in a job's log, at once:
+  applystream play --find --speed 86400 job.log > stream.jsonl
 
 Exit status:
   0  the whole stream was written; or help was printed
@@ -40,7 +43,9 @@ pub(crate) fn command<'a>(alloc: Global) -> Result<Command<'a>, AllocError>
             .about(ABOUT)
             .after_help(AFTER),
     );
-    with_option(with_option(line, speed(alloc)), file(alloc))
+    let line = with_option(line, speed(alloc));
+    let line = with_option(line, flag(alloc, "find", FIND));
+    with_option(line, file(alloc))
 }
 
 /// Defines `--speed N`.
@@ -62,6 +67,7 @@ pub(crate) fn settings_of(alloc: Global, matches: &ArgMatches<'_>) -> Result<Set
     let file = file_of(alloc, matches)?;
     Ok(Settings {
         speed: speed_of(matches),
+        find: is_given(matches, "find"),
         file,
     })
 }

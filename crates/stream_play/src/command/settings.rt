@@ -10,6 +10,8 @@ use crate::speed::Speed;
 pub struct Settings {
     /// How many times as fast as the timestamps.
     pub speed: Speed,
+    /// Whether the lines are those of a log. Then the messages that are found in them are played.
+    pub find: bool,
     /// The file with the stream. Without a file, or with `-`, the stream is standard input.
     pub file: Option<String>,
 }

@@ -79,7 +79,14 @@ impl<C: Clock> Tool for Play<'_, C> {
         out: &mut W,
         faults: &mut E,
     ) -> Report<Result<(), PlayFault>> {
-        match play(alloc, self.clock, settings.speed, reader, out) {
+        match play(
+            alloc,
+            self.clock,
+            settings.speed,
+            settings.find,
+            reader,
+            out,
+        ) {
             Ok(()) => Report {
                 status: 0,
                 answer: Ok(()),

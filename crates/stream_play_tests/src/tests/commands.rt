@@ -12,6 +12,7 @@ fn no_bytes(rt: &impl Abort, alloc: Global) -> &'static mut Vec<u8> {
 fn of_input(speed: u32) -> Settings {
     Settings {
         speed: Speed::new(speed),
+        find: false,
         file: None,
     }
 }

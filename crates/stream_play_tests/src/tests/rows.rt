@@ -2,8 +2,34 @@
 
 use super::*;
 
-/// Plays the stream in pieces of at most `most` bytes. Fails where the bytes differ, the sleeps
-/// differ, or bytes are held back before a sleep or a read.
+/// Plays the stream in pieces of at most `most` bytes. Fails where the bytes differ from those that
+/// are wanted, the sleeps differ, or bytes are held back before a sleep or a read.
+fn is_written(
+    rt: &impl Abort,
+    alloc: Global,
+    world: &'static World,
+    speed: u32,
+    find: bool,
+    stream: &'static str,
+    wanted: &'static str,
+    most: usize,
+) {
+    let reader = new_reader(rt, alloc, world, stream, most);
+    let mut taker = Taker {
+        world,
+        wanted: wanted.as_bytes(),
+        is_other: false,
+        most,
+        room: usize::MAX,
+        kind: ErrorKind::StorageFull,
+    };
+    let answer = play(alloc, world, Speed::new(speed), find, reader, &mut taker);
+    holds(rt, "played to its end", answer.is_ok());
+    holds(rt, "what came out", taker.has_all());
+    holds(rt, "sleeps, and bytes sent on", world.is_as_wanted());
+}
+
+/// Plays the stream unchanged, in pieces of at most `most` bytes. Fails as `is_written`.
 fn is_played(
     rt: &impl Abort,
     alloc: Global,
@@ -12,19 +38,7 @@ fn is_played(
     stream: &'static str,
     most: usize,
 ) {
-    let reader = new_reader(rt, alloc, world, stream, most);
-    let mut taker = Taker {
-        world,
-        wanted: stream.as_bytes(),
-        is_other: false,
-        most,
-        room: usize::MAX,
-        kind: ErrorKind::StorageFull,
-    };
-    let answer = play(alloc, world, Speed::new(speed), reader, &mut taker);
-    holds(rt, "played to its end", answer.is_ok());
-    holds(rt, "what came out", taker.has_all());
-    holds(rt, "sleeps, and bytes sent on", world.is_as_wanted());
+    is_written(rt, alloc, world, speed, false, stream, stream, most);
 }
 
 /// Plays the stream with a clock that works. Fails where the sleeps differ, in microseconds.
@@ -109,5 +123,31 @@ fn clock_that_cannot_be_read(rt: HostRuntime) {
         let world = new_world(&rt, alloc, "");
         world.readings.set(readings);
         is_played(&rt, alloc, world, 1, UPDATE, 65_536);
+    }
+}
+
+/// A log: a message behind a time, a line without one, an object of another program, a message that
+/// was cut off before its first brace, one behind it, and a last line without a line feed.
+const LOG: &str = r#"12:00:00 {"@level":"info","@timestamp":"2024-05-01T12:00:00Z","type":"a"} end
+plain text
+{"@level":"debug","@timestamp":"2030-05-01T12:00:00Z"}
+{"@level":"info","type":"apply_st
+{"@level":"info","hook":{"action":"create"},"type":"apply_st
+{"type":"b","@timestamp":"2031-05-01T12:00:00Z"}
+12:00:05 {"@level":"info","@timestamp":"2024-05-01T12:00:05Z","type":"a"}"#;
+
+/// The messages of the log, each with a line feed.
+const FOUND: &str = r#"{"@level":"info","@timestamp":"2024-05-01T12:00:00Z","type":"a"}
+{"@level":"info","hook":{"action":"create"}
+{"@level":"info","@timestamp":"2024-05-01T12:00:05Z","type":"a"}
+"#;
+
+/// Of a log, the messages are played, and nothing else.
+#[test]
+fn messages_in_a_log(rt: HostRuntime) {
+    let alloc = rt.alloc();
+    for most in [1usize, 65_536] {
+        let world = new_world(&rt, alloc, "5000000 ");
+        is_written(&rt, alloc, world, 1, true, LOG, FOUND, most);
     }
 }

@@ -15,7 +15,7 @@ use crate::command::settings::{Form, Settings};
 use clap::parser::ValueSource;
 use clap::{Arg, ArgMatches, Command, value_parser};
 use std::alloc::{AllocError, Global};
-use stream_tool::{Usage, file, file_of, flag, is_given, matches_of, with_option};
+use stream_tool::{FIND, Usage, file, file_of, flag, is_given, matches_of, with_option};
 
 /// The values of `--color`.
 static COLOURS: [&str; 3] = ["auto", "always", "never"];
@@ -40,6 +40,9 @@ const AFTER: &str = r#"Example:
 
 Example of a picture to keep with the stream:
   applystream view --svg stream.jsonl > stream.svg
+
+Example of a job's log:
+  applystream view --find job.log
 
 Exit status:
   0  the picture was written; or help was printed
@@ -105,6 +108,7 @@ fn command_of<'a>(alloc: Global, svg: Arg<'a>, all: Arg<'a>) -> Result<Command<'
     let line = with_option(line, all);
     let line = with_option(line, width(alloc));
     let line = with_option(line, color(alloc));
+    let line = with_option(line, flag(alloc, "find", FIND));
     with_option(line, file(alloc))
 }
 
@@ -183,6 +187,7 @@ pub(crate) fn settings_of(alloc: Global, matches: &ArgMatches<'_>) -> Result<Set
     Ok(Settings {
         form,
         rows: rows_of(matches, form),
+        find: is_given(matches, "find"),
         file,
     })
 }

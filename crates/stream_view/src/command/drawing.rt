@@ -15,7 +15,8 @@ use std::alloc::Global;
 use std::io::{BufRead, Write};
 use stream_timeline::{Timeline, read};
 
-/// Reads and draws the stream of the reader. The whole stream is read before anything is written.
+/// Reads and draws the stream of the reader. With `find` its lines are those of a log. The whole
+/// stream is read before anything is written.
 ///
 /// `Err` with `PictureFault::NoTimeline` where it can't be read, and with `PictureFault::Undrawn`
 /// where it can't be drawn.
@@ -23,15 +24,16 @@ pub fn draw_stream<R: BufRead, W: Write>(
     alloc: Global,
     form: Form,
     rows: Option<usize>,
+    find: bool,
     is_colour_wanted: bool,
     reader: &mut R,
     out: &mut W,
 ) -> Result<(), PictureFault>
     ensures drawn { WasDrawn form is_colour_wanted (W.contents out.old) (W.contents out.new) result }
-    ensures stream { IfSome (R.remaining reader.old) (λ bytes. IsOfStream bytes rows form is_colour_wanted
+    ensures stream { IfSome (R.remaining reader.old) (λ bytes. IsOfStream find bytes rows form is_colour_wanted
         (W.contents out.old) (W.contents out.new) result) }
 {
-    match read(alloc, reader) {
+    match read(alloc, find, reader) {
         Ok(timeline) => draw(alloc, form, rows, is_colour_wanted, &timeline, out),
         Err(fault) => Err(PictureFault::NoTimeline(fault)),
     }

@@ -20,6 +20,8 @@ pub struct Settings {
     pub form: Form,
     /// The greatest number of rows. `None`: each step gets one.
     pub rows: Option<usize>,
+    /// Whether the lines are those of a log, in which the messages are found.
+    pub find: bool,
     /// The file with the stream. `None`: standard input, which `-` names too.
     pub file: Option<String>,
 }

@@ -84,8 +84,13 @@ impl Tool for View {
         out: &mut W,
         faults: &mut E,
     ) -> Report<Result<(), PictureFault>> {
-        let Settings { form, rows, .. } = *settings;
-        match draw_stream(alloc, form, rows, self.is_colour_wanted, reader, out) {
+        let Settings {
+            form,
+            rows,
+            find,
+            ..
+        } = *settings;
+        match draw_stream(alloc, form, rows, find, self.is_colour_wanted, reader, out) {
             Ok(()) => Report {
                 status: 0,
                 answer: Ok(()),

@@ -11,5 +11,6 @@ returns c =
     let none : app_of c.after_help.result ≡ no_options =
     ap app_of_fields c.after_help.ensures ∙ ap app_of_fields c.about.ensures ∙ ap app_of_fields c.no_binary_name.ensures
     ∙ ap (on_top (λ shape. record shape { no_binary_name = true })) c.new.ensures.app in
-    let speed = c.with_option.ensures no_options _ none c.speed.ensures.0 c.speed.ensures.1 in
-    c.with_option-2.ensures _ _ speed c.file.ensures.0 c.file.ensures.1
+    let speed = c.with_option-line.ensures no_options _ none c.speed.ensures.0 c.speed.ensures.1 in
+    let find = c.with_option-line-2.ensures _ _ speed c.flag.ensures.0 c.flag.ensures.1 in
+    c.with_option.ensures _ _ find c.file.ensures.0 c.file.ensures.1

@@ -19,5 +19,6 @@ returns c is_svg svg_alone is_all all_alone =
     let width = c.with_option-line-4.ensures _ _ all c.width.ensures.0 c.width.ensures.1 in
     let colours = c.color.ensures in
     let color = c.with_option-line-5.ensures _ _ width colours.2 colours.3 in
+    let find = c.with_option-line-6.ensures _ _ color c.flag.ensures.0 c.flag.ensures.1 in
     then_made (λ made. app_of made ≡ command_line colours.0) (λ made. IsCommand (app_of made)) c.with_option.result (λ made is. (colours.0, colours.1, is))
-    (c.with_option.ensures _ _ color c.file.ensures.0 c.file.ensures.1)
+    (c.with_option.ensures _ _ find c.file.ensures.0 c.file.ensures.1)

@@ -4,7 +4,7 @@ use Rattle.std.specs.Str.{bytes_eq}
 use Rattle.std.proofs.lemmas.Bool.{cases_Bool}
 use Rattle.std.proofs.lemmas.Slice.Eq.{bytes_eq-Decides}
 use Rattle.memchr.specs.Find.{OccursAt, is_byte}
-use Rattle.stream_check.specs.Located.{from_mark, mark, through_brace}
+use Rattle.stream_message.specs.Located.{from_mark, mark, through_brace}
 
 -- ---- the end
 

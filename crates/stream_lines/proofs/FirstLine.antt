@@ -1,4 +1,4 @@
--- Cutting bytes into lines.
+-- The first line of bytes, and the lines after it.
 use Rattle.std.proofs.Common.{◌≡◌, ℕ, List, [], ◌∷◌, eqb, true, false, refl, ap, ⊎_elim}
 use Rattle.std.specs.Io.BufRead.{drop_through}
 use Rattle.std.proofs.lemmas.Bool.{cases_Bool}

@@ -1,6 +1,6 @@
 use Rattle.std.proofs.Common.{ap, sym, ◌∙◌, Some, add-one, arith, take}
-use Rattle.stream_check.proofs.Marks.{last_brace, no_brace_in}
-use Rattle.stream_check.proofs.located.through_brace.Goals as goal
+use Rattle.stream_message.proofs.Marks.{last_brace, no_brace_in}
+use Rattle.stream_message.proofs.located.through_brace.Goals as goal
 
 pub returns-in-None-clause-value : goal.returns-in-None-clause-value
 returns-in-None-clause-value c = sym (no_brace_in c.args.text.now (λ k below is. c.in-None.ensures k (omega arith) below is))

@@ -1,6 +1,6 @@
 use Rattle.std.proofs.Common.{ap, sym, ◌∙◌, Some, arith}
-use Rattle.stream_check.proofs.Marks.{first_mark, no_mark_in}
-use Rattle.stream_check.proofs.located.from_mark.Goals as goal
+use Rattle.stream_message.proofs.Marks.{first_mark, no_mark_in}
+use Rattle.stream_message.proofs.located.from_mark.Goals as goal
 
 pub returns-in-None-clause-value : goal.returns-in-None-clause-value
 returns-in-None-clause-value c = sym (no_mark_in c.args.text.now (λ k below o. c.in-None.ensures k (omega arith) below o))
