@@ -1,5 +1,6 @@
 # The script in which each step of a plan waits for what Terraform has it wait for, and takes a second:
 # terraform graph -plan=tfplan | jq -Rnf after.jq --slurpfile plan plan.json > script.json
+def refuse: "after.jq: \(.)\n" | halt_error;
 def node($change; $action): $change.address + if $change.deposed then " (destroy deposed \($change.deposed))" elif $action == "delete" then " (destroy)" else "" end;
 [$plan[0].resource_changes[]? | select(.change.actions - ["no-op", "forget"] != []) | {address, deposed: (.deposed // null), actions: .change.actions}] as $changes
 # What names the step of each node: a text alone where the change has one step and no deposed key.
@@ -8,11 +9,21 @@ def node($change; $action): $change.address + if $change.deposed then " (destroy
       | if length == 1 then .address else . end)))) as $steps
 # A replacement that creates first deletes an object whose key is drawn anew each time, and so stands in no plan.
 | def known: if $steps[.] then . else sub(" \\(destroy deposed [0-9a-f]{8}\\)$"; " (destroy)") end;
-  [inputs | [scan("\"(?:[^\"\\\\]|\\\\.)*\"")] | select(length == 2) | map(fromjson | ltrimstr("[root] ") | known)] as $edges
-| if $edges == [] then error("there is no graph on standard input") else (reduce $edges[] as $e ({}; .[$e[0]] += [$e[1]])) end | . as $next
-# The steps behind each node, as a set: nodes that are no step (of variables, locals, modules, providers) pass on what they wait for.
-| def behind($node): if .[$node] then . else reduce $next[$node][]? as $n (.; if $steps[$n] then . else behind($n) end)
-    | .[$node] = (. as $found | reduce $next[$node][]? as $n ({}; . + if $steps[$n] then {($n): true} else $found[$n] end)) end;
-  (reduce ($steps | keys[]) as $node ({}; behind($node))) as $behind
-| {changes: [$changes[] | . as $c | {address, deposed, steps: [.actions[] | [$steps[$behind[node($c; .)] | keys[]]] as $after | {seconds: 1, after: $after}]}
+# Each line of the graph that begins with a node: the node alone, or the two nodes of an edge.
+  def text: "\"(?:[^\"\\\\]|\\\\.)*\"";
+  [inputs] as $lines
+| [$lines[] | capture("^\\s*(?<from>\(text))(?:\\s*->\\s*(?<to>\(text)))?") | [.from, .to // empty] | map(fromjson | ltrimstr("[root] ") | known)] as $nodes
+| if any($nodes[][]; $steps[.]) then . else
+    if any($lines[]; test("^\\s*(strict\\s+)?digraph\\b")) or $nodes != [] then
+      if $changes == [] then . else "no change of the plan stands in this graph: terraform graph -plan=FILE prints the one" | refuse end
+    else "there is no graph on standard input" | refuse end
+  end
+| (reduce ($nodes[] | select(length == 2)) as $e ({}; .[$e[0]] += [$e[1]])) as $next
+# The steps that a node waits for. Other nodes (of variables, locals, modules, providers) pass on
+# what they wait for. Each node is followed once, so this ends in a graph with a cycle too.
+| def behind($node): {found: {}, todo: ($next[$node] // [])}
+    | until(.todo == []; .todo as $todo | reduce $todo[] as $n (.todo = []; if .found[$n] then . else
+        .found[$n] = true | if $steps[$n] then . else .todo += ($next[$n] // []) end end))
+    | [.found | keys[] | $steps[.] // empty];
+  {changes: [$changes[] | . as $c | {address, deposed, steps: [.actions[] | {seconds: 1, after: behind(node($c; .))}]}
     | del((.deposed | nulls), (.steps[].after | select(. == [])))]}
