@@ -4,15 +4,15 @@ use Rattle.stream_timeline.specs.declared.rows.choosing.Rows.{Rows}
 use Rattle.term_text.specs.Columns.{columns_of}
 use Rattle.stream_view.specs.Lines.{text_line}
 use Rattle.term_text.specs.Fitted.{shown_characters}
-use Rattle.stream_view.specs.Words.{duration_words, number_words}
+use Rattle.stream_view.specs.Words.{duration_words, more_words}
 use Rattle.stream_view.specs.declared.text.rendition.Rendition.TheVariants as rendition
 use Rattle.stream_view.specs.declared.text.line_piece.LinePiece.{LinePiece}
 
 -- how many steps have no row, their greatest length, and the sum of their lengths
 abbrev pub left_out_words : Rows → List ℕ
 left_out_words rows =
-    codes "and " ++ number_words rows.left_out (codes "step") ++ codes " more, each " ++ duration_words rows.longest ++ codes " at most, "
-    ++ duration_words rows.total_length ++ codes " together"
+    more_words rows.left_out (codes "step") ++ codes ", each at most " ++ duration_words rows.longest ++ codes ", "
+    ++ duration_words rows.total_length ++ codes " in total"
 
 -- the line as it is shown, if there are such steps
 abbrev pub left_out_shown : Rows → Option (List ℕ)

@@ -19,9 +19,18 @@ grouped_within (suc groups) n =
 unfoldable pub grouped : ℕ → List ℕ
 grouped n = grouped_within 6 n
 
--- a count and a noun
+-- a count, a text between, and a noun, in the plural unless the count is 1
+abbrev pub counted_words : ℕ → (between noun : List ℕ) → List ℕ
+counted_words count between noun =
+    if count == 1 then grouped count ++ between ++ noun else grouped count ++ between ++ noun ++ codes "s"
+
+-- a count and a noun, as `1 step` or `2 steps`
 unfoldable pub number_words : ℕ → (noun : List ℕ) → List ℕ
-number_words count noun = if count == 1 then grouped count ++ codes " " ++ noun else grouped count ++ codes " " ++ noun ++ codes "s"
+number_words count noun = counted_words count (codes " ") noun
+
+-- a count, `more` and a noun, as `1 more step` or `2 more steps`
+unfoldable pub more_words : ℕ → (noun : List ℕ) → List ℕ
+more_words count noun = counted_words count (codes " more ") noun
 
 -- a duration below ten seconds, by whole seconds and further milliseconds
 abbrev pub short_words : (seconds milliseconds : ℕ) → List ℕ

@@ -88,9 +88,7 @@ impl DiagnosticLines {
     fn push_rest(&mut self, count: u64) {
         if count > 0 {
             let mut line = MessageText::new(self.alloc);
-            line.text("and ");
-            line.things(count, "diagnostic");
-            line.text(" more");
+            line.more_things(count, "diagnostic");
             self.push(LineKind::Remaining, &line);
         }
     }
@@ -109,8 +107,7 @@ impl DiagnosticLines {
         if count > 0 {
             let mut line = MessageText::new(self.alloc);
             line.text("… ");
-            line.things(count, "line");
-            line.text(" more");
+            line.more_things(count, "line");
             self.push(LineKind::Detail, &line);
         }
     }

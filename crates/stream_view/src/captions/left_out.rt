@@ -13,12 +13,11 @@ pub fn left_out(alloc: Global, picture: &Picture<'_>) -> MessageText
     ensures { HasText result (left_out_words picture.now.rows) }
 {
     let mut message = MessageText::new(alloc);
-    message.text("and ");
-    message.things(picture.rows.left_out as u64, "step");
-    message.text(" more, each ");
+    message.more_things(picture.rows.left_out as u64, "step");
+    message.text(", each at most ");
     message.duration(picture.rows.longest as u128);
-    message.text(" at most, ");
+    message.text(", ");
     message.duration(picture.rows.total_length);
-    message.text(" together");
+    message.text(" in total");
     message
 }

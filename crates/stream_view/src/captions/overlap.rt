@@ -28,7 +28,7 @@ pub fn overlap(alloc: Global, picture: &Picture<'_>) -> Option<MessageText> {
 fn push_idle(message: &mut MessageText, picture: &Picture<'_>) {
     let idle = picture.span().saturating_sub(picture.numbers.busy);
     if idle >= IDLE && idle as u128 * IDLE_PARTS >= picture.span() as u128 {
-        message.text("; nothing under way for ");
+        message.text("; idle for ");
         message.duration(idle as u128);
     }
 }
@@ -38,13 +38,14 @@ fn push_average(message: &mut MessageText, picture: &Picture<'_>) {
     let busy = picture.numbers.busy;
     let work = picture.numbers.work;
     let parts = busy.max(1) as u128;
+    message.text("at most ");
     message.count(picture.numbers.peak as u64);
-    message.text(" at once at most, ");
+    message.text(" at once, ");
     message.count(u64::try_from(work / parts).unwrap_or(u64::MAX));
     message.text(".");
     message.number(u64::try_from(work % parts * 10 / parts).unwrap_or(0));
     message.text(" on average; ");
     message.duration(work);
-    message.text(" of steps in ");
+    message.text(" of work in ");
     message.duration(busy as u128);
 }

@@ -154,7 +154,7 @@ fn push_lines(
     y: u64,
 ) -> u64 {
     let mut title = MessageText::new(markup.alloc());
-    title.text("Alone under way");
+    title.text("Running alone");
     markup.line_of(
         EDGE * 10,
         y.saturating_add(GAP + 12),

@@ -151,7 +151,7 @@ impl Fragment {
             Fragment::AtLeast => ", at least ",
             Fragment::From => ", from ",
             Fragment::To => " to ",
-            Fragment::AloneFor => "\nalone under way for ",
+            Fragment::AloneFor => "\nrunning alone for ",
             Fragment::Provisioner => "\nprovisioner ",
             Fragment::Colon => ": ",
             Fragment::HasFailed => ", failed",

@@ -202,7 +202,7 @@ fn push_alone_lines(
         return;
     }
     let mut title = MessageText::new(line_buffer.alloc());
-    title.text("Alone under way");
+    title.text("Running alone");
     line_buffer.push_empty();
     line_buffer.push_message(0, &title, Some(Rendition::Bold));
     for (_, place) in listed {

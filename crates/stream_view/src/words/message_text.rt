@@ -5,7 +5,7 @@ ghost use Rattle.std.specs.Fmt.{decimal};
 ghost use Rattle.term_text.specs.Fitting.{fitted};
 ghost use Rattle.term_text.specs.Fitted.{shown_characters};
 ghost use Rattle.stream_view.specs.MessageTexts.{HasText, AppendsText};
-ghost use Rattle.stream_view.specs.Words.{duration_words, grouped, grouped_within, long_words, number_words, short_words, three_digits, two_digits};
+ghost use Rattle.stream_view.specs.Words.{counted_words, duration_words, grouped, grouped_within, long_words, more_words, number_words, short_words, three_digits, two_digits};
 
 use std::alloc::{AllocError, Global};
 use term_text::{ShownText, fitted};
@@ -152,8 +152,24 @@ impl MessageText {
     pub fn things(&mut self, count: u64, noun: &str)
         ensures { AppendsText self.old self.new (number_words count noun.now) }
     {
+        self.counted(count, " ", noun);
+    }
+
+    /// Adds a count, `more` and a noun, as `1 more step` or `2 more steps`. The noun is given in the
+    /// singular.
+    #[tactic(auto, unfolding(crate::specs::Words::more_words))]
+    pub fn more_things(&mut self, count: u64, noun: &str)
+        ensures { AppendsText self.old self.new (more_words count noun.now) }
+    {
+        self.counted(count, " more ", noun);
+    }
+
+    /// Adds a count, the text `between`, and a noun, in the plural unless the count is 1.
+    fn counted(&mut self, count: u64, between: &str, noun: &str)
+        ensures { AppendsText self.old self.new (counted_words count between.now noun.now) }
+    {
         self.count(count);
-        self.text(" ");
+        self.text(between);
         self.text(noun);
         if count != 1 {
             self.text("s");
