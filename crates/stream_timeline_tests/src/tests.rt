@@ -47,7 +47,9 @@ fn lines(rt: HostRuntime) {
 fn summaries(rt: HostRuntime) {
     let timeline = timeline_of(&rt, rt.alloc());
     let totals = timeline.totals().expect(&rt, "totals");
+    let planned = timeline.plan_totals().expect(&rt, "totals of the plan");
     assert!(rt; timeline.has_plan_summary());
+    assert!(rt; planned.added == Some(1) && planned.removed == None);
     assert!(rt; totals.added == Some(1) && totals.changed == None);
     assert!(rt; totals.removed == Some(2) && totals.imported == Some(3));
 }
