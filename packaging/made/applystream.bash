@@ -15,10 +15,11 @@ _applystream() {
   if [ "${COMP_WORDS[1]}" = view ] && [ "$COMP_CWORD" -gt 1 ]; then
     case $before in
       --rows) return ;;
+      --sort) COMPREPLY=($(compgen -W "begin length" -- "$word")); return ;;
       --width) return ;;
       --color) COMPREPLY=($(compgen -W "auto always never" -- "$word")); return ;;
     esac
-    COMPREPLY=($(compgen -W "--svg --rows --all --width --color --help" -- "$word") $(compgen -f -- "$word"))
+    COMPREPLY=($(compgen -W "--svg --rows --all --sort --width --color --help" -- "$word") $(compgen -f -- "$word"))
     return
   fi
   if [ "${COMP_WORDS[1]}" = validate ] && [ "$COMP_CWORD" -gt 1 ]; then

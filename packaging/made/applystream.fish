@@ -23,6 +23,7 @@ complete -c applystream -n '__fish_seen_subcommand_from play' -s h -l help -d 'P
 complete -c applystream -n '__fish_seen_subcommand_from view' -l svg -d 'Draw an SVG in place of text'
 complete -c applystream -n '__fish_seen_subcommand_from view' -l rows -x -d 'The most steps that get a row, 1 to 100000 [default: 40, with --svg 200]'
 complete -c applystream -n '__fish_seen_subcommand_from view' -l all -d 'Give every step a row'
+complete -c applystream -n '__fish_seen_subcommand_from view' -l sort -x -a 'begin length' -d 'The order of the rows; length: the longest steps get them, the longest first [default: begin] [possible values: begin, length]'
 complete -c applystream -n '__fish_seen_subcommand_from view' -l width -x -d 'The width of the text in columns, 60 to 400 [default: 120]'
 complete -c applystream -n '__fish_seen_subcommand_from view' -l color -x -a 'auto always never' -d 'When the text has colours; auto: on a terminal, unless NO_COLOR has a value [default: auto] [possible values: auto, always, never]'
 complete -c applystream -n '__fish_seen_subcommand_from view' -s h -l help -d 'Print help'

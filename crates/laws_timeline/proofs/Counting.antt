@@ -154,7 +154,7 @@ harmless_preserves m (view.error address d) t h = record {
 }
 harmless_preserves m (view.warning d) t h = as_before t.steps
 harmless_preserves m (view.version text) t h = as_before t.steps
-harmless_preserves m view.plan_summary t h = as_before t.steps
+harmless_preserves m (view.plan_summary totals) t h = as_before t.steps
 harmless_preserves m (view.summary totals) t h = as_before t.steps
 harmless_preserves m view.other t h = as_before t.steps
 harmless_preserves m view.unusable t h = as_before t.steps

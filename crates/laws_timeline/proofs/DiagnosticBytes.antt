@@ -57,7 +57,7 @@ IsSmall (ends_provisioner address failed) = Unit {0}
 IsSmall (error address d) = diagnostic_bytes d ≤ max_diagnostic_bytes
 IsSmall (warning d) = diagnostic_bytes d ≤ max_diagnostic_bytes
 IsSmall (version text) = Unit {0}
-IsSmall plan_summary = Unit {0}
+IsSmall (plan_summary totals) = Unit {0}
 IsSmall (summary totals) = Unit {0}
 IsSmall other = Unit {0}
 IsSmall unusable = Unit {0}
@@ -93,11 +93,11 @@ diagnostic_content_fits d = where_is (member_of (codes "diagnostic") d) (λ memb
 totals_fit : (totals : Totals) → Fits (summary totals)
 totals_fit totals = record { is = tt }
 
-plan_fits : Fits plan_summary
-plan_fits = record { is = tt }
+plan_fits : (totals : Totals) → Fits (plan_summary totals)
+plan_fits totals = record { is = tt }
 
 changes_fit : (changes : Data) → Fits (summary_in changes)
-changes_fit changes = either (bytes_eq (text_or_empty (codes "operation") changes) (codes "plan")) plan_fits (totals_fit (totals_in changes))
+changes_fit changes = either (bytes_eq (text_or_empty (codes "operation") changes) (codes "plan")) (plan_fits (totals_in changes)) (totals_fit (totals_in changes))
 
 summary_fits : (d : Data) → Fits (summary_of d)
 summary_fits d = where_is (member_of (codes "changes") d) changes_fit (totals_fit no_totals)

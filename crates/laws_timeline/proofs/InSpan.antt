@@ -99,7 +99,7 @@ content_stays m time (ends_provisioner address failed) t at h =
 content_stays m time (error address d) t at h = record { time_range = refl; steps = all_marked m address t.steps h }
 content_stays m time (warning d) t at h = record { time_range = refl; steps = h }
 content_stays m time (version text) t at h = record { time_range = refl; steps = h }
-content_stays m time plan_summary t at h = record { time_range = refl; steps = h }
+content_stays m time (plan_summary totals) t at h = record { time_range = refl; steps = h }
 content_stays m time (summary totals) t at h = record { time_range = refl; steps = h }
 content_stays m time other t at h = record { time_range = refl; steps = h }
 content_stays m time unusable t at h = record { time_range = refl; steps = h }

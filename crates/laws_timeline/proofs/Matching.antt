@@ -73,7 +73,7 @@ Harmless (view.ends_provisioner a failed) = Unit {0}
 Harmless (view.error a d) = Unit {0}
 Harmless (view.warning d) = Unit {0}
 Harmless (view.version text) = Unit {0}
-Harmless view.plan_summary = Unit {0}
+Harmless (view.plan_summary totals) = Unit {0}
 Harmless (view.summary totals) = Unit {0}
 Harmless view.other = Unit {0}
 Harmless view.unusable = Unit {0}
@@ -246,4 +246,4 @@ pub harmless_summary : (d : Data) → Harmless (view.summary_of d)
 harmless_summary d = each (member_of (codes "changes") d) where
   each : (o : Option Data) → Harmless (option_map_or view.summary_in o (view.summary view.no_totals))
   each None = tt
-  each (Some x) = harmless_one (bytes_eq (text_or_empty (codes "operation") x) (codes "plan")) view.plan_summary _ tt tt
+  each (Some x) = harmless_one (bytes_eq (text_or_empty (codes "operation") x) (codes "plan")) (view.plan_summary (view.totals_in x)) _ tt tt

@@ -50,7 +50,7 @@ content_bounded m (ends_provisioner address failed) t f h =
 content_bounded m (error address d) t f h = record { errors = one_more_fits d t.errors f.is h.errors; warnings = h.warnings }
 content_bounded m (warning d) t f h = record { errors = h.errors; warnings = one_more_fits d t.warnings f.is h.warnings }
 content_bounded m (version text) t f h = same_bounded t _ refl refl h
-content_bounded m plan_summary t f h = same_bounded t _ refl refl h
+content_bounded m (plan_summary totals) t f h = same_bounded t _ refl refl h
 content_bounded m (summary totals) t f h = same_bounded t _ refl refl h
 content_bounded m other t f h = h
 content_bounded m unusable t f h = same_bounded t _ refl refl h
@@ -154,7 +154,7 @@ content_same m (ends_provisioner address failed) t e =
 content_same m (error address d) t e = absurd cc
 content_same m (warning d) t e = absurd cc
 content_same m (version text) t e = absurd cc
-content_same m plan_summary t e = refl
+content_same m (plan_summary totals) t e = refl
 content_same m (summary totals) t e = refl
 content_same m other t e = refl
 content_same m unusable t e = refl

@@ -2,6 +2,7 @@ pub mod Adding
 pub mod AtPlace
 pub mod BarLaws
 pub mod Bounds
+pub mod ByLength
 pub mod Choosing
 pub mod Counted
 pub mod Cuts

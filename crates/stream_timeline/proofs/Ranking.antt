@@ -16,13 +16,13 @@ use Rattle.stream_timeline.specs.Steps.{StepRead}
 -- ---- what the sort compares
 
 -- where both are marked, or neither is
-abbrev before_alike : (k l p q : ℕ) → Bool
+abbrev pub before_alike : (k l p q : ℕ) → Bool
 before_alike k l p q = cond (eqb k l) (ltb p q) (ltb l k)
 
 abbrev before_by : (m n : Bool) (k l p q : ℕ) → Bool
 before_by m n k l p q = cond (same_bool m n) (before_alike k l p q) m
 
-chain_alike : (k l j p q r : ℕ) → before_alike k l p q ≡ false → before_alike l j q r ≡ false → before_alike k j p r ≡ false
+pub chain_alike : (k l j p q r : ℕ) → before_alike k l p q ≡ false → before_alike l j q r ≡ false → before_alike k j p r ≡ false
 chain_alike k l j p q r a b = grind (arith, nat_tests)
 
 chain_by : (m n o : Bool) (k l j p q r : ℕ) → before_by m n k l p q ≡ false → before_by n o l j q r ≡ false → before_by m o k j p r ≡ false

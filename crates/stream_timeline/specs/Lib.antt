@@ -10,6 +10,7 @@ pub mod TimeRange
 pub mod Numbers
 pub mod OpenPlaces
 pub mod Rows
+pub mod RowsByLength
 pub mod SlotContents
 pub mod Steps
 pub mod Stretches

@@ -20,7 +20,7 @@ pub data Content : Type 0 where
   warning : DiagnosticRead → Content
   version : List ℕ → Content
   -- the summary of a plan, or another
-  plan_summary : Content
+  plan_summary : Totals → Content
   summary : Totals → Content
   -- a message that only contributes its timestamp
   other : Content
@@ -82,7 +82,7 @@ no_totals = record { added = None; changed = None; removed = None; imported = No
 
 abbrev pub summary_in : Data → Content
 summary_in changes =
-    if bytes_eq (text_or_empty (codes "operation") changes) (codes "plan") then plan_summary
+    if bytes_eq (text_or_empty (codes "operation") changes) (codes "plan") then plan_summary (totals_in changes)
     else summary (totals_in changes)
 
 abbrev pub summary_of : Data → Content

@@ -93,7 +93,7 @@ totals_of changes = record {
 
 abbrev pub summary_content_in : ChangesSlots → Content
 summary_content_in changes =
-    if bytes_eq (unwrap_or (operation_in changes) []) (codes "plan") then plan_summary else summary (totals_of changes)
+    if bytes_eq (unwrap_or (operation_in changes) []) (codes "plan") then plan_summary (totals_of changes) else summary (totals_of changes)
 
 -- ---- the line
 

@@ -1,5 +1,5 @@
 -- What is read of a stream: its steps, diagnostics and totals, and how many lines were passed over.
-use Rattle.std.specs.Prelude.{ℕ, ◌+◌, ℤ, List, [], ◌∷◌, ◌++◌, length, map, nat_lt, Bool, true, false, if◌then◌else◌, Option, Some, None}
+use Rattle.std.specs.Prelude.{ℕ, ◌+◌, ℤ, List, [], ◌∷◌, ◌++◌, length, map, nat_lt, Bool, if◌then◌else◌, Option, Some, None}
 use Rattle.std.specs.List.{fold, list_all}
 use Rattle.std.specs.Option.{option_map_or}
 use Rattle.serde_json.specs.Data.{Data}
@@ -23,7 +23,8 @@ pub record TimelineRead : Type 0 where
   pub version : Option (List ℕ)
   -- the totals of the last summary that is not a plan's
   pub totals : Option Totals
-  pub has_plan_summary : Bool
+  -- the totals of the last summary of a plan
+  pub plan_totals : Option Totals
   -- the least and the greatest timestamp of a message
   pub time_range : Option TimeRange
   pub steps : List StepRead
@@ -99,7 +100,7 @@ with_content time (ends_provisioner address failed) t = with_provisioner_end add
 with_content time (error address d) t = with_error address d t
 with_content time (warning d) t = record t { warnings = with_diagnostic d t.warnings }
 with_content time (version text) t = record t { version = Some text }
-with_content time plan_summary t = record t { has_plan_summary = true }
+with_content time (plan_summary totals) t = record t { plan_totals = Some totals }
 with_content time (summary totals) t = record t { totals = Some totals }
 with_content time other t = t
 with_content time unusable t = with_passed_over t
@@ -136,7 +137,7 @@ empty_timeline = record {
   passed_over = 0;
   version = None;
   totals = None;
-  has_plan_summary = false;
+  plan_totals = None;
   time_range = None;
   steps = [];
   begun = 0;

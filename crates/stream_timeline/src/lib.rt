@@ -26,4 +26,5 @@ pub use reading::timeline_fault::TimelineFault;
 pub use reading::totals::Totals;
 pub use reading::version::Version;
 pub use reading::whole_stream::read;
+pub use rows::by_length::rows_by_length;
 pub use rows::choosing::{Rows, rows_of};

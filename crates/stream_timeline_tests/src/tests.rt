@@ -8,7 +8,7 @@ use std::io::{self, BufReader, ErrorKind, Read};
 use std::process::Abort;
 use stream_timeline::{
     Timeline, TimelineBuilder, TimelineFault, halves_of, levels_of, numbers_of, place_on, read,
-    rows_of,
+    rows_by_length, rows_of,
 };
 
 /// A stream with a blank line and two lines that are no messages. Two creates run at once for two
@@ -47,7 +47,9 @@ fn lines(rt: HostRuntime) {
 fn summaries(rt: HostRuntime) {
     let timeline = timeline_of(&rt, rt.alloc());
     let totals = timeline.totals().expect(&rt, "totals");
+    let planned = timeline.plan_totals().expect(&rt, "totals of the plan");
     assert!(rt; timeline.has_plan_summary());
+    assert!(rt; planned.added == Some(1) && planned.removed == None);
     assert!(rt; totals.added == Some(1) && totals.changed == None);
     assert!(rt; totals.removed == Some(2) && totals.imported == Some(3));
 }
@@ -109,6 +111,17 @@ fn rows(rt: HostRuntime) {
     let rows = rows_of(rt.alloc(), time_range, timeline.steps(), Some(1)).expect(&rt, "memory");
     assert!(rt; rows.places.as_slice() == [1].as_slice() && rows.left_out == 1);
     assert!(rt; rows.longest == 6_000_000 && rows.total_length == 6_000_000);
+}
+
+/// The longer of two steps gets the only row, though the other one failed.
+#[test]
+fn longest_rows(rt: HostRuntime) {
+    let timeline = timeline_of(&rt, rt.alloc());
+    let time_range = timeline.time_range().expect(&rt, "moments");
+    let steps = timeline.steps();
+    let rows = rows_by_length(rt.alloc(), time_range, steps, Some(1)).expect(&rt, "memory");
+    assert!(rt; rows.places.as_slice() == [0].as_slice() && rows.left_out == 1);
+    assert!(rt; rows.longest == 4_000_000 && rows.total_length == 4_000_000);
 }
 
 #[test]

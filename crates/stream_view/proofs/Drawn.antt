@@ -14,6 +14,7 @@ use Rattle.stream_view.specs.declared.command.picture_fault.PictureFault.{Pictur
 use Rattle.stream_view.specs.declared.command.picture_fault.PictureFault.TheVariants as fault
 use Rattle.stream_view.specs.declared.draw_fault.DrawFault.{DrawFault}
 use Rattle.stream_view.specs.declared.picture.Picture.{Picture}
+use Rattle.stream_view.specs.declared.row_choice.RowChoice.{RowChoice}
 use Rattle.stream_view.proofs.Sent.{as_lines}
 
 pub text_drawn : (asked : Form) (width : ℕ) (colour : Colour) (is_wanted : Bool) (picture : Picture) (a b after : Option (List ℕ))
@@ -37,11 +38,11 @@ picture_written (form.Text width colour) is_wanted picture a b drawn = as_lines 
 picture_written form.Svg is_wanted picture a b drawn = (picture, drawn)
 
 -- if there is a time line, what was drawn belongs to it
-pub stream_drawn : (find : Bool) (given : Option (List ℕ)) (timeline : TimelineRead) (limit : Option ℕ) (asked : Form) (is_wanted : Bool) (a b : Option (List ℕ))
+pub stream_drawn : (find : Bool) (given : Option (List ℕ)) (timeline : TimelineRead) (choice : RowChoice) (asked : Form) (is_wanted : Bool) (a b : Option (List ℕ))
     (answer : Result (Unit {0}) PictureFault) → IfSome given (λ bytes. IsReadOf find bytes (Ok timeline))
-    → OnOk answer (IsDrawnOf timeline limit asked is_wanted a b) → ((why : TimelineFault) → answer ≢ Err (fault.NoTimeline why))
-    → IfSome given (λ bytes. IsOfStream find bytes limit asked is_wanted a b answer)
-stream_drawn find None timeline limit asked is_wanted a b answer is drawn never = tt
-stream_drawn find (Some bytes) timeline limit asked is_wanted a b (Ok done) is drawn never = (timeline, is, drawn)
-stream_drawn find (Some bytes) timeline limit asked is_wanted a b (Err (fault.NoTimeline why)) is drawn never = absurd (never why refl)
-stream_drawn find (Some bytes) timeline limit asked is_wanted a b (Err (fault.Undrawn why)) is drawn never = tt
+    → OnOk answer (IsDrawnOf timeline choice asked is_wanted a b) → ((why : TimelineFault) → answer ≢ Err (fault.NoTimeline why))
+    → IfSome given (λ bytes. IsOfStream find bytes choice asked is_wanted a b answer)
+stream_drawn find None timeline choice asked is_wanted a b answer is drawn never = tt
+stream_drawn find (Some bytes) timeline choice asked is_wanted a b (Ok done) is drawn never = (timeline, is, drawn)
+stream_drawn find (Some bytes) timeline choice asked is_wanted a b (Err (fault.NoTimeline why)) is drawn never = absurd (never why refl)
+stream_drawn find (Some bytes) timeline choice asked is_wanted a b (Err (fault.Undrawn why)) is drawn never = tt

@@ -2,6 +2,7 @@ pub mod Controls
 pub mod Drawn
 pub mod Growing
 pub mod Heads
+pub mod Headings
 pub mod Options
 pub mod Parsed
 pub mod Parts

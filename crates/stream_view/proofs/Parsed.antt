@@ -15,19 +15,19 @@ use Rattle.clap.proofs.WalkLemmas.{find_row}
 use Rattle.stream_view.specs.CommandLine.{IsCommand, command_line}
 
 -- `clap` states the result of parsing for simple commands; `view` is one
-line_is_simple : (colours : ValueParser) → is_simple (command_line colours) ≡ true
+line_is_simple : (colours sorts : ValueParser) → is_simple (command_line colours sorts) ≡ true
 unfolding clap_on_literals
-line_is_simple colours = refl
+line_is_simple colours sorts = refl
 
-line_is_free : (colours : ValueParser) → is_simple_and_free (command_line colours) ≡ true
+line_is_free : (colours sorts : ValueParser) → is_simple_and_free (command_line colours sorts) ≡ true
 unfolding clap_on_literals
-line_is_free colours = refl
+line_is_free colours sorts = refl
 
 pub command_is_simple : (app : App) → IsCommand app → is_simple app ≡ true
-command_is_simple app is = ap is_simple is.2 ∙ line_is_simple is.0
+command_is_simple app is = ap is_simple is.4 ∙ line_is_simple is.0 is.1
 
 pub command_is_free : (app : App) → IsCommand app → is_simple_and_free app ≡ true
-command_is_free app is = ap is_simple_and_free is.2 ∙ line_is_free is.0
+command_is_free app is = ap is_simple_and_free is.4 ∙ line_is_free is.0 is.1
 
 -- what follows for each value that was made
 pub then_made : {A E : Type 0} (P Q : A → Type 0) (made : Result A E) → ((a : A) → P a → Q a) → IfOk made P → IfOk made Q

@@ -18,6 +18,8 @@ use Rattle.stream_view.specs.declared.command.colour.Colour.TheVariants as colou
 use Rattle.stream_view.specs.declared.command.settings.Form.{Form}
 use Rattle.stream_view.specs.declared.command.settings.Form.TheVariants as form
 use Rattle.stream_view.specs.declared.command.settings.Settings.{Settings}
+use Rattle.stream_view.specs.declared.row_choice.Sort.{Sort}
+use Rattle.stream_view.specs.declared.row_choice.Sort.TheVariants as sort
 
 -- ---- the options
 
@@ -37,27 +39,40 @@ width_rule = record (number_named (codes "width") 60 400) { defaults = codes "12
 abbrev pub colour_words : List Text
 colour_words = codes "auto" ∷ codes "always" ∷ codes "never" ∷ []
 
--- the parser accepts only these values
+-- the parser accepts only these words
+abbrev pub TakesOnly : List Text → ValueParser → Type 0
+TakesOnly words parser = (names : Bor (List (Bor Text))) × (texts names.now ≡ words) × (parser ≡ values.Names names)
+
 abbrev pub TakesColours : ValueParser → Type 0
-TakesColours parser = (names : Bor (List (Bor Text))) × (texts names.now ≡ colour_words) × (parser ≡ values.Names names)
+TakesColours parser = TakesOnly colour_words parser
 
 abbrev pub colour_rule : (colours : ValueParser) → Rule
 colour_rule colours = record (option_named (codes "color")) { parser = Some colours; defaults = codes "auto" ∷ [] }
 
+-- the values of `--sort`
+abbrev pub sort_words : List Text
+sort_words = codes "begin" ∷ codes "length" ∷ []
+
+abbrev pub TakesSorts : ValueParser → Type 0
+TakesSorts parser = TakesOnly sort_words parser
+
+abbrev pub sort_rule : (sorts : ValueParser) → Rule
+sort_rule sorts = record (option_named (codes "sort")) { parser = Some sorts; defaults = codes "begin" ∷ [] }
+
 -- the command, whose words are those after `view`
-abbrev pub command_line : (colours : ValueParser) → App
-command_line colours = record {
+abbrev pub command_line : (colours sorts : ValueParser) → App
+command_line colours sorts = record {
   top = record (new_shape (codes "applystream view")) {
     no_binary_name = true;
-    rules = flag_rule (codes "svg") ∷ number_named (codes "rows") 1 100000 ∷ flag_rule (codes "all") ∷ width_rule ∷ colour_rule colours
-        ∷ flag_rule (codes "find") ∷ file_rule ∷ [];
+    rules = flag_rule (codes "svg") ∷ number_named (codes "rows") 1 100000 ∷ flag_rule (codes "all") ∷ sort_rule sorts ∷ width_rule
+        ∷ colour_rule colours ∷ flag_rule (codes "find") ∷ file_rule ∷ [];
   };
   subs = [];
 }
 
--- the command `view`, with some parser of colours
+-- the command `view`, with some parsers of colours and orders
 abbrev pub IsCommand : App → Type 0
-IsCommand app = (colours : ValueParser) × TakesColours colours × (app ≡ command_line colours)
+IsCommand app = (colours : ValueParser) × (sorts : ValueParser) × TakesColours colours × TakesSorts sorts × (app ≡ command_line colours sorts)
 
 -- ---- options that exclude each other
 
@@ -95,6 +110,13 @@ colour_of_word choice =
 abbrev pub stated_colour : List Row → Colour
 stated_colour rows = option_map_or colour_of_word (first_of (codes "color") rows) colour.Auto
 
+abbrev pub sort_of_word : Text → Sort
+sort_of_word choice = if bytes_eq choice (codes "length") then sort.Length else sort.Begin
+
+-- the order that the option states, else that of the begins
+abbrev pub stated_sort : List Row → Sort
+stated_sort rows = option_map_or sort_of_word (first_of (codes "sort") rows) sort.Begin
+
 -- the output is a text with the stated width and colours
 pub record IsTextStated (rows : List Row) (asked : Form) : Type 0 where
   pub width : ℕ
@@ -118,8 +140,9 @@ pub record AreStated (rows : List Row) (settings : Settings) : Type 0 where
   pub file : option_map string_bytes settings.file ≡ unless_dash (first_of (codes "file") rows)
   pub svg : one_of (codes "svg") rows ≡ Some (codes "true") → settings.form ≡ form.Svg
   pub text : one_of (codes "svg") rows ≡ Some (codes "false") → IsTextStated rows settings.form
-  pub all : one_of (codes "all") rows ≡ Some (codes "true") → settings.rows ≡ None
-  pub limit : one_of (codes "all") rows ≡ Some (codes "false") → AreRowsStated rows settings.form settings.rows
+  pub all : one_of (codes "all") rows ≡ Some (codes "true") → settings.rows.limit ≡ None
+  pub limit : one_of (codes "all") rows ≡ Some (codes "false") → AreRowsStated rows settings.form settings.rows.limit
+  pub sort : settings.rows.sort ≡ stated_sort rows
   pub find : one_of (codes "find") rows ≡ Some (codes "true") → settings.find ≡ true
   pub no_find : one_of (codes "find") rows ≡ Some (codes "false") → settings.find ≡ false
 

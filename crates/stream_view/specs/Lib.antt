@@ -8,6 +8,7 @@ pub mod Kinds
 pub mod LeftOut
 pub mod Lines
 pub mod Markup
+pub mod RowChoices
 pub mod Rows
 pub mod MessageTexts
 pub mod Texts

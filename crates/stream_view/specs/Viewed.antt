@@ -6,10 +6,10 @@ use Rattle.stream_timeline.specs.declared.reading.timeline_fault.TimelineFault.T
 use Rattle.stream_timeline.specs.declared.reading.time_range.TimeRange.{TimeRange}
 use Rattle.stream_timeline.specs.Lines.{IsReadOf}
 use Rattle.stream_timeline.specs.Numbers.{IsNumbersOf}
-use Rattle.stream_timeline.specs.Rows.{AreRowsOf}
 use Rattle.stream_timeline.specs.TimelineRead.{TimelineRead}
 use Rattle.stream_view.specs.Lines.{LinesWritten}
 use Rattle.stream_view.specs.Markup.{SomeSvgWritten, SvgWritten}
+use Rattle.stream_view.specs.RowChoices.{AreRowsIn}
 use Rattle.stream_view.specs.Texts.{TextWritten}
 use Rattle.stream_view.specs.declared.command.colour.Colour.{Colour}
 use Rattle.stream_view.specs.declared.command.colour.Colour.TheVariants as colour
@@ -20,6 +20,7 @@ use Rattle.stream_view.specs.declared.command.picture_fault.PictureFault.TheVari
 use Rattle.stream_view.specs.declared.command.settings.Settings.{Settings}
 use Rattle.stream_view.specs.declared.draw_fault.DrawFault.TheVariants as draw_fault
 use Rattle.stream_view.specs.declared.picture.Picture.{Picture}
+use Rattle.stream_view.specs.declared.row_choice.RowChoice.{RowChoice}
 
 -- the text has colours
 abbrev pub is_on : (is_wanted : Bool) → Colour → Bool
@@ -48,24 +49,24 @@ abbrev pub IsDrawn : Form → (is_wanted : Bool) → Picture → (before after :
 IsDrawn (form.Text width colour) is_wanted picture before after = TextWritten width (is_on is_wanted colour) picture before after
 IsDrawn form.Svg is_wanted picture before after = SvgWritten picture before after
 
--- A picture of this time line was written: of its time range, its figures, and the steps that get a
--- row.
-pub record IsDrawnOf (timeline : TimelineRead) (limit : Option ℕ) (form : Form) (is_wanted : Bool) (before after : Option (List ℕ)) : Type 0 where
+-- A picture of this time line was written: of its time range, its figures, and the rows that are
+-- asked for.
+pub record IsDrawnOf (timeline : TimelineRead) (choice : RowChoice) (form : Form) (is_wanted : Bool) (before after : Option (List ℕ)) : Type 0 where
   pub picture : Picture
   pub is_read : picture.timeline.now ≡ timeline
   pub time_range : picture.time_range ≡ time_range_of timeline
   pub numbers : IsNumbersOf (time_range_of timeline) timeline.steps picture.numbers
-  pub rows : AreRowsOf (time_range_of timeline) timeline.steps limit picture.rows
+  pub rows : AreRowsIn choice.sort (time_range_of timeline) timeline.steps choice.limit picture.rows
   pub drawn : IsDrawn form is_wanted picture before after
 
 -- The result belongs to the lines of these bytes: a picture of their time line, or the reason why
 -- there is none.
-abbrev pub IsOfStream : (find : Bool) → List ℕ → (limit : Option ℕ) → Form → (is_wanted : Bool) → (before after : Option (List ℕ))
+abbrev pub IsOfStream : (find : Bool) → List ℕ → RowChoice → Form → (is_wanted : Bool) → (before after : Option (List ℕ))
     → Result (Unit {0}) PictureFault → Type 0
-IsOfStream find bytes limit form is_wanted before after (Ok done) =
-    (timeline : TimelineRead) × IsReadOf find bytes (Ok timeline) × IsDrawnOf timeline limit form is_wanted before after
-IsOfStream find bytes limit form is_wanted before after (Err (fault.NoTimeline why)) = IsReadOf find bytes (Err why)
-IsOfStream find bytes limit form is_wanted before after (Err (fault.Undrawn why)) = ⊤
+IsOfStream find bytes choice form is_wanted before after (Ok done) =
+    (timeline : TimelineRead) × IsReadOf find bytes (Ok timeline) × IsDrawnOf timeline choice form is_wanted before after
+IsOfStream find bytes choice form is_wanted before after (Err (fault.NoTimeline why)) = IsReadOf find bytes (Err why)
+IsOfStream find bytes choice form is_wanted before after (Err (fault.Undrawn why)) = ⊤
 
 abbrev pub timeline_status_of : TimelineFault → ℕ
 timeline_status_of (timeline_fault.TooLong number) = 2

@@ -8,6 +8,7 @@ mod draw_fault;
 mod kind;
 mod laws;
 mod picture;
+mod row_choice;
 mod svg;
 mod text;
 mod words;
@@ -22,6 +23,7 @@ pub use laws::{
     colours_are_sequences_alone, no_line_has_a_control, what_comes_no_later_has_its_bar_no_further,
 };
 pub use picture::Picture;
+pub use row_choice::{RowChoice, Sort};
 pub use svg::drawing::draw_svg;
 pub use svg::fragment::Fragment;
 pub use svg::markup_part::MarkupPart;

@@ -4,11 +4,14 @@ ghost use Rattle.std.specs.Prelude.{◌≡◌, IfOk, get_or};
 ghost use Rattle.std.specs.Int.{int_gap};
 ghost use Rattle.stream_timeline.specs.Intervals.{span_of, until_of};
 ghost use Rattle.stream_timeline.specs.Numbers.{IsNumbersOf};
-ghost use Rattle.stream_timeline.specs.Rows.{AreRowsOf};
+ghost use Rattle.stream_view.specs.RowChoices.{AreRowsIn};
 ghost use Rattle.stream_view.specs.Viewed.{time_range_of};
 
+use crate::row_choice::{RowChoice, Sort};
 use std::alloc::{AllocError, Global};
-use stream_timeline::{Numbers, Rows, Step, TimeRange, Timeline, numbers_of, rows_of};
+use stream_timeline::{
+    Numbers, Rows, Step, TimeRange, Timeline, numbers_of, rows_by_length, rows_of,
+};
 
 /// What a picture shows: the time line of a stream, its figures, and which steps get a row.
 #[derive(Drop)]
@@ -20,17 +23,17 @@ pub struct Picture<'a> {
 }
 
 impl<'a> Picture<'a> {
-    /// The picture of a time line with at most `limit` rows, or one row for each step. Without a
-    /// message, the time range begins and ends at 0. `Err` means that memory was refused.
+    /// The picture of a time line with the rows that are asked for. Without a message, the time
+    /// range begins and ends at 0. `Err` means that memory was refused.
     pub fn of(
         alloc: Global,
         timeline: &'a Timeline,
-        limit: Option<usize>,
+        choice: RowChoice,
     ) -> Result<Picture<'a>, AllocError>
         ensures timeline { IfOk result (λ picture. picture.timeline.now ≡ timeline.now) }
         ensures time_range { IfOk result (λ picture. picture.time_range ≡ time_range_of timeline.now) }
         ensures numbers { IfOk result (λ picture. IsNumbersOf (time_range_of timeline.now) timeline.now.steps picture.numbers) }
-        ensures rows { IfOk result (λ picture. AreRowsOf (time_range_of timeline.now) timeline.now.steps limit picture.rows) }
+        ensures rows { IfOk result (λ picture. AreRowsIn choice.sort (time_range_of timeline.now) timeline.now.steps choice.limit picture.rows) }
     {
         let time_range = timeline
             .time_range()
@@ -39,7 +42,7 @@ impl<'a> Picture<'a> {
             timeline,
             time_range,
             numbers: numbers_of(alloc, time_range, timeline.steps())?,
-            rows: rows_of(alloc, time_range, timeline.steps(), limit)?,
+            rows: chosen_rows(alloc, time_range, timeline.steps(), choice)?,
         })
     }
 
@@ -73,5 +76,20 @@ impl<'a> Picture<'a> {
             Some(alone) => *alone,
             None => 0,
         }
+    }
+}
+
+/// The rows of these steps, chosen and ordered as asked for. `Err` means that memory was refused.
+fn chosen_rows(
+    alloc: Global,
+    time_range: TimeRange,
+    steps: &[Step],
+    choice: RowChoice,
+) -> Result<Rows, AllocError>
+    ensures { IfOk result (λ rows. AreRowsIn choice.sort time_range steps.now choice.limit rows) }
+{
+    match choice.sort {
+        Sort::Begin => rows_of(alloc, time_range, steps, choice.limit),
+        Sort::Length => rows_by_length(alloc, time_range, steps, choice.limit),
     }
 }

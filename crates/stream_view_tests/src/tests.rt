@@ -12,7 +12,7 @@ use std::rt::Files;
 use std::{array, io};
 use stream_timeline::TimelineFault;
 use stream_tool::{Outcome, run_input, run_tool};
-use stream_view::{Colour, DrawFault, Form, PictureFault, Settings, View};
+use stream_view::{Colour, DrawFault, Form, PictureFault, RowChoice, Settings, Sort, View};
 use streams::{Given, WrittenOutput};
 
 /// The tool for an output that shows no colours.
@@ -66,7 +66,10 @@ fn drawn(
 ) -> Outcome<Result<(), PictureFault>> {
     let settings = Settings {
         form,
-        rows: Some(40),
+        rows: RowChoice {
+            sort: Sort::Begin,
+            limit: Some(40),
+        },
         find: false,
         file: None,
     };

@@ -178,8 +178,8 @@ impl TimelineBuilder {
                 self.timeline.set_version(alloc, text)?;
                 Ok(())
             }
-            Content::PlanSummary => {
-                self.timeline.add_plan_summary();
+            Content::PlanSummary { totals } => {
+                self.timeline.set_plan_totals(totals);
                 Ok(())
             }
             Content::Summary { totals } => {

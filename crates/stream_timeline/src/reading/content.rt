@@ -44,7 +44,9 @@ pub enum Content<'a> {
         text: &'a str,
     },
     /// The summary of a plan.
-    PlanSummary,
+    PlanSummary {
+        totals: Totals,
+    },
     /// The summary of an apply or a destroy.
     Summary {
         totals: Totals,
@@ -214,7 +216,9 @@ impl<'a> Content<'a> {
         ensures { content_view result ≡ summary_content_in changes.now }
     {
         if is_text(text_or_empty(changes.operation()), "plan") {
-            Content::PlanSummary
+            Content::PlanSummary {
+                totals: totals_of(changes),
+            }
         } else {
             Content::Summary {
                 totals: totals_of(changes),

@@ -1,6 +1,6 @@
 //! The time line of a stream.
 
-ghost use Rattle.std.specs.Prelude.{◌≡◌, ◌<◌, ◌+◌, ◌^◌, min, nat_le, option_map, OnOk, Some, true};
+ghost use Rattle.std.specs.Prelude.{◌≡◌, ◌<◌, ◌+◌, ◌^◌, is_some, min, nat_le, option_map, OnOk, Some};
 ghost use Rattle.std.specs.Str.{bytes_eq};
 ghost use Rattle.stream_timeline.specs.SlotContents.{diagnostic_in};
 ghost use Rattle.stream_timeline.specs.TimeRange.{with_time};
@@ -26,7 +26,7 @@ pub struct Timeline {
     pub(crate) passed_over: u64,
     pub(crate) version: Option<Version>,
     pub(crate) totals: Option<Totals>,
-    pub(crate) has_plan_summary: bool,
+    pub(crate) plan_totals: Option<Totals>,
     pub(crate) time_range: Option<TimeRange>,
     pub(crate) steps: Vec<Step>,
     pub(crate) begun: usize,
@@ -44,7 +44,7 @@ impl Model for Timeline {
       passed_over = t.passed_over;
       version = t.version;
       totals = t.totals;
-      has_plan_summary = t.has_plan_summary;
+      plan_totals = t.plan_totals;
       time_range = t.time_range;
       steps = t.steps.items;
       begun = t.begun;
@@ -64,7 +64,7 @@ impl Timeline {
             passed_over: 0,
             version: None,
             totals: None,
-            has_plan_summary: false,
+            plan_totals: None,
             time_range: None,
             steps: Vec::new(alloc),
             begun: 0,
@@ -110,11 +110,11 @@ impl Timeline {
         self.totals = Some(totals);
     }
 
-    /// Notes that the stream has the summary of a plan.
-    pub(crate) fn add_plan_summary(&mut self)
-        ensures { self.new ≡ record self.old { has_plan_summary = true } }
+    /// Sets the totals of the plan. Those of its last summary count.
+    pub(crate) fn set_plan_totals(&mut self, totals: Totals)
+        ensures { self.new ≡ record self.old { plan_totals = Some totals } }
     {
-        self.has_plan_summary = true;
+        self.plan_totals = Some(totals);
     }
 
     /// Adds an error. `Err` means that memory was refused.
@@ -270,11 +270,18 @@ impl Timeline {
         self.totals
     }
 
+    /// The totals of the last summary of a plan.
+    pub fn plan_totals(&self) -> Option<Totals>
+        ensures { result ≡ self.now.plan_totals }
+    {
+        self.plan_totals
+    }
+
     /// Whether the stream has the summary of a plan.
     pub fn has_plan_summary(&self) -> bool
-        ensures { result ≡ self.now.has_plan_summary }
+        ensures { result ≡ is_some self.now.plan_totals }
     {
-        self.has_plan_summary
+        self.plan_totals.is_some()
     }
 
     /// The first and the last timestamp. `None` if no line is a message.

@@ -73,6 +73,20 @@ fn ranked(
     ensures all { IfOk result (λ ranked. IsPermutation (candidates_of time_range steps.now) ranked.items) }
     ensures ordered { IfOk result (λ ranked. AreRanked ranked.items) }
 {
+    let mut candidates = candidates_of(alloc, time_range, steps)?;
+    candidates.sort_by(|first: &Candidate, second: &Candidate| order_of(*first, *second))?;
+    Ok(candidates)
+}
+
+/// What decides whether each step gets a row, in the order of the steps. `Err` means that memory
+/// was refused.
+pub(crate) fn candidates_of(
+    alloc: Global,
+    time_range: TimeRange,
+    steps: &[Step],
+) -> Result<Vec<Candidate>, AllocError>
+    ensures { IfOk result (λ candidates. candidates.items ≡ candidates_of time_range steps.now) }
+{
     let mut candidates = Vec::new(alloc);
     for (place, step) in steps.iter().enumerate() {
         candidates.push(Candidate {
@@ -81,7 +95,6 @@ fn ranked(
             place,
         })?;
     }
-    candidates.sort_by(|first: &Candidate, second: &Candidate| order_of(*first, *second))?;
     Ok(candidates)
 }
 
@@ -154,7 +167,7 @@ fn in_order_of_begin(
 }
 
 /// The greatest length.
-fn longest(candidates: &[Candidate]) -> u64
+pub(crate) fn longest(candidates: &[Candidate]) -> u64
     ensures { result ≡ longest candidates.now }
 {
     let mut longest = 0;
@@ -165,7 +178,7 @@ fn longest(candidates: &[Candidate]) -> u64
 }
 
 /// The sum of the lengths.
-fn total_length(candidates: &[Candidate]) -> u128
+pub(crate) fn total_length(candidates: &[Candidate]) -> u128
     ensures { result ≡ total_length candidates.now }
 {
     let mut total_length = 0;

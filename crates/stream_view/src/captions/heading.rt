@@ -1,25 +1,26 @@
 //! The first line of a picture: what was done.
 
-ghost use Rattle.std.specs.Prelude.{◌≡◌, [], codes, if◌then◌else◌, length};
+ghost use Rattle.std.specs.Prelude.{◌≡◌, ◌++◌, [], codes, if◌then◌else◌, length};
 ghost use Rattle.std.specs.List.{count_by, list_any};
 ghost use Rattle.stream_timeline.specs.Intervals.{span_of};
-ghost use Rattle.stream_view.specs.Heading.{agrees, completed_words, disagreement_words, heading_words, imported_words, is_change, is_not_ended, lacks_summary, summary_words, total_words, uncompleted_words, version_words, words_if_any};
+ghost use Rattle.stream_view.specs.Heading.{agrees, completed_words, disagreement_words, done_words, error_words, heading_words, imported_words, is_change, is_not_ended, lacks_summary, only_plan, plan_words, read_words, steps_words, summary_words, total_words, uncompleted_words, version_words, words_if_any};
 ghost use Rattle.stream_view.specs.MessageTexts.{HasText, AppendsText};
 
 use crate::picture::Picture;
 use crate::words::message_text::MessageText;
 use std::alloc::Global;
-use stream_timeline::{Step, Totals};
+use stream_timeline::{Numbers, Step, Totals};
 
 /// The first line of a picture: the version of Terraform, the number of steps and the span, what
-/// was completed, and what was not.
+/// was completed, and what was not. Of a stream that is only a plan, what the plan would do.
 pub fn heading(alloc: Global, picture: &Picture<'_>) -> MessageText
     ensures { HasText result (heading_words picture.now.time_range picture.now.timeline.now picture.now.numbers) }
 {
     let mut text = MessageText::new(alloc);
     push_version(&mut text, picture);
-    push_completed(&mut text, picture);
+    push_done(&mut text, picture);
     push_uncompleted(&mut text, picture);
+    push_errors(&mut text, picture);
     push_summary(&mut text, picture);
     text
 }
@@ -37,27 +38,100 @@ fn push_version(text: &mut MessageText, picture: &Picture<'_>)
     }
 }
 
-fn push_completed(text: &mut MessageText, picture: &Picture<'_>)
-    ensures { AppendsText text.old text.new (completed_words (length picture.now.timeline.now.steps) (span_of picture.now.time_range) picture.now.numbers) }
+/// Adds what was completed, or what the plan would do if the stream is only a plan.
+fn push_done(text: &mut MessageText, picture: &Picture<'_>)
+    ensures { AppendsText text.old text.new
+        (done_words (length picture.now.timeline.now.steps) (span_of picture.now.time_range) picture.now.timeline.now picture.now.numbers) }
 {
-    text.things(picture.timeline.steps().len() as u64, "step");
+    let count = picture.timeline.steps().len();
+    match only_plan(picture) {
+        Some(totals) => push_plan(text, count, picture.span(), totals),
+        None => push_completed(text, count, picture.span(), &picture.numbers),
+    }
+}
+
+/// The totals of the plan, if the stream is only a plan: it has the summary of a plan and none of an
+/// apply, and no create, update or delete began.
+fn only_plan(picture: &Picture<'_>) -> Option<Totals>
+    ensures { result ≡ only_plan picture.now.timeline.now }
+{
+    if picture.timeline.totals().is_some() || has_changes(picture.timeline.steps()) {
+        None
+    } else {
+        picture.timeline.plan_totals()
+    }
+}
+
+/// Adds how many steps there were, unless there were none, and what the plan would do.
+fn push_plan(text: &mut MessageText, steps: usize, span: u64, totals: Totals)
+    ensures { AppendsText text.old text.new (read_words steps span ++ plan_words totals) }
+{
+    push_read(text, steps, span);
+    push_planned(text, totals);
+}
+
+/// Adds how many steps there were, and how long they took, unless there were none.
+fn push_read(text: &mut MessageText, steps: usize, span: u64)
+    ensures { AppendsText text.old text.new (read_words steps span) }
+{
+    if steps > 0 {
+        push_steps(text, steps, span);
+    }
+}
+
+/// Adds what the plan would do.
+fn push_planned(text: &mut MessageText, totals: Totals)
+    ensures { AppendsText text.old text.new (plan_words totals) }
+{
+    text.text("a plan of ");
+    push_total(text, totals.added);
+    text.text(" to add, ");
+    push_total(text, totals.changed);
+    text.text(" to change, ");
+    push_total(text, totals.removed);
+    text.text(" to destroy");
+    push_if_any(text, totals.imported.unwrap_or(0), "to import");
+}
+
+/// Adds how many steps there were, and how long they took.
+fn push_steps(text: &mut MessageText, steps: usize, span: u64)
+    ensures { AppendsText text.old text.new (steps_words steps span) }
+{
+    text.things(steps as u64, "step");
     text.text(" in ");
-    text.duration(picture.span() as u128);
+    text.duration(span as u128);
     text.text(": ");
-    text.count(picture.numbers.created as u64);
+}
+
+/// Adds how many steps there were, how long they took, and what was completed.
+fn push_completed(text: &mut MessageText, steps: usize, span: u64, numbers: &Numbers)
+    ensures { AppendsText text.old text.new (completed_words steps span numbers.now) }
+{
+    push_steps(text, steps, span);
+    text.count(numbers.created as u64);
     text.text(" added, ");
-    text.count(picture.numbers.updated as u64);
+    text.count(numbers.updated as u64);
     text.text(" changed, ");
-    text.count(picture.numbers.deleted as u64);
+    text.count(numbers.deleted as u64);
     text.text(" destroyed");
+}
+
+/// Adds that there were errors, if no step failed.
+fn push_errors(text: &mut MessageText, picture: &Picture<'_>)
+    ensures { AppendsText text.old text.new
+        (error_words picture.now.timeline.now.errors.count (count_by (λ step. step.failed) picture.now.timeline.now.steps)) }
+{
+    if picture.timeline.errors().count() > 0 && failed_count(picture.timeline.steps()) == 0 {
+        text.text(", with errors");
+    }
 }
 
 fn push_uncompleted(text: &mut MessageText, picture: &Picture<'_>)
     ensures { AppendsText text.old text.new (uncompleted_words picture.now.timeline.now.steps) }
 {
     let steps = picture.timeline.steps();
-    push_if_any(text, failed_count(steps), "failed");
-    push_if_any(text, open_count(steps), "not ended");
+    push_if_any(text, failed_count(steps) as u64, "failed");
+    push_if_any(text, open_count(steps) as u64, "not ended");
 }
 
 /// How many steps failed.
@@ -81,13 +155,13 @@ fn is_open(step: &Step) -> bool
     step.end().is_none() && !step.has_failed()
 }
 
-/// Adds a number of steps and the word for them, unless the number is 0.
-fn push_if_any(text: &mut MessageText, count: usize, what: &str)
+/// Adds a number and the words for it, unless the number is 0.
+fn push_if_any(text: &mut MessageText, count: u64, what: &str)
     ensures { AppendsText text.old text.new (words_if_any count what.now) }
 {
     if count > 0 {
         text.text(", ");
-        text.count(count as u64);
+        text.count(count);
         text.text(" ");
         text.text(what);
     }

@@ -5,13 +5,14 @@ ghost use Rattle.clap.specs.Faults.{is_simple_and_free};
 ghost use Rattle.clap.specs.Matches.{found_of};
 ghost use Rattle.clap.specs.Simple.{app_of, is_simple};
 ghost use Rattle.clap.specs.Walk.{one_of, rows_of as matched_rows, rule_of};
-ghost use Rattle.stream_view.specs.CommandLine.{AreRowsStated, AreStated, IsCommand, IsNumber, IsTextStated, TakesColours, are_conflicting, colour_of_word, colour_rule, stated_colour, is_given, number_named, option_named, rows_of_form, width_rule};
+ghost use Rattle.stream_view.specs.CommandLine.{AreRowsStated, AreStated, IsCommand, IsNumber, IsTextStated, TakesColours, TakesSorts, are_conflicting, colour_of_word, colour_rule, sort_of_word, sort_rule, stated_colour, stated_sort, is_given, number_named, option_named, rows_of_form, width_rule};
 ghost use Rattle.stream_tool.specs.Refused.{IsConflict, IsRefusal};
 ghost use Rattle.stream_tool.specs.Words.{flag_rule};
 ghost use Rattle.stream_view.specs.declared.command.settings.Form.TheVariants as form;
 
 use crate::command::colour::Colour;
 use crate::command::settings::{Form, Settings};
+use crate::row_choice::{RowChoice, Sort};
 use clap::parser::ValueSource;
 use clap::{Arg, ArgMatches, Command, value_parser};
 use std::alloc::{AllocError, Global};
@@ -19,6 +20,9 @@ use stream_tool::{FIND, Usage, file, file_of, flag, is_given, matches_of, with_o
 
 /// The values of `--color`.
 static COLOURS: [&str; 3] = ["auto", "always", "never"];
+
+/// The values of `--sort`.
+static SORTS: [&str; 2] = ["begin", "length"];
 
 /// How many steps get a row by default, in a text and in an SVG.
 const TEXT_ROWS: u32 = 40;
@@ -106,6 +110,7 @@ fn command_of<'a>(alloc: Global, svg: Arg<'a>, all: Arg<'a>) -> Result<Command<'
     let line = with_option(line, svg);
     let line = with_option(line, rows(alloc));
     let line = with_option(line, all);
+    let line = with_option(line, sort(alloc));
     let line = with_option(line, width(alloc));
     let line = with_option(line, color(alloc));
     let line = with_option(line, flag(alloc, "find", FIND));
@@ -139,6 +144,15 @@ fn rows<'a>(alloc: Global) -> Arg<'a>
 {
     let help = "The most steps that get a row, 1 to 100000 [default: 40, with --svg 200]";
     option(alloc, "rows", "N", help).value_parser(value_parser!(u32).range(1..=100000))
+}
+
+fn sort<'a>(alloc: Global) -> Arg<'a>
+    ensures { (sorts : _) × TakesSorts sorts × (rule_of result ≡ sort_rule sorts) × (result.global ≡ false) }
+{
+    let help = "The order of the rows; length: the longest steps get them, the longest first";
+    option(alloc, "sort", "ORDER", help)
+        .value_parser(SORTS.as_slice())
+        .default_value("begin")
 }
 
 fn width<'a>(alloc: Global) -> Arg<'a>
@@ -186,7 +200,10 @@ pub(crate) fn settings_of(alloc: Global, matches: &ArgMatches<'_>) -> Result<Set
     let form = form_of(matches);
     Ok(Settings {
         form,
-        rows: rows_of(matches, form),
+        rows: RowChoice {
+            sort: sort_of(matches),
+            limit: rows_of(matches, form),
+        },
         find: is_given(matches, "find"),
         file,
     })
@@ -236,6 +253,26 @@ fn colour_named(choice: &str) -> Colour
         "always" => Colour::Always,
         "never" => Colour::Never,
         _ => Colour::Auto,
+    }
+}
+
+/// The order of the rows.
+fn sort_of(matches: &ArgMatches<'_>) -> Sort
+    ensures { result ≡ stated_sort (matched_rows (found_of matches.now)) }
+{
+    match matches.get_str("sort") {
+        Some(choice) => sort_named(choice),
+        None => Sort::Begin,
+    }
+}
+
+/// The meaning of a value of `--sort`. The parser accepts only two values.
+fn sort_named(choice: &str) -> Sort
+    ensures { result ≡ sort_of_word choice.now }
+{
+    match choice {
+        "length" => Sort::Length,
+        _ => Sort::Begin,
     }
 }
 

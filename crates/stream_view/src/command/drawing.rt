@@ -9,6 +9,7 @@ use crate::command::picture_fault::PictureFault;
 use crate::command::settings::Form;
 use crate::draw_fault::DrawFault;
 use crate::picture::Picture;
+use crate::row_choice::RowChoice;
 use crate::svg::drawing::draw_svg;
 use crate::text::drawing::draw_text;
 use std::alloc::Global;
@@ -23,7 +24,7 @@ use stream_timeline::{Timeline, read};
 pub fn draw_stream<R: BufRead, W: Write>(
     alloc: Global,
     form: Form,
-    rows: Option<usize>,
+    rows: RowChoice,
     find: bool,
     is_colour_wanted: bool,
     reader: &mut R,
@@ -44,7 +45,7 @@ pub fn draw_stream<R: BufRead, W: Write>(
 fn draw<W: Write>(
     alloc: Global,
     form: Form,
-    rows: Option<usize>,
+    rows: RowChoice,
     is_colour_wanted: bool,
     timeline: &Timeline,
     out: &mut W,

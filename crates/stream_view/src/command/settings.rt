@@ -4,6 +4,7 @@ ghost use Rattle.std.specs.Prelude.{◌≡◌, option_map, string_bytes};
 ghost use Rattle.std.specs.Option.{option_copied};
 
 use crate::command::colour::Colour;
+use crate::row_choice::RowChoice;
 
 /// What is drawn.
 #[derive(Clone, Copy, Debug, PartialEq, Eq)]
@@ -18,8 +19,8 @@ pub enum Form {
 #[derive(Debug, Drop)]
 pub struct Settings {
     pub form: Form,
-    /// The greatest number of rows. `None`: each step gets one.
-    pub rows: Option<usize>,
+    /// Which steps get a row, and in which order.
+    pub rows: RowChoice,
     /// Whether the lines are those of a log, in which the messages are found.
     pub find: bool,
     /// The file with the stream. `None`: standard input, which `-` names too.

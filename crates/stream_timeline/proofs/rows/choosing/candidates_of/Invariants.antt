@@ -1,6 +1,6 @@
 use Rattle.std.proofs.Common.{◌≡◌, ◌++◌, drop}
 use Rattle.stream_timeline.specs.Rows.{candidates_from, candidates_of}
-use Rattle.stream_timeline.proofs.rows.choosing.ranked.Given as goal
+use Rattle.stream_timeline.proofs.rows.choosing.candidates_of.Given as goal
 
 -- with those to come, all
 abbrev pub invariant-loop-place : goal.invariant-loop-place
