@@ -1,5 +1,5 @@
 -- The words of what was done.
-use Rattle.std.proofs.Common.{◌≡◌, ◌∙◌, ℕ, ◌++◌, None, Some, ap, ap₂, sym}
+use Rattle.std.proofs.Common.{◌≡◌, ◌∙◌, ℕ, ◌++◌, None, Some, ap, ap₂}
 use Rattle.std.specs.Option.{option_map_or}
 use Rattle.stream_timeline.specs.declared.numbers.measures.Numbers.{Numbers}
 use Rattle.stream_timeline.specs.declared.reading.totals.Totals.{Totals}
