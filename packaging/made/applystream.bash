@@ -19,7 +19,7 @@ _applystream() {
       --width) return ;;
       --color) COMPREPLY=($(compgen -W "auto always never" -- "$word")); return ;;
     esac
-    COMPREPLY=($(compgen -W "--svg --rows --all --sort --width --color --find --help" -- "$word") $(compgen -f -- "$word"))
+    COMPREPLY=($(compgen -W "--svg --json --rows --all --sort --width --color --find --help" -- "$word") $(compgen -f -- "$word"))
     return
   fi
   if [ "${COMP_WORDS[1]}" = validate ] && [ "$COMP_CWORD" -gt 1 ]; then

@@ -22,6 +22,7 @@ complete -c applystream -n '__fish_seen_subcommand_from play' -l speed -x -d 'Ho
 complete -c applystream -n '__fish_seen_subcommand_from play' -l find -d 'Find the messages in the lines of a log, and ignore the other lines'
 complete -c applystream -n '__fish_seen_subcommand_from play' -s h -l help -d 'Print help'
 complete -c applystream -n '__fish_seen_subcommand_from view' -l svg -d 'Draw an SVG in place of text'
+complete -c applystream -n '__fish_seen_subcommand_from view' -l json -d 'Print one JSON object of the time line in place of text'
 complete -c applystream -n '__fish_seen_subcommand_from view' -l rows -x -d 'The most steps that get a row, 1 to 100000 [default: 40, with --svg 200]'
 complete -c applystream -n '__fish_seen_subcommand_from view' -l all -d 'Give every step a row'
 complete -c applystream -n '__fish_seen_subcommand_from view' -l sort -x -a 'begin length' -d 'The order of the rows; length: the longest steps get them, the longest first [default: begin] [possible values: begin, length]'

@@ -4,6 +4,7 @@ use Rattle.std.specs.Prelude.{IfSome, OnOk}
 use Rattle.stream_timeline.specs.Lines.{IsReadOf}
 use Rattle.stream_timeline.specs.TimelineRead.{TimelineRead}
 use Rattle.stream_timeline.specs.declared.reading.timeline_fault.TimelineFault.{TimelineFault}
+use Rattle.stream_view.specs.Json.{JsonWritten}
 use Rattle.stream_view.specs.Markup.{SvgWritten}
 use Rattle.stream_view.specs.Texts.{TextWritten}
 use Rattle.stream_view.specs.Viewed.{IsDrawn, IsDrawnOf, IsOfStream, PictureWritten, is_on}
@@ -32,10 +33,17 @@ svg_drawn asked is_wanted picture a b after drawn is done left written =
     subst (λ (f : Form). IsDrawn f is_wanted picture a after) (sym is)
     (subst (SvgWritten picture a) (sym left) (subst (λ (r : Result (Unit {0}) DrawFault). OnOk r (SvgWritten picture a b)) done written))
 
+pub json_drawn : (asked : Form) (is_wanted : Bool) (picture : Picture) (a b after : Option (List ℕ)) (drawn : Result (Unit {0}) DrawFault)
+    → asked ≡ form.Json → drawn ≡ Ok tt → after ≡ b → OnOk drawn (JsonWritten picture a b) → IsDrawn asked is_wanted picture a after
+json_drawn asked is_wanted picture a b after drawn is done left written =
+    subst (λ (f : Form). IsDrawn f is_wanted picture a after) (sym is)
+    (subst (JsonWritten picture a) (sym left) (subst (λ (r : Result (Unit {0}) DrawFault). OnOk r (JsonWritten picture a b)) done written))
+
 pub picture_written : (asked : Form) (is_wanted : Bool) (picture : Picture) (a b : Option (List ℕ)) → IsDrawn asked is_wanted picture a b
     → PictureWritten asked is_wanted a b
 picture_written (form.Text width colour) is_wanted picture a b drawn = as_lines width (is_on is_wanted colour) picture a b drawn
 picture_written form.Svg is_wanted picture a b drawn = (picture, drawn)
+picture_written form.Json is_wanted picture a b drawn = (picture, drawn)
 
 -- if there is a time line, what was drawn belongs to it
 pub stream_drawn : (find : Bool) (given : Option (List ℕ)) (timeline : TimelineRead) (choice : RowChoice) (asked : Form) (is_wanted : Bool) (a b : Option (List ℕ))

@@ -3,6 +3,7 @@ pub mod Drawn
 pub mod Growing
 pub mod Heads
 pub mod Headings
+pub mod Objects
 pub mod Options
 pub mod Parsed
 pub mod Parts

@@ -64,7 +64,7 @@ abbrev pub command_line : (colours sorts : ValueParser) → App
 command_line colours sorts = record {
   top = record (new_shape (codes "applystream view")) {
     no_binary_name = true;
-    rules = flag_rule (codes "svg") ∷ number_named (codes "rows") 1 100000 ∷ flag_rule (codes "all") ∷ sort_rule sorts ∷ width_rule
+    rules = flag_rule (codes "svg") ∷ flag_rule (codes "json") ∷ number_named (codes "rows") 1 100000 ∷ flag_rule (codes "all") ∷ sort_rule sorts ∷ width_rule
         ∷ colour_rule colours ∷ flag_rule (codes "find") ∷ file_rule ∷ [];
   };
   subs = [];
@@ -90,10 +90,20 @@ is_given name rows = is_of_words (option_and_then (λ r. r.source) (find (λ r. 
 abbrev pub is_svg_conflicting : List Row → Bool
 is_svg_conflicting rows = is_given (codes "svg") rows && (is_given (codes "width") rows || is_given (codes "color") rows)
 
--- options that exclude each other: an SVG with one for texts only, or all rows with a number of
--- rows
+-- an object, and an option of pictures
+abbrev pub is_json_conflicting : List Row → Bool
+is_json_conflicting rows =
+    is_given (codes "json") rows
+    && (is_given (codes "svg") rows
+    || (is_given (codes "rows") rows
+    || (is_given (codes "all") rows
+    || (is_given (codes "sort") rows || (is_given (codes "width") rows || is_given (codes "color") rows)))))
+
+-- options that exclude each other: an SVG with one for texts only, an object with one for pictures,
+-- or all rows with a number of rows
 abbrev pub are_conflicting : List Row → Bool
-are_conflicting rows = is_svg_conflicting rows || (is_given (codes "all") rows && is_given (codes "rows") rows)
+are_conflicting rows =
+    is_svg_conflicting rows || (is_json_conflicting rows || (is_given (codes "all") rows && is_given (codes "rows") rows))
 
 -- ---- the settings
 
@@ -127,6 +137,7 @@ pub record IsTextStated (rows : List Row) (asked : Form) : Type 0 where
 abbrev pub rows_of_form : Form → ℕ
 rows_of_form (form.Text width colour) = 40
 rows_of_form form.Svg = 200
+rows_of_form form.Json = 40
 
 -- the greatest number of rows is the stated one, or that by default
 pub record AreRowsStated (rows : List Row) (asked : Form) (limit : Option ℕ) : Type 0 where
@@ -139,7 +150,9 @@ pub record AreRowsStated (rows : List Row) (asked : Form) (limit : Option ℕ) :
 pub record AreStated (rows : List Row) (settings : Settings) : Type 0 where
   pub file : option_map string_bytes settings.file ≡ unless_dash (first_of (codes "file") rows)
   pub svg : one_of (codes "svg") rows ≡ Some (codes "true") → settings.form ≡ form.Svg
-  pub text : one_of (codes "svg") rows ≡ Some (codes "false") → IsTextStated rows settings.form
+  pub json : one_of (codes "svg") rows ≡ Some (codes "false") → one_of (codes "json") rows ≡ Some (codes "true") → settings.form ≡ form.Json
+  pub text : one_of (codes "svg") rows ≡ Some (codes "false") → one_of (codes "json") rows ≡ Some (codes "false")
+      → IsTextStated rows settings.form
   pub all : one_of (codes "all") rows ≡ Some (codes "true") → settings.rows.limit ≡ None
   pub limit : one_of (codes "all") rows ≡ Some (codes "false") → AreRowsStated rows settings.form settings.rows.limit
   pub sort : settings.rows.sort ≡ stated_sort rows

@@ -4,6 +4,7 @@ pub mod Columns
 pub mod CommandLine
 pub mod Growth
 pub mod Heading
+pub mod Json
 pub mod Kinds
 pub mod LeftOut
 pub mod Lines

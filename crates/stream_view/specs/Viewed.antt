@@ -7,6 +7,7 @@ use Rattle.stream_timeline.specs.declared.reading.time_range.TimeRange.{TimeRang
 use Rattle.stream_timeline.specs.Lines.{IsReadOf}
 use Rattle.stream_timeline.specs.Numbers.{IsNumbersOf}
 use Rattle.stream_timeline.specs.TimelineRead.{TimelineRead}
+use Rattle.stream_view.specs.Json.{JsonWritten}
 use Rattle.stream_view.specs.Lines.{LinesWritten}
 use Rattle.stream_view.specs.Markup.{SomeSvgWritten, SvgWritten}
 use Rattle.stream_view.specs.RowChoices.{AreRowsIn}
@@ -32,6 +33,7 @@ is_on is_wanted colour.Never = false
 abbrev pub PictureWritten : Form → (is_wanted : Bool) → (before after : Option (List ℕ)) → Type 0
 PictureWritten (form.Text width colour) is_wanted before after = LinesWritten width (is_on is_wanted colour) before after
 PictureWritten form.Svg is_wanted before after = SomeSvgWritten before after
+PictureWritten form.Json is_wanted before after = (picture : Picture) × JsonWritten picture before after
 
 -- What was written: the picture, or nothing if there was no time line. If the drawing failed, what
 -- was written is left open.
@@ -48,6 +50,7 @@ time_range_of timeline = unwrap_or timeline.time_range (record { first = pos 0; 
 abbrev pub IsDrawn : Form → (is_wanted : Bool) → Picture → (before after : Option (List ℕ)) → Type 0
 IsDrawn (form.Text width colour) is_wanted picture before after = TextWritten width (is_on is_wanted colour) picture before after
 IsDrawn form.Svg is_wanted picture before after = SvgWritten picture before after
+IsDrawn form.Json is_wanted picture before after = JsonWritten picture before after
 
 -- A picture of this time line was written: of its time range, its figures, and the rows that are
 -- asked for.

@@ -2,6 +2,7 @@
 
 pub(crate) mod arguments;
 pub(crate) mod colour;
+pub(crate) mod conflicts;
 pub(crate) mod drawing;
 pub(crate) mod picture_fault;
 pub(crate) mod refusals;

@@ -1,10 +1,11 @@
-//! `applystream view`: draws the time line of a stream, as text or as one SVG.
+//! `applystream view`: draws the time line of a stream, as text or as one SVG, or prints it as JSON.
 #![tactic(auto)]
 
 mod captions;
 mod column;
 mod command;
 mod draw_fault;
+mod json;
 mod kind;
 mod laws;
 mod picture;
@@ -19,6 +20,7 @@ pub use command::picture_fault::PictureFault;
 pub use command::settings::{Form, Settings};
 pub use command::tool::View;
 pub use draw_fault::DrawFault;
+pub use json::drawing::draw_json;
 pub use laws::{
     colours_are_sequences_alone, no_line_has_a_control, what_comes_no_later_has_its_bar_no_further,
 };

@@ -2,8 +2,10 @@
 
 ghost use Rattle.std.specs.Prelude.{OnOk};
 ghost use Rattle.std.specs.Io.KnownBytes.{Appends, Keeps};
+ghost use Rattle.stream_view.specs.MessageTexts.{HasText};
 
 use crate::draw_fault::DrawFault;
+use crate::words::message_text::MessageText;
 use std::io::Write;
 use stream_tool::write_whole;
 
@@ -14,6 +16,17 @@ pub fn write_text<W: Write>(text: &str, out: &mut W) -> Result<(), DrawFault>
     ensures { OnOk result (Appends (W.contents out.old) (W.contents out.new) text.now) }
 {
     Ok(write_whole(out, text.as_bytes())?)
+}
+
+/// Writes the message. `DrawFault::Memory` if memory was refused while the message was made. The
+/// other errors are those of `write_text`.
+pub fn write_message<W: Write>(message: &MessageText, out: &mut W) -> Result<(), DrawFault>
+    ensures { (words : _) → HasText message.now words → OnOk result (Appends (W.contents out.old) (W.contents out.new) words) }
+{
+    if !message.is_whole() {
+        return Err(DrawFault::Memory);
+    }
+    Ok(write_whole(out, message.as_bytes())?)
 }
 
 /// Flushes the output. The errors are those of `write_text`.

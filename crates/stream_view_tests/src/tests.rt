@@ -2,6 +2,7 @@
 //! hostile texts. The pictures that `checks/views` compares cover words, widths and layouts.
 
 mod files;
+mod objects;
 mod streams;
 
 use files::Disk;
@@ -77,14 +78,14 @@ fn drawn(
     run_input(&PLAIN, rt, alloc, &settings, &mut input, out, faults)
 }
 
-/// Fails unless drawing the bytes as a text gives `wanted`.
-fn draws(rt: &(impl Abort + Files), alloc: Global, bytes: &str, wanted: &str) {
+/// Fails unless drawing the bytes in this form gives `wanted`.
+fn draws(rt: &(impl Abort + Files), alloc: Global, form: Form, bytes: &str, wanted: &str) {
     let mut out = WrittenOutput::new(alloc, usize::MAX, ErrorKind::StorageFull);
     let mut faults = Vec::new(alloc);
     let outcome = drawn(
         rt,
         alloc,
-        TEXT,
+        form,
         bytes.as_bytes(),
         false,
         &mut out,
@@ -124,7 +125,7 @@ fn refuses(
 
 #[test]
 fn one_create(rt: HostRuntime) {
-    draws(&rt, rt.alloc(), ONE_CREATE, ONE_CREATE_TEXT);
+    draws(&rt, rt.alloc(), TEXT, ONE_CREATE, ONE_CREATE_TEXT);
 }
 
 /// The writer fails at each byte of the text, and after the last one in a flush. Nothing is

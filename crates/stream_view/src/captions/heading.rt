@@ -135,14 +135,14 @@ fn push_uncompleted(text: &mut MessageText, picture: &Picture<'_>)
 }
 
 /// How many steps failed.
-fn failed_count(steps: &[Step]) -> usize
+pub fn failed_count(steps: &[Step]) -> usize
     ensures { result ≡ count_by (λ step. step.failed) steps.now }
 {
     steps.iter().filter(|step| step.has_failed()).count()
 }
 
 /// How many steps neither ended nor failed.
-fn open_count(steps: &[Step]) -> usize
+pub fn open_count(steps: &[Step]) -> usize
     ensures { result ≡ count_by is_not_ended steps.now }
 {
     steps.iter().filter(|step| is_open(step)).count()

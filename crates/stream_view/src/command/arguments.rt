@@ -5,18 +5,16 @@ ghost use Rattle.clap.specs.Faults.{is_simple_and_free};
 ghost use Rattle.clap.specs.Matches.{found_of};
 ghost use Rattle.clap.specs.Simple.{app_of, is_simple};
 ghost use Rattle.clap.specs.Walk.{one_of, rows_of as matched_rows, rule_of};
-ghost use Rattle.stream_view.specs.CommandLine.{AreRowsStated, AreStated, IsCommand, IsNumber, IsTextStated, TakesColours, TakesSorts, are_conflicting, colour_of_word, colour_rule, sort_of_word, sort_rule, stated_colour, stated_sort, is_given, number_named, option_named, rows_of_form, width_rule};
-ghost use Rattle.stream_tool.specs.Refused.{IsConflict, IsRefusal};
+ghost use Rattle.stream_view.specs.CommandLine.{AreRowsStated, AreStated, IsCommand, IsNumber, IsTextStated, TakesColours, TakesSorts, colour_of_word, colour_rule, sort_of_word, sort_rule, stated_colour, stated_sort, number_named, option_named, rows_of_form, width_rule};
 ghost use Rattle.stream_tool.specs.Words.{flag_rule};
 ghost use Rattle.stream_view.specs.declared.command.settings.Form.TheVariants as form;
 
 use crate::command::colour::Colour;
 use crate::command::settings::{Form, Settings};
 use crate::row_choice::{RowChoice, Sort};
-use clap::parser::ValueSource;
 use clap::{Arg, ArgMatches, Command, value_parser};
 use std::alloc::{AllocError, Global};
-use stream_tool::{FIND, Usage, file, file_of, flag, is_given, matches_of, with_option};
+use stream_tool::{FIND, file, file_of, flag, is_given, with_option};
 
 /// The values of `--color`.
 static COLOURS: [&str; 3] = ["auto", "always", "never"];
@@ -36,7 +34,7 @@ const ABOUT: &str =
     "Draws where the time of an apply went: which steps ran when, which ran at once, and what failed.
 
 Standard input: the stream of `terraform apply -json`, whole or cut off, unless FILE is named. It is read to its end.
-Standard output: the picture, as text, or as SVG with --svg.
+Standard output: the picture, as text, or as SVG with --svg. One JSON object with --json.
 Standard error: errors.";
 
 const AFTER: &str = r#"Example:
@@ -44,6 +42,9 @@ const AFTER: &str = r#"Example:
 
 Example of a picture to keep with the stream:
   applystream view --svg stream.jsonl > stream.svg
+
+Example of what a program compares:
+  applystream view --json stream.jsonl | jq '.steps | max_by(.length)'
 
 Example of a job's log:
   applystream view --find job.log
@@ -53,51 +54,24 @@ Exit status:
   2  wrong options, a file or a stream that can't be read, or a stream without a message
   3  out of memory, or the output could not be written"#;
 
-/// Returns the message about options that exclude each other, where such options were given.
-pub(crate) fn conflict(alloc: Global, words: &[String], matches: &ArgMatches<'_>) -> Option<Usage>
-    ensures { IsConflict (are_conflicting (matched_rows (found_of matches.now))) result }
-{
-    if are_conflicting(matches) {
-        Some(conflict_usage(alloc, words))
-    } else {
-        None
-    }
-}
-
-/// The message about options that exclude each other. A second parser, with rules for such
-/// conflicts, makes it. `clap` states the result of parsing only for commands without such rules,
-/// so the first parser has none.
-fn conflict_usage(alloc: Global, words: &[String]) -> Usage
-    ensures { IsRefusal result }
-{
-    let Ok(command) = strict_command(alloc) else {
-        return Usage::Memory;
-    };
-    match matches_of(alloc, command, words) {
-        Err(Usage::Words(text)) => Usage::Words(text),
-        _ => Usage::Memory,
-    }
-}
-
 /// Defines the options and their help. `Err` where memory is refused.
 pub(crate) fn command<'a>(alloc: Global) -> Result<Command<'a>, AllocError>
     ensures is { IfOk result (λ command. IsCommand (app_of command)) }
     ensures simple { IfOk result (λ command. is_simple (app_of command) ≡ true) }
     ensures free { IfOk result (λ command. is_simple_and_free (app_of command) ≡ true) }
 {
-    command_of(alloc, svg(alloc), all(alloc))
+    command_of(alloc, svg(alloc), json(alloc), all(alloc))
 }
 
-/// The command with rules for options that exclude each other. `Err` where memory is refused.
-fn strict_command<'a>(alloc: Global) -> Result<Command<'a>, AllocError> {
-    let svg = svg(alloc).conflicts_with("width")?.conflicts_with("color")?;
-    let all = all(alloc).conflicts_with("rows")?;
-    command_of(alloc, svg, all)
-}
-
-/// The command with these two options and the others. `Err` where memory is refused.
-fn command_of<'a>(alloc: Global, svg: Arg<'a>, all: Arg<'a>) -> Result<Command<'a>, AllocError>
+/// The command with these options and the others. `Err` where memory is refused.
+pub(crate) fn command_of<'a>(
+    alloc: Global,
+    svg: Arg<'a>,
+    json: Arg<'a>,
+    all: Arg<'a>,
+) -> Result<Command<'a>, AllocError>
     ensures { rule_of svg.entry ≡ flag_rule (codes "svg") → svg.entry.global ≡ false
+        → rule_of json.entry ≡ flag_rule (codes "json") → json.entry.global ≡ false
         → rule_of all.entry ≡ flag_rule (codes "all") → all.entry.global ≡ false
         → IfOk result (λ command. IsCommand (app_of command)) }
 {
@@ -108,6 +82,7 @@ fn command_of<'a>(alloc: Global, svg: Arg<'a>, all: Arg<'a>) -> Result<Command<'
             .after_help(AFTER),
     );
     let line = with_option(line, svg);
+    let line = with_option(line, json);
     let line = with_option(line, rows(alloc));
     let line = with_option(line, all);
     let line = with_option(line, sort(alloc));
@@ -127,13 +102,23 @@ fn option<'a>(alloc: Global, name: &'a str, value: &'a str, help: &'a str) -> Ar
         .help(help)
 }
 
-fn svg<'a>(alloc: Global) -> Arg<'a>
+pub(crate) fn svg<'a>(alloc: Global) -> Arg<'a>
     ensures { (rule_of result ≡ flag_rule (codes "svg")) × (result.global ≡ false) }
 {
     flag(alloc, "svg", "Draw an SVG in place of text")
 }
 
-fn all<'a>(alloc: Global) -> Arg<'a>
+pub(crate) fn json<'a>(alloc: Global) -> Arg<'a>
+    ensures { (rule_of result ≡ flag_rule (codes "json")) × (result.global ≡ false) }
+{
+    flag(
+        alloc,
+        "json",
+        "Print one JSON object of the time line in place of text",
+    )
+}
+
+pub(crate) fn all<'a>(alloc: Global) -> Arg<'a>
     ensures { (rule_of result ≡ flag_rule (codes "all")) × (result.global ≡ false) }
 {
     flag(alloc, "all", "Give every step a row")
@@ -173,25 +158,6 @@ fn color<'a>(alloc: Global) -> Arg<'a>
         .default_value("auto")
 }
 
-/// Whether options were given that exclude each other.
-fn are_conflicting(matches: &ArgMatches<'_>) -> bool
-    ensures { result ≡ are_conflicting (matched_rows (found_of matches.now)) }
-{
-    stands(matches, "svg") && (stands(matches, "width") || stands(matches, "color"))
-        || stands(matches, "all") && stands(matches, "rows")
-}
-
-/// Whether the option was given on the command line.
-fn stands(matches: &ArgMatches<'_>, option: &str) -> bool
-    ensures { result ≡ is_given option.now (matched_rows (found_of matches.now)) }
-{
-    match matches.value_source(option) {
-        Some(ValueSource::CommandLine) => true,
-        Some(ValueSource::DefaultValue) => false,
-        None => false,
-    }
-}
-
 /// Returns the settings of parsed arguments. `Err` where memory is refused.
 pub(crate) fn settings_of(alloc: Global, matches: &ArgMatches<'_>) -> Result<Settings, AllocError>
     ensures { IfOk result (AreStated (matched_rows (found_of matches.now))) }
@@ -209,14 +175,30 @@ pub(crate) fn settings_of(alloc: Global, matches: &ArgMatches<'_>) -> Result<Set
     })
 }
 
-/// The output: a text or an SVG.
+/// The output: an SVG, an object or a text.
 fn form_of(matches: &ArgMatches<'_>) -> Form
     ensures svg { one_of (codes "svg") (matched_rows (found_of matches.now)) ≡ Some (codes "true") → result ≡ form.Svg }
+    ensures json { one_of (codes "svg") (matched_rows (found_of matches.now)) ≡ Some (codes "false")
+        → one_of (codes "json") (matched_rows (found_of matches.now)) ≡ Some (codes "true") → result ≡ form.Json }
     ensures text { one_of (codes "svg") (matched_rows (found_of matches.now)) ≡ Some (codes "false")
+        → one_of (codes "json") (matched_rows (found_of matches.now)) ≡ Some (codes "false")
         → IsTextStated (matched_rows (found_of matches.now)) result }
 {
     if is_given(matches, "svg") {
         Form::Svg
+    } else {
+        form_but_svg(matches)
+    }
+}
+
+/// The output where no SVG is asked for: an object or a text.
+fn form_but_svg(matches: &ArgMatches<'_>) -> Form
+    ensures json { one_of (codes "json") (matched_rows (found_of matches.now)) ≡ Some (codes "true") → result ≡ form.Json }
+    ensures text { one_of (codes "json") (matched_rows (found_of matches.now)) ≡ Some (codes "false")
+        → IsTextStated (matched_rows (found_of matches.now)) result }
+{
+    if is_given(matches, "json") {
+        Form::Json
     } else {
         Form::Text {
             width: width_of(matches),
@@ -306,7 +288,7 @@ fn rows_in(form: Form) -> u32
     ensures { result ≡ rows_of_form form }
 {
     match form {
-        Form::Text { .. } => TEXT_ROWS,
+        Form::Text { .. } | Form::Json => TEXT_ROWS,
         Form::Svg => SVG_ROWS,
     }
 }

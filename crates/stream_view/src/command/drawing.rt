@@ -8,6 +8,7 @@ ghost use Rattle.stream_view.specs.declared.command.picture_fault.PictureFault.T
 use crate::command::picture_fault::PictureFault;
 use crate::command::settings::Form;
 use crate::draw_fault::DrawFault;
+use crate::json::drawing::draw_json;
 use crate::picture::Picture;
 use crate::row_choice::RowChoice;
 use crate::svg::drawing::draw_svg;
@@ -62,6 +63,7 @@ fn draw<W: Write>(
             draw_text(alloc, &picture, width, colour.is_on(is_colour_wanted), out)
         }
         Form::Svg => draw_svg(alloc, &picture, out),
+        Form::Json => draw_json(alloc, &picture, out),
     };
     match drawn {
         Ok(()) => Ok(()),

@@ -13,6 +13,8 @@ pub enum Form {
     Text { width: u32, colour: Colour },
     /// An SVG.
     Svg,
+    /// One JSON object, for programs.
+    Json,
 }
 
 /// The settings that the arguments after `view` give.

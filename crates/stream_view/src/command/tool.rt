@@ -4,7 +4,8 @@ ghost use Rattle.std.specs.Prelude.{is_err};
 ghost use Rattle.stream_view.specs.CommandLine.{arguments};
 ghost use Rattle.stream_view.specs.Viewed.{HasViewed, IsSilent};
 
-use crate::command::arguments::{command, conflict, settings_of};
+use crate::command::arguments::{command, settings_of};
+use crate::command::conflicts::conflict;
 use crate::command::drawing::draw_stream;
 use crate::command::picture_fault::PictureFault;
 use crate::command::refusals::refuse;

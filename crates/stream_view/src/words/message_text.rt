@@ -1,12 +1,15 @@
 //! A message that is put together piece by piece.
 
-ghost use Rattle.std.specs.Prelude.{◌≡◌, ◌<◌, ◌++◌, [], IfOk, codes};
+ghost use Rattle.std.specs.Prelude.{◌≡◌, ◌<◌, ◌++◌, [], IfOk, codes, string_bytes};
 ghost use Rattle.std.specs.Fmt.{decimal};
+ghost use Rattle.serde_json.specs.Data.{string};
+ghost use Rattle.serde_json.specs.Written.{compact_text};
 ghost use Rattle.term_text.specs.Fitting.{fitted};
 ghost use Rattle.term_text.specs.Fitted.{shown_characters};
 ghost use Rattle.stream_view.specs.MessageTexts.{HasText, AppendsText};
 ghost use Rattle.stream_view.specs.Words.{counted_words, duration_words, grouped, grouped_within, long_words, more_words, number_words, short_words, three_digits, two_digits};
 
+use serde_json::Value;
 use std::alloc::{AllocError, Global};
 use term_text::{ShownText, fitted};
 
@@ -97,6 +100,26 @@ impl MessageText {
         ensures { AppendsText self.old self.new (decimal number) }
     {
         match format!(in self.alloc; "{number}") {
+            Ok(text) => self.text(text.as_str()),
+            Err(_) => self.is_whole = false,
+        }
+    }
+
+    /// Adds a number of up to 128 bits.
+    pub fn wide_number(&mut self, number: u128)
+        ensures { AppendsText self.old self.new (decimal number) }
+    {
+        match format!(in self.alloc; "{number}") {
+            Ok(text) => self.text(text.as_str()),
+            Err(_) => self.is_whole = false,
+        }
+    }
+
+    /// Adds a text as a JSON string (RFC 8259, section 7).
+    pub fn json_string(&mut self, text: &str)
+        ensures { AppendsText self.old self.new (compact_text (string text.now)) }
+    {
+        match json_string(self.alloc, text) {
             Ok(text) => self.text(text.as_str()),
             Err(_) => self.is_whole = false,
         }
@@ -272,4 +295,11 @@ impl MessageText {
         }
         self.text("s");
     }
+}
+
+/// The text as a JSON string. `Err` means that memory was refused.
+fn json_string(alloc: Global, text: &str) -> Result<String, AllocError>
+    ensures { IfOk result (λ quoted. string_bytes quoted ≡ compact_text (string text.now)) }
+{
+    Value::try_from_str(alloc, text)?.to_string(alloc)
 }

@@ -13,6 +13,7 @@ use Rattle.stream_view.proofs.command.arguments.count_of.Goals as goal
 within : (asked : Form) → max 1 (min (rows_of_form asked) 100000) ≡ rows_of_form asked
 within (form.Text width colour) = omega arith
 within form.Svg = omega arith
+within form.Json = omega arith
 
 pub returns-clause-stated : goal.returns-clause-stated
 returns-clause-stated c =

@@ -1,7 +1,7 @@
 use Rattle.std.proofs.Common.{◌∙◌, ap, sym}
-use Rattle.stream_view.proofs.Drawn.{picture_written, svg_drawn, text_drawn}
+use Rattle.stream_view.proofs.Drawn.{json_drawn, picture_written, svg_drawn, text_drawn}
 use Rattle.stream_view.proofs.command.drawing.draw.Goals as goal
-use Rattle.stream_view.proofs.command.drawing.draw.Goals.{in-Text, in-Svg}
+use Rattle.stream_view.proofs.command.drawing.draw.Goals.{in-Text, in-Svg, in-Json}
 
 pub returns-in-Ok-drawn-clause-rows : goal.returns-in-Ok-drawn-clause-rows
 returns-in-Ok-drawn-clause-rows g c = record {
@@ -16,6 +16,8 @@ returns-in-Ok-drawn-clause-rows g c = record {
         w.draw_text-drawn.ensures.rows
     | in-Svg w ↦ svg_drawn c.args.form c.args.is_colour_wanted c.in-Ok.picture _ _ _ w.draw_svg-drawn.result w.in-Svg.is
         (sym w.drawn-is ∙ c.in-Ok-drawn.is) (ap g.W.Write.contents w.out-is) w.draw_svg-drawn.ensures.rows
+    | in-Json w ↦ json_drawn c.args.form c.args.is_colour_wanted c.in-Ok.picture _ _ _ w.draw_json-drawn.result w.in-Json.is
+        (sym w.drawn-is ∙ c.in-Ok-drawn.is) (ap g.W.Write.contents w.out-is) w.draw_json-drawn.ensures
   ];
 }
 

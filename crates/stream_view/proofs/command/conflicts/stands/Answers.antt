@@ -2,7 +2,7 @@ use Rattle.std.proofs.Common.{◌∙◌, ap, sym, Some}
 use Rattle.clap.specs.Matches.{found_of}
 use Rattle.stream_view.specs.CommandLine.{is_of_words}
 use Rattle.stream_view.proofs.Parsed.{source-rows}
-use Rattle.stream_view.proofs.command.arguments.stands.Goals as goal
+use Rattle.stream_view.proofs.command.conflicts.stands.Goals as goal
 
 pub returns-in-Some-CommandLine : goal.returns-in-Some-CommandLine
 returns-in-Some-CommandLine c =
