@@ -2,6 +2,7 @@
 
 import json
 import os
+import re
 import subprocess
 import tempfile
 from collections import Counter, namedtuple
@@ -220,11 +221,29 @@ def disorder(printed, wanted, plan, whole):
     return None
 
 
+def validate_line(words):
+    """The second line of a refusal: the command that says where and what, with the options of the run that it takes. The
+    program's own names of files need no quotes."""
+    values, rest = {}, iter(words)
+    for word in rest:
+        name, equals, value = word.partition("=")
+        if name in ("--script", "--parallelism", "--form"):
+            values[name] = value if equals else next(rest)
+    if values.get("--form") == "applystream":
+        del values["--form"]
+    options = "".join(f" {name} {values[name]}" for name in ("--script", "--parallelism", "--form") if name in values)
+    return f"applystream: applystream validate{options} says where and what\n"
+
+
 def mistake(found, wanted, plan, in_order, own=frozenset(), unwritten=OUTPUT):
     """What is wrong with how a run ended in which something was refused, beside one in which nothing was; or nothing.
     The allocations in `own` are threads' own, and `unwritten` has to be said of an output that could not be written."""
     met = met_first(found.told, own)
-    if (found.status, found.said) == (wanted.status, wanted.said):
+    said = [wanted.said]
+    if met == "memory":
+        # The options that `validate` takes too are left out where there is no memory for them.
+        said.append(re.sub(rb"(applystream validate) [^\n]*( says where and what\n)$", rb"\1\2", wanted.said))
+    if found.status == wanted.status and found.said in said:
         # It could do without, or nothing was refused.
         if in_order:
             return None if found.printed == wanted.printed else "another stream"

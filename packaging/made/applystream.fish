@@ -3,7 +3,7 @@ complete -c applystream -n __fish_use_subcommand -a check -d 'reports whether a 
 complete -c applystream -n __fish_use_subcommand -a play -d 'writes a stream of terraform apply -json in its own time'
 complete -c applystream -n __fish_use_subcommand -a view -d 'draws a stream of terraform apply -json, as text or SVG'
 complete -c applystream -n __fish_use_subcommand -a validate -d 'lists every error of a saved plan and a script'
-complete -c applystream -n 'not __fish_seen_subcommand_from check play view validate' -l at -x -d 'When the first steps start, in whole seconds: 1970-01-01T00:00:00Z to 8999-12-31T23:59:59Z, with any offset [default: 1970-01-01T00:00:00Z]'
+complete -c applystream -n 'not __fish_seen_subcommand_from check play view validate' -l at -x -d 'When the first steps start, in whole seconds: 1970-01-01T00:00:00Z to 8999-12-31T23:59:59Z, with any offset, or now [default: 1970-01-01T00:00:00Z]'
 complete -c applystream -n 'not __fish_seen_subcommand_from check play view validate' -l script -r -F -d 'A JSON file that says how long each step takes, how it ends and what it waits for, at most 64 MiB. Without it every step succeeds at once'
 complete -c applystream -n 'not __fish_seen_subcommand_from check play view validate' -l workers -x -d 'How many threads apply the changes, 1 to 8. They race: the order between changes may differ from run to run [default: 1]'
 complete -c applystream -n 'not __fish_seen_subcommand_from check play view validate' -l queue -x -d 'How many messages may wait to be written, 1 to 1024 [default: 64]'

@@ -12,12 +12,19 @@ use Rattle.apply_run.specs.declared.refusal.Refusal.{Refusal}
 use Rattle.apply_run.specs.declared.refusal.Refusal.TheVariants.{Plan, Script, Waits, Size, Fault}
 use Rattle.apply_cli.specs.declared.input_fault.InputFault.{InputFault}
 use Rattle.apply_cli.specs.declared.input_fault.InputFault.TheVariants as input
+use Rattle.apply_cli.specs.declared.script_file.ScriptFault.{ScriptFault}
+use Rattle.apply_cli.specs.declared.script_file.ScriptFault.TheVariants as script_fault
 use Rattle.apply_cli_args.specs.declared.usage.Usage.{Usage}
 use Rattle.apply_cli_args.specs.declared.usage.Usage.TheVariants as usage
 
 abbrev pub input_status_of : InputFault → ℕ
 input_status_of input.Read = 2
 input_status_of input.Memory = 3
+
+abbrev pub script_fault_status_of : ScriptFault → ℕ
+script_fault_status_of (script_fault.Unopened error) = 2
+script_fault_status_of (script_fault.Unread error) = 2
+script_fault_status_of script_fault.Memory = 3
 
 abbrev pub plan_status_of : PlanError → ℕ
 plan_status_of plan.TooLarge = 2
@@ -67,6 +74,7 @@ usage_status_of (usage.Help text) = 0
 usage_status_of usage.Version = 0
 usage_status_of (usage.Words text) = 2
 usage_status_of usage.Conflict = 2
+usage_status_of usage.Clock = 3
 usage_status_of (usage.Moment error) = 2
 usage_status_of usage.Hooks = 2
 usage_status_of usage.Memory = 3

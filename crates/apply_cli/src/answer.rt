@@ -11,7 +11,7 @@ use std::io::Write;
 use stream_tool::report;
 
 /// Reports why the arguments give no invocation, and returns the exit status: 0 for help and the
-/// version, 3 if memory was refused, else 2.
+/// version, 3 if memory was refused or the clock gave no present, else 2.
 ///
 /// Help and the version are printed on `out`, everything else on `faults`; the other one is
 /// unchanged. A text that cannot be written is dropped.
@@ -41,6 +41,10 @@ pub fn answer_usage<W: Write, E: Write>(usage: &Usage, out: &mut W, faults: &mut
                 "--parallelism takes no --workers and no --queue beside it",
             );
             REFUSED
+        }
+        Usage::Clock => {
+            report(faults, "the clock could not be read");
+            FAILED
         }
         Usage::Moment(error) => {
             report(faults, *error);

@@ -14,6 +14,7 @@ use crate::input::read_input;
 use crate::input_fault::InputFault;
 use crate::reporting::{report_refusal, report_unless_gone};
 use crate::run::{finish_reading, flush_unless_failed};
+use crate::shared_options::shared_options;
 use crate::status::{FAILED, input_status, refusal_status, run_status};
 use apply_cli_args::Settings;
 use apply_hooks::Registry;
@@ -198,7 +199,8 @@ fn run_bytes_in_lanes<W: Write + Drop, E: Write>(
             (output, FAILED)
         }
         Err(refusal) => {
-            report_refusal(&output, faults, refusal);
+            let options = shared_options(settings, Some(lanes), form);
+            report_refusal(alloc, &output, faults, bytes, options, refusal);
             (output, refusal_status(refusal))
         }
     }

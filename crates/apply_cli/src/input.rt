@@ -5,6 +5,7 @@ ghost use Rattle.std.specs.Io.KnownBytes.{Consumes, IsAtEnd};
 ghost use Rattle.apply_plan.specs.Bytes.{max_bytes};
 
 use crate::input_fault::InputFault;
+use crate::read_fault::ReadFault;
 use apply_plan::MAX_BYTES;
 use std::alloc::{AllocError, Global};
 use std::io::Read;
@@ -41,13 +42,17 @@ pub(crate) fn read_input<R: Read>(
             let is_whole = bytes.len() < MAX_READ;
             (Ok(bytes), is_whole)
         }
-        Err(fault) => (Err(fault), false),
+        Err(ReadFault::Failed(_)) => (Err(InputFault::Read), false),
+        Err(ReadFault::Memory) => (Err(InputFault::Memory), false),
     }
 }
 
 /// Returns the first bytes of the input, up to the limit, read through a buffer that this function
-/// allocates. `Err` as in `read_all`.
-fn read_through_buffer<R: Read>(alloc: Global, input: &mut R) -> Result<Vec<u8>, InputFault>
+/// allocates. `Err` if a read fails, or memory is refused.
+pub(crate) fn read_through_buffer<R: Read>(
+    alloc: Global,
+    input: &mut R,
+) -> Result<Vec<u8>, ReadFault>
     ensures bytes { IfOk result
         (λ bytes. IfSome (R.remaining input.old) (λ all. bytes.items ≡ take (max_bytes + 1) all)) }
     ensures few { IfOk result (λ bytes. length bytes.items ≤ max_bytes + 1) }
@@ -66,13 +71,13 @@ fn zeros(alloc: Global, count: usize) -> Result<Vec<u8>, AllocError>
 }
 
 /// Returns the first bytes of the input, up to the limit, read through the buffer. `Err` as in
-/// `read_all`.
+/// `read_through_buffer`.
 fn read_front<R: Read>(
     alloc: Global,
     input: &mut R,
     buffer: &mut [u8],
     limit: usize,
-) -> Result<Vec<u8>, InputFault>
+) -> Result<Vec<u8>, ReadFault>
     requires { 0 < length buffer.old }
     ensures bytes { IfOk result
         (λ bytes. IfSome (R.remaining input.old) (λ all. bytes.items ≡ take limit all)) }
@@ -90,12 +95,12 @@ fn read_front<R: Read>(
 }
 
 /// Appends the bytes of one read, and returns how many they are: 0 at the end. `Err` as in
-/// `read_all`.
+/// `read_through_buffer`.
 fn read_some<R: Read>(
     input: &mut R,
     buffer: &mut [u8],
     bytes: &mut Vec<u8>,
-) -> Result<usize, InputFault>
+) -> Result<usize, ReadFault>
     requires { 0 < length buffer.old }
     ensures { IfOk result (λ count. (piece : List ℕ)
         × (bytes.new.items ≡ bytes.old.items ++ piece)
@@ -109,6 +114,6 @@ fn read_some<R: Read>(
             bytes.extend_from_slice(&buffer[..count])?;
             Ok(count)
         }
-        Err(_) => Err(InputFault::Read),
+        Err(error) => Err(ReadFault::Failed(error)),
     }
 }

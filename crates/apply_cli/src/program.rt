@@ -13,9 +13,8 @@ ghost use Rattle.apply_cli.specs.Version.{AskForVersion, AskForVersionAlone, Was
 
 use crate::answer::{answer_usage, report_hook};
 use crate::in_lanes::run_in_form_and_lanes;
-use crate::input_fault::InputFault;
 use crate::run::run_command_in_form;
-use crate::script_file::{read_file, report_script};
+use crate::script_file::{ScriptFault, read_file, report_script};
 use crate::version::{answer_version, ask_for_version};
 use apply_cli_args::{Halt, Settings, Usage, read_invocation};
 use apply_hooks::{FnHook, Hook, HookCall, HookClosure, HookError, Registry, Rules};
@@ -28,6 +27,7 @@ use std::io::{ErrorKind, Read, Write};
 use std::rt::Files;
 use std::sync::Wait;
 use std::thread::Threads;
+use std::time::Clock;
 
 /// Returns the arguments of the command line, with the program's name.
 ///
@@ -44,15 +44,23 @@ pub fn given_words<R: Env + AllocGlobal>(rt: &R) -> Result<Vec<String>, Usage> {
 }
 
 /// Does what the arguments after the program's name ask for, and returns the output and the exit
-/// status.
+/// status. The clock gives the start if they state `--at now`.
 ///
 /// `answer_version` answers arguments that ask for the version, `answer_usage` those that
 /// `read_invocation` refuses, and `follow_invocation` all others. If a write fails since the reader
 /// of the output is gone, nothing is reported. Help that cannot be written is dropped, and does not
 /// count as a failure.
-pub fn follow<F: Files, R: Read + Drop, W: Write + Drop, E: Write, T: Threads + Wait + Sync>(
+pub fn follow<
+    F: Files,
+    C: Clock,
+    R: Read + Drop,
+    W: Write + Drop,
+    E: Write,
+    T: Threads + Wait + Sync,
+>(
     rt: &T,
     files: &F,
+    clock: &C,
     alloc: Global,
     words: &[String],
     input: R,
@@ -82,7 +90,7 @@ pub fn follow<F: Files, R: Read + Drop, W: Write + Drop, E: Write, T: Threads + 
         let status = answer_version(&mut output, faults);
         return (output, status);
     }
-    match read_invocation(alloc, words) {
+    match read_invocation(clock, alloc, words) {
         Ok(invocation) => follow_invocation(
             rt,
             files,
@@ -234,7 +242,7 @@ fn run_with_hooks<F: Files, R: Read + Drop, W: Write + Drop, E: Write, T: Thread
     let script = match script_of(files, alloc, settings) {
         Ok(script) => script,
         Err(fault) => {
-            let status = report_script(faults, fault);
+            let status = report_script(alloc, faults, script_name(settings), fault);
             return (output, status);
         }
     };
@@ -294,7 +302,7 @@ fn script_of<F: Files>(
     files: &F,
     alloc: Global,
     settings: &Settings,
-) -> Result<Option<Vec<u8>>, InputFault>
+) -> Result<Option<Vec<u8>>, ScriptFault>
     ensures { IfOk result (λ bytes.
         AreOfName (IsFrontOfFile F.File.remaining) settings.now.script (option_map (λ b. b.items) bytes)) }
 {
@@ -304,5 +312,13 @@ fn script_of<F: Files>(
             Err(fault) => Err(fault),
         },
         None => Ok(None),
+    }
+}
+
+/// Returns the name of the script's file, or no text if the settings name none.
+fn script_name(settings: &Settings) -> &str {
+    match &settings.script {
+        Some(name) => name.as_str(),
+        None => "",
     }
 }

@@ -14,6 +14,7 @@ use crate::input::read_input;
 use crate::input_fault::InputFault;
 use crate::options::run_options;
 use crate::reporting::{report_refusal, report_unless_gone};
+use crate::shared_options::shared_options;
 use crate::status::{FAILED, input_status, refusal_status, run_status};
 use apply_cli_args::Settings;
 use apply_hooks::Registry;
@@ -243,7 +244,8 @@ pub fn run_bytes<W: Write + Drop, E: Write, T: Threads + Wait + Sync>(
             (output, FAILED)
         }
         Err(refusal) => {
-            report_refusal(&output, faults, refusal);
+            let options = shared_options(settings, None, form);
+            report_refusal(alloc, &output, faults, bytes, options, refusal);
             (output, refusal_status(refusal))
         }
     }

@@ -34,6 +34,7 @@ pub fn follow_standard<T: Threads + Wait + Sync>(
     let (output, status) = follow(
         threads,
         rt,
+        rt,
         rt.alloc(),
         words,
         input,

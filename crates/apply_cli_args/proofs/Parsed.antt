@@ -1,5 +1,5 @@
 -- From the words to what the matches say, and to why they are refused.
-use Rattle.std.proofs.Common.{◌≡◌, ◌∙◌, List, [], Result, Ok, Err, true, ap, inl, inr, refl, subst, sym}
+use Rattle.std.proofs.Common.{◌≡◌, ◌∙◌, List, [], None, Result, Ok, Err, true, ap, inl, inr, refl, subst, sym}
 use Rattle.std.proofs.lemmas.Result.{IfErr-weaker, IfOk-weaker}
 use Rattle.std.specs.Prelude.{IfErr, IfOk}
 use Rattle.clap.specs.Faults.{fault_of, is_simple_and_free}
@@ -65,13 +65,13 @@ rows_are {P} {TakeWords} {line} {command} {words} {parse} matches is has =
 -- settings that the matches say are those that the words say
 pub have_stated : {command : Command} {words : List Text} {parse : Result ArgMatches Error} (matches : ArgMatches) (settings : Result Settings Usage)
     → IsParse (IsOneOf kind_words) settings_line command words parse → parse ≡ Ok matches → HasMatchesOf (app_of command) words matches
-    → IfOk settings (AreStatedSettings (rows_of (found_of matches))) → IfOk settings (HaveStatedSettings words)
+    → IfOk settings (AreStatedSettings None (rows_of (found_of matches))) → IfOk settings (HaveStatedSettings words)
 have_stated {command} {words} {parse} matches settings is ok has =
-    IfOk-weaker settings (AreStatedSettings (rows_of (found_of matches))) (HaveStatedSettings words) (λ s stated. record {
+    IfOk-weaker settings (AreStatedSettings None (rows_of (found_of matches))) (HaveStatedSettings words) (λ s stated. record {
       kinds = is.parsers;
       are_kinds = is.take_words;
       parsed = faults_are (Ok matches) is ok;
-      stated = subst (λ (rows : List Row). AreStatedSettings rows s) (rows_are matches is has) stated;
+      stated = subst (λ (rows : List Row). AreStatedSettings None rows s) (rows_are matches is has) stated;
     })
 
 -- an invocation that the matches say is the one that the words say
@@ -94,9 +94,9 @@ pub record IsOfRows (IsWrong : List Row → Usage → Type 0) : Type 0 where
   pub no_words : (rows : List Row) (text : Text) → IsWrong rows (usage.Words text) → ⊥
 
 pub invocation_is_of_rows : IsOfRows (λ rows why. IsNoInvocation rows why)
-invocation_is_of_rows = record { no_help = λ rows text wrong. wrong.1; no_version = λ rows wrong. wrong.1; no_words = λ rows text wrong. wrong.1 }
+invocation_is_of_rows = record { no_help = λ rows text wrong. wrong.1.1; no_version = λ rows wrong. wrong.1.1; no_words = λ rows text wrong. wrong.1.1 }
 
-pub settings_are_of_rows : IsOfRows (λ rows why. AreNoSettings rows why)
+pub settings_are_of_rows : IsOfRows (λ rows why. AreNoSettings None rows why)
 settings_are_of_rows = record { no_help = λ rows text wrong. wrong; no_version = λ rows wrong. wrong; no_words = λ rows text wrong. wrong }
 
 -- words that were parsed, but state something wrong
@@ -115,6 +115,7 @@ are_wrong {P} {TakeWords} {line} {command} {words} {parse} IsWrong matches state
     cause usage.Version wrong = absurd (of_rows.no_version _ wrong)
     cause (usage.Words text) wrong = absurd (of_rows.no_words _ text wrong)
     cause usage.Conflict wrong = inr (is.parsers, is.take_words, (parsed, wrong))
+    cause usage.Clock wrong = inr (is.parsers, is.take_words, (parsed, wrong))
     cause (usage.Moment error) wrong = inr (is.parsers, is.take_words, (parsed, wrong))
     cause usage.Hooks wrong = inr (is.parsers, is.take_words, (parsed, wrong))
     cause usage.Memory wrong = inl refl
@@ -138,6 +139,7 @@ are_refused {P} {TakeWords} {line} {command} {words} {parse} IsWrong error why i
     cause (usage.Words text) (inl memory) other = absurd (other.0 memory)
     cause (usage.Words text) (inr among) other = inr (is.parsers, is.take_words, (kind_of error, other.1, other.2, among))
     cause usage.Conflict has answers = absurd answers
+    cause usage.Clock has answers = absurd answers
     cause (usage.Moment wrong) has answers = absurd answers
     cause usage.Hooks has answers = absurd answers
     cause usage.Memory has answers = inl refl

@@ -1,6 +1,6 @@
 -- The command line: its options as `clap` parses them, what the words state, and why they are
 -- refused.
-use Rattle.std.specs.Prelude.{◌≡◌, ◌≤◌, ◌<◌, ◌++◌, ◌⊎◌, ◌&&◌, ◌||◌, ⊤, ℕ, Bool, List, [], ◌∷◌, Option, Some, None, IfSome, IsOk, Ok, Err, true, false, codes, find, length, map, option_and_then, pos, unwrap_or, if◌then◌else◌}
+use Rattle.std.specs.Prelude.{◌≡◌, ◌≤◌, ◌<◌, ◌++◌, ◌⊎◌, ◌&&◌, ◌||◌, ⊤, ℕ, Bool, List, [], ◌∷◌, Option, Some, None, IfSome, IsOk, Ok, Err, Result, true, false, codes, find, length, map, option_and_then, pos, unwrap_or, if◌then◌else◌}
 use Rattle.std.specs.Borrow.{Bor}
 use Rattle.std.specs.Option.{option_map_or}
 use Rattle.std.specs.Str.{bytes_eq}
@@ -22,6 +22,7 @@ use Rattle.apply_hooks.specs.Hooks.{max_hooks}
 use Rattle.apply_text_terraform.specs.declared.form.Form.{Form}
 use Rattle.apply_text_terraform.specs.declared.form.Form.TheVariants.{Applystream, Terraform}
 use Rattle.apply_text.specs.Start.{start_of}
+use Rattle.apply_text.specs.declared.start.MomentError.{MomentError}
 use Rattle.apply_text.specs.declared.operation.Operation.TheVariants.{Apply, Destroy}
 use Rattle.apply_cli_args.specs.declared.halt.Halt.{Halt}
 use Rattle.apply_cli_args.specs.declared.halt.Halt.TheVariants.{Before, Inside}
@@ -136,9 +137,23 @@ stated_halts rows =
     map (λ word. Before (kind_of_word word)) (unwrap_or (all_of (codes "halt-before") rows) [])
     ++ map Inside (unwrap_or (all_of (codes "halt-in") rows) [])
 
--- each setting is what its own option states
-pub record AreStatedSettings (rows : List Row) (settings : Settings) : Type 0 where
-  pub at : option_map_or start_of (first_of (codes "at") rows) (Ok 0) ≡ Ok settings.at
+-- the start that a text names: the present, if there is one and the text is `now`, else the
+-- timestamp that the text is
+abbrev pub start_read : (now : Option ℕ) → (text : Text) → Result ℕ MomentError
+start_read None text = start_of text
+start_read (Some present) text = if bytes_eq text (codes "now") then Ok present else start_of text
+
+-- the start that the option states
+abbrev pub stated_start : (now : Option ℕ) → List Row → Result ℕ MomentError
+stated_start now rows = option_map_or (start_read now) (first_of (codes "at") rows) (Ok 0)
+
+-- the start is `now`
+abbrev pub asks_for_now : List Row → Bool
+asks_for_now rows = option_map_or (λ text. bytes_eq text (codes "now")) (first_of (codes "at") rows) false
+
+-- each setting is what its own option states, with this present for `now`
+pub record AreStatedSettings (now : Option ℕ) (rows : List Row) (settings : Settings) : Type 0 where
+  pub at : stated_start now rows ≡ Ok settings.at
   pub script : settings.script ≡ first_of (codes "script") rows
   pub workers : IfSome (one_of (codes "workers") rows) (λ text. IsNumber 8 text settings.workers)
   pub queue : IfSome (one_of (codes "queue") rows) (λ text. IsNumber 1024 text settings.queue)
@@ -146,12 +161,13 @@ pub record AreStatedSettings (rows : List Row) (settings : Settings) : Type 0 wh
   pub apply : one_of (codes "destroy") rows ≡ Some (codes "false") → settings.operation ≡ Apply
   pub halts : settings.halts.items ≡ stated_halts rows
 
--- the words were parsed by the command of the settings alone, and the settings are what they state
+-- the words were parsed by the command of the settings alone, and the settings are what they state;
+-- there is no present
 pub record HaveStatedSettings (words : List Text) (settings : Settings) : Type 0 where
   pub kinds : ValueParser
   pub are_kinds : IsOneOf kind_words kinds
   pub parsed : fault_of (settings_line kinds) words ≡ []
-  pub stated : AreStatedSettings (matches_of (settings_line kinds) words) settings
+  pub stated : AreStatedSettings None (matches_of (settings_line kinds) words) settings
 
 -- there is a parallelism if its option is given, and it is the number that is stated
 pub record IsParallelism (rows : List Row) (parallelism : Option ℕ) : Type 0 where
@@ -183,21 +199,22 @@ is_conflict rows =
 -- ---- why they are refused
 
 -- the options were parsed, but state no settings
-abbrev pub AreNoSettings : List Row → Usage → Type 0
-AreNoSettings rows (usage.Help text) = ⊥
-AreNoSettings rows usage.Version = ⊥
-AreNoSettings rows (usage.Words text) = ⊥
-AreNoSettings rows usage.Conflict = ⊥
-AreNoSettings rows (usage.Moment error) = option_map_or start_of (first_of (codes "at") rows) (Ok 0) ≡ Err error
-AreNoSettings rows usage.Hooks =
-    IsOk (option_map_or start_of (first_of (codes "at") rows) (Ok 0)) × (max_hooks < length (stated_halts rows))
-AreNoSettings rows usage.Memory = ⊤
+abbrev pub AreNoSettings : (now : Option ℕ) → List Row → Usage → Type 0
+AreNoSettings now rows (usage.Help text) = ⊥
+AreNoSettings now rows usage.Version = ⊥
+AreNoSettings now rows (usage.Words text) = ⊥
+AreNoSettings now rows usage.Conflict = ⊥
+AreNoSettings now rows usage.Clock = ⊥
+AreNoSettings now rows (usage.Moment error) = stated_start now rows ≡ Err error
+AreNoSettings now rows usage.Hooks = IsOk (stated_start now rows) × (max_hooks < length (stated_halts rows))
+AreNoSettings now rows usage.Memory = ⊤
 
--- the options state no invocation: a parallelism is given where it may not be, or they state no
--- settings
+-- the options state no invocation: a parallelism is given where it may not be, they ask for a
+-- present that the clock does not give, or they state no settings with the present that it gives
 abbrev pub IsNoInvocation : List Row → Usage → Type 0
 IsNoInvocation rows usage.Conflict = is_conflict rows ≡ true
-IsNoInvocation rows why = (is_conflict rows ≡ false) × AreNoSettings rows why
+IsNoInvocation rows usage.Clock = (is_conflict rows ≡ false) × (asks_for_now rows ≡ true)
+IsNoInvocation rows why = (is_conflict rows ≡ false) × ((present : ℕ) × AreNoSettings (Some present) rows why)
 
 -- the usage for an error of that kind: help if help was asked for, the version if the version was
 abbrev pub Answers : ErrorKind → Usage → Type 0
@@ -205,6 +222,7 @@ Answers kind (usage.Help text) = kind ≡ DisplayHelp
 Answers kind usage.Version = kind ≡ DisplayVersion
 Answers kind (usage.Words text) = (kind ≡ OutOfMemory → ⊥) × (kind ≡ DisplayHelp → ⊥) × (kind ≡ DisplayVersion → ⊥)
 Answers kind usage.Conflict = ⊥
+Answers kind usage.Clock = ⊥
 Answers kind (usage.Moment error) = ⊥
 Answers kind usage.Hooks = ⊥
 Answers kind usage.Memory = ⊤
@@ -230,7 +248,7 @@ WereRefused words why = HasCause AreChoices command_line IsNoInvocation words wh
 
 -- the words state no settings, by the options of the settings alone
 abbrev pub StateNoSettings : List Text → Usage → Type 0
-StateNoSettings words why = HasCause (IsOneOf kind_words) settings_line AreNoSettings words why
+StateNoSettings words why = HasCause (IsOneOf kind_words) settings_line (AreNoSettings None) words why
 
 -- the words ask for this, among other errors
 abbrev pub AskAmong : ErrorKind → List Text → Type 0

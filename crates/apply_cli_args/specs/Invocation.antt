@@ -1,6 +1,6 @@
 -- What the whole command line states: the settings, how many changes run at once, and the form of
 -- the stream.
-use Rattle.std.specs.Prelude.{◌≡◌, List, [], IfSome, false}
+use Rattle.std.specs.Prelude.{◌≡◌, ℕ, List, [], IfSome, Some, false}
 use Rattle.clap.specs.Faults.{fault_of}
 use Rattle.clap.specs.Simple.{matches_of}
 use Rattle.clap.specs.Walk.{Row, Text}
@@ -14,11 +14,12 @@ pub record IsInRange (invocation : Invocation) : Type 0 where
   pub settings : AreInRange invocation.settings
   pub parallelism : IfSome invocation.parallelism AreLanes
 
--- settings, parallelism and form are what their options state, and `--parallelism` is not given
--- with `--workers` or `--queue`
+-- settings, parallelism and form are what their options state, with what the clock gave as the
+-- present, and `--parallelism` is not given with `--workers` or `--queue`
 pub record IsInvoked (rows : List Row) (invocation : Invocation) : Type 0 where
   pub alone : is_conflict rows ≡ false
-  pub settings : AreStatedSettings rows invocation.settings
+  pub present : ℕ
+  pub settings : AreStatedSettings (Some present) rows invocation.settings
   pub parallelism : IsParallelism rows invocation.parallelism
   pub form : invocation.form ≡ stated_form rows
 

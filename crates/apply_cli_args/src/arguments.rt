@@ -1,19 +1,18 @@
 //! The options of the command line, and the settings that they state.
 
 ghost use Rattle.std.specs.Prelude.{◌≡◌, ◌≤◌, ◌∷◌, [], Some, false, Ok, IfOk, IfErr, IfSome, codes, map, string_bytes};
-ghost use Rattle.std.specs.Option.{option_map_or};
 ghost use Rattle.clap.specs.Matches.{found_of};
 ghost use Rattle.clap.specs.Simple.{App, app_of, with_rule};
 ghost use Rattle.clap.specs.Values.{kind_of};
 ghost use Rattle.clap.specs.Walk.{Rule, first_of, one_of, rows_of, rule_of};
 ghost use Rattle.apply_cli_args.specs.CommandLine as spec;
 ghost use Rattle.apply_cli_args.specs.CommandLine.{Answers, AreStatedSettings, HaveStatedSettings, IsNumber, IsOneOf, AreNoSettings, StateNoSettings};
-ghost use Rattle.apply_cli_args.specs.CommandLine.{stated_halts, kind_of_word};
-ghost use Rattle.apply_text.specs.Start.{start_of as stated_start};
+ghost use Rattle.apply_cli_args.specs.CommandLine.{start_read, stated_halts, stated_start, kind_of_word};
 ghost use Rattle.apply_cli_args.specs.Settings.{AreInRange};
 
 use crate::halt::Halt;
 use crate::settings::Settings;
+use crate::tips::push_tip;
 use crate::usage::Usage;
 use crate::version::VERSION;
 use apply_hooks::MAX_HOOKS;
@@ -55,19 +54,10 @@ Exit status:
   0  all messages were written, and no step failed or was halted; or help or the version was printed
   1  all messages were written, and a step failed or was halted; with --form terraform also where they report an error of no step
   2  the options, the plan or the script were refused or could not be read: no message was written
-  3  out of memory, no thread, or the output could not be written: some messages may have been written"#;
-
-/// Printed after the error of an argument that is no option. Such an argument is mostly the file of
-/// a plan.
-const PLAN_TIP: &str =
-    "\n  tip: a plan is read from standard input, as in: applystream < plan.json\n";
-
-/// Printed after the error of an option with one dash, which Terraform would accept.
-const DASH_TIP: &str =
-    "\n  tip: options have two dashes here, as in: applystream --parallelism=10\n";
+  3  out of memory, no thread, no clock, or the output could not be written: some messages may have been written"#;
 
 /// Reads the arguments after the program's name, without `--parallelism` and `--form`: the part of
-/// `read_invocation` that knows workers only.
+/// `read_invocation` that knows workers only. It reads no clock, so `--at now` is no timestamp.
 ///
 /// `Err` with `Usage::Help` if help is asked for, and with `Usage::Version` if the version is. Else
 /// `Err` with `Usage::Words` if an argument is not one of these options. Else `Err` with
@@ -82,8 +72,8 @@ pub fn read_words(alloc: Global, words: &[String]) -> Result<Settings, Usage>
 {
     let command = settings_command(alloc)?;
     match command.try_get_matches_from(words) {
-        Ok(matches) => settings_of(alloc, &matches),
-        Err(error) => Err(usage_of(alloc, &error)?),
+        Ok(matches) => settings_of(alloc, None, &matches),
+        Err(error) => Err(usage_of(alloc, words, &error)?),
     }
 }
 
@@ -148,7 +138,7 @@ fn at<'a>(alloc: Global) -> Arg<'a>
     ensures { (rule_of result ≡ record (spec.option_named (codes "at")) { defaults = codes "1970-01-01T00:00:00Z" ∷ [] }) × (result.global ≡ false) }
 {
     let help =
-        "When the first steps start, in whole seconds: 1970-01-01T00:00:00Z to 8999-12-31T23:59:59Z, with any offset";
+        "When the first steps start, in whole seconds: 1970-01-01T00:00:00Z to 8999-12-31T23:59:59Z, with any offset, or now";
     option_named(alloc, "at", "MOMENT", help).default_value("1970-01-01T00:00:00Z")
 }
 
@@ -246,13 +236,18 @@ fn is_given(matches: &ArgMatches<'_>, option: &str) -> bool
     }
 }
 
-/// Returns the settings that the matches state. `Err` as `read_words` gives it.
-pub(crate) fn settings_of(alloc: Global, matches: &ArgMatches<'_>) -> Result<Settings, Usage>
+/// Returns the settings that the matches state. `now` is the start for which `--at now` stands;
+/// without it, `now` is no timestamp. `Err` as `read_words` gives it.
+pub(crate) fn settings_of(
+    alloc: Global,
+    now: Option<Start>,
+    matches: &ArgMatches<'_>,
+) -> Result<Settings, Usage>
     ensures in_range { IfOk result AreInRange }
-    ensures stated { IfOk result (AreStatedSettings (rows_of (found_of matches.now))) }
-    ensures refused { IfErr result (AreNoSettings (rows_of (found_of matches.now))) }
+    ensures stated { IfOk result (AreStatedSettings now (rows_of (found_of matches.now))) }
+    ensures refused { IfErr result (AreNoSettings now (rows_of (found_of matches.now))) }
 {
-    let at = match start_of(matches) {
+    let at = match start_of(now, matches) {
         Ok(start) => start,
         Err(error) => return Err(Usage::Moment(error)),
     };
@@ -271,12 +266,37 @@ pub(crate) fn settings_of(alloc: Global, matches: &ArgMatches<'_>) -> Result<Set
 }
 
 /// Returns the start that is stated, or the start of 1970. `Err` if the text is not a timestamp.
-fn start_of(matches: &ArgMatches<'_>) -> Result<Start, MomentError>
-    ensures { result ≡ option_map_or stated_start (first_of (codes "at") (rows_of (found_of matches.now))) (Ok 0) }
+fn start_of(now: Option<Start>, matches: &ArgMatches<'_>) -> Result<Start, MomentError>
+    ensures { result ≡ stated_start now (rows_of (found_of matches.now)) }
 {
     match matches.get_str("at") {
-        Some(moment) => Start::read(moment),
+        Some(moment) => read_start(now, moment),
         None => Ok(Start::zero()),
+    }
+}
+
+/// Reads a start, which the text `now` names too if there is a present. `Err` if the text is not a
+/// timestamp.
+fn read_start(now: Option<Start>, text: &str) -> Result<Start, MomentError>
+    ensures { result ≡ start_read now text.now }
+{
+    match now {
+        Some(present) => if text == "now" {
+            Ok(present)
+        } else {
+            Start::read(text)
+        },
+        None => Start::read(text),
+    }
+}
+
+/// Whether the start is `now`.
+pub(crate) fn asks_for_now(matches: &ArgMatches<'_>) -> bool
+    ensures { result ≡ spec.asks_for_now (rows_of (found_of matches.now)) }
+{
+    match matches.get_str("at") {
+        Some(moment) => moment == "now",
+        None => false,
     }
 }
 
@@ -351,7 +371,11 @@ fn step_kind(word: &str) -> StepKind
 }
 
 /// Returns the usage for an error of the parser. `Err` if memory is refused.
-pub(crate) fn usage_of(alloc: Global, error: &clap::Error) -> Result<Usage, AllocError>
+pub(crate) fn usage_of(
+    alloc: Global,
+    words: &[String],
+    error: &clap::Error,
+) -> Result<Usage, AllocError>
     ensures { IfOk result (Answers (kind_of error.now)) }
 {
     if error.kind() == ErrorKind::OutOfMemory {
@@ -364,19 +388,6 @@ pub(crate) fn usage_of(alloc: Global, error: &clap::Error) -> Result<Usage, Allo
     if error.kind() == ErrorKind::DisplayHelp {
         return Ok(Usage::Help(Text::new(alloc, text.as_str())?));
     }
-    let tip = tip_behind(error.kind(), text.as_str());
-    text.push_str(tip)?;
+    push_tip(alloc, &mut text, error.kind(), words)?;
     Ok(Usage::Words(Text::new(alloc, text.as_str())?))
-}
-
-/// Returns the tip that follows the parser's error for an unknown argument. The kind of the error
-/// does not show what sort of argument it was; only the text does.
-fn tip_behind(kind: ErrorKind, text: &str) -> &'static str {
-    if kind != ErrorKind::UnknownArgument || text.starts_with("error: unexpected argument '--") {
-        ""
-    } else if text.starts_with("error: unexpected argument '-") {
-        DASH_TIP
-    } else {
-        PLAN_TIP
-    }
 }

@@ -1,19 +1,22 @@
 //! Reads the whole command line.
 
-ghost use Rattle.std.specs.Prelude.{◌≡◌, IfOk, IfErr, IfSome, map, string_bytes};
+ghost use Rattle.std.specs.Prelude.{◌≡◌, IfOk, IfErr, IfSome, None, map, string_bytes, true};
 ghost use Rattle.clap.specs.Matches.{found_of};
 ghost use Rattle.clap.specs.Walk.{rows_of};
 ghost use Rattle.apply_events.specs.Lanes.{AreLanes};
-ghost use Rattle.apply_cli_args.specs.CommandLine.{IsParallelism, IsNoInvocation, WereRefused, form_of_word, stated_form};
+ghost use Rattle.apply_cli_args.specs.CommandLine.{asks_for_now, IsParallelism, IsNoInvocation, WereRefused, form_of_word, stated_form};
 ghost use Rattle.apply_cli_args.specs.Invocation.{HaveInvoked, IsInRange, IsInvoked};
 
-use crate::arguments::{command, is_conflict, settings_of, usage_of};
+use crate::arguments::{asks_for_now, command, is_conflict, settings_of, usage_of};
+use crate::present::present_start;
 use crate::settings::Settings;
 use crate::usage::Usage;
 use apply_events::MAX_LANES;
+use apply_text::Start;
 use apply_text_terraform::Form;
 use clap::ArgMatches;
 use std::alloc::Global;
+use std::time::Clock;
 
 /// All that the command line asks for.
 #[derive(Debug, Drop)]
@@ -27,29 +30,37 @@ pub struct Invocation {
     pub form: Form,
 }
 
-/// Reads the arguments after the program's name.
+/// Reads the arguments after the program's name. The clock is read only for `--at now`.
 ///
 /// `Err` with `Usage::Help` if help is asked for, and with `Usage::Version` if the version is. Else
 /// `Err` with `Usage::Words` if an argument is not one of this program. Else `Err` with
 /// `Usage::Conflict` if `--parallelism` is given with `--workers` or `--queue`. Else `Err` with
-/// `Usage::Moment` if the start is not a timestamp. Else `Err` with `Usage::Hooks` if there are
-/// more than 32 halts.
+/// `Usage::Clock` if the start is `now` and the clock gives none. Else `Err` with `Usage::Moment`
+/// if the start is not a timestamp. Else `Err` with `Usage::Hooks` if there are more than 32 halts.
 ///
 /// `Err` with `Usage::Memory` if memory is refused.
-pub fn read_invocation(alloc: Global, words: &[String]) -> Result<Invocation, Usage>
+pub fn read_invocation<C: Clock>(
+    clock: &C,
+    alloc: Global,
+    words: &[String],
+) -> Result<Invocation, Usage>
     ensures in_range { IfOk result IsInRange }
     ensures stated { IfOk result (HaveInvoked (map string_bytes words.now)) }
     ensures refused { IfErr result (WereRefused (map string_bytes words.now)) }
 {
     let command = command(alloc)?;
     match command.try_get_matches_from(words) {
-        Ok(matches) => invocation_of(alloc, &matches),
-        Err(error) => Err(usage_of(alloc, &error)?),
+        Ok(matches) => invocation_of(clock, alloc, &matches),
+        Err(error) => Err(usage_of(alloc, words, &error)?),
     }
 }
 
 /// Returns the invocation that the matches state.
-fn invocation_of(alloc: Global, matches: &ArgMatches<'_>) -> Result<Invocation, Usage>
+fn invocation_of<C: Clock>(
+    clock: &C,
+    alloc: Global,
+    matches: &ArgMatches<'_>,
+) -> Result<Invocation, Usage>
     ensures in_range { IfOk result IsInRange }
     ensures stated { IfOk result (IsInvoked (rows_of (found_of matches.now))) }
     ensures refused { IfErr result (IsNoInvocation (rows_of (found_of matches.now))) }
@@ -57,13 +68,28 @@ fn invocation_of(alloc: Global, matches: &ArgMatches<'_>) -> Result<Invocation, 
     if is_conflict(matches) {
         return Err(Usage::Conflict);
     }
-    match settings_of(alloc, matches) {
+    let Some(now) = now_for(clock, matches) else {
+        return Err(Usage::Clock);
+    };
+    match settings_of(alloc, Some(now), matches) {
         Ok(settings) => Ok(Invocation {
             settings,
             parallelism: parallelism_of(matches),
             form: form_of(matches),
         }),
         Err(usage) => Err(usage),
+    }
+}
+
+/// Returns the start for which `now` stands: the present if the matches ask for it, and any start
+/// otherwise. `None` if they ask for it and the clock gives none.
+fn now_for<C: Clock>(clock: &C, matches: &ArgMatches<'_>) -> Option<Start>
+    ensures { result ≡ None → asks_for_now (rows_of (found_of matches.now)) ≡ true }
+{
+    if asks_for_now(matches) {
+        present_start(clock)
+    } else {
+        Some(Start::zero())
     }
 }
 

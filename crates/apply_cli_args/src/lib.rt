@@ -4,7 +4,9 @@
 mod arguments;
 mod halt;
 mod invocation;
+mod present;
 mod settings;
+mod tips;
 mod usage;
 mod version;
 

@@ -19,6 +19,8 @@ pub enum Usage {
     Words(Text),
     /// `--parallelism` is given together with `--workers` or `--queue`.
     Conflict,
+    /// `--at now` is given, and the clock could not be read, or its time is after 8999.
+    Clock,
     /// The value of `--at` is not a timestamp, or out of range.
     Moment(MomentError),
     /// There are more than 32 halts.

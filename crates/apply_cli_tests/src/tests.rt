@@ -21,7 +21,7 @@ use apply_cli::{
 use apply_hooks::Registry;
 use apply_plan::{PlanError, ScriptError, StepKind, Text};
 use apply_run::{MAX_LANES, Options, Refusal, StdSink};
-use apply_text::{Operation, Start};
+use apply_text::{MomentError, Operation, Start};
 use apply_text_terraform::Form;
 use std::alloc::Global;
 use std::fmt::Debug;
@@ -31,6 +31,7 @@ use std::process::Abort;
 use std::rt::Files;
 use std::sync::Wait;
 use std::thread::Threads;
+use std::time::{Clock, Duration};
 
 /// Stands for an absent script.
 const NO_SCRIPT: &str = "no script";
@@ -221,13 +222,36 @@ fn line_is(rt: &impl Abort, case: &str, errors: &str, fault: &str, end: &str) {
     text_is(rt, case, line.strip_suffix(end).expect(rt, case), fault);
 }
 
-/// The line after an error: for a plan or a script it names `validate`.
+/// The line after an error of one worker: for a plan or a script it names `validate`.
 fn end_of(fault: &str) -> &'static str {
     if fault.starts_with("the plan is ") || fault.starts_with("the script is ") {
         "\napplystream: applystream validate says where and what\n"
     } else {
         "\n"
     }
+}
+
+/// Fails unless the run in lanes was refused with this error, and nothing was printed.
+fn lanes_fail(
+    rt: &impl Abort,
+    alloc: Global,
+    case: &str,
+    outcome: Outcome,
+    lanes: u8,
+    fault: &str,
+) {
+    let end = match end_of(fault).strip_prefix("\napplystream: applystream validate") {
+        Some(rest) => {
+            let end = format!(in alloc;
+                "\napplystream: applystream validate --parallelism {lanes}{rest}"
+            );
+            leaked_text(rt, alloc, end.expect(rt, "memory"))
+        }
+        None => "\n",
+    };
+    status_is(rt, case, outcome.status, 2);
+    text_is(rt, case, outcome.printed, "");
+    line_is(rt, case, outcome.errors, fault, end);
 }
 
 /// The text before the first mark, and the text after it.
@@ -250,10 +274,32 @@ fn words_of(rt: &impl Abort, alloc: Global, text: &str) -> &'static [String] {
     leaked(rt, alloc, words).as_slice()
 }
 
-/// The answer to the words of a text.
+/// A clock that stands still, or cannot be read.
+#[derive(Clone, Copy)]
+struct Still {
+    since_1970: Option<Duration>,
+}
+
+impl Clock for Still {
+    fn monotonic(&self) -> io::Result<Duration> {
+        Err(io::Error::from(ErrorKind::Unsupported))
+    }
+
+    fn since_1970(&self) -> io::Result<Duration> {
+        match self.since_1970 {
+            Some(time) => Ok(time),
+            None => Err(io::Error::from(ErrorKind::Unsupported)),
+        }
+    }
+}
+
+/// A clock that cannot be read.
+const NO_CLOCK: Still = Still { since_1970: None };
+
+/// The answer to the words of a text, with no clock.
 fn read_of(rt: &impl Abort, alloc: Global, text: &str) -> &'static Result<Invocation, Usage> {
     let words = words_of(rt, alloc, text);
-    leaked(rt, alloc, read_invocation(alloc, words))
+    leaked(rt, alloc, read_invocation(&NO_CLOCK, alloc, words))
 }
 
 /// The name of a usage.
@@ -263,6 +309,7 @@ fn name_of(usage: &Usage) -> &'static str {
         Usage::Version => "Version",
         Usage::Words(_) => "Words",
         Usage::Conflict => "Beside",
+        Usage::Clock => "Clock",
         Usage::Moment(_) => "Moment",
         Usage::Hooks => "Hooks",
         Usage::Memory => "Memory",

@@ -4,6 +4,8 @@ use crate::printing::{answer, begin, leaked};
 use apply_cli_args::{read_invocation, read_words};
 use std::alloc::Global;
 use std::io;
+use std::io::ErrorKind;
+use std::time::{Clock, Duration};
 
 /// Arguments, each of which is valid alone.
 const WORDS: &str =
@@ -24,11 +26,24 @@ fn all_words(alloc: Global) -> io::Result<&'static [String]> {
     Ok(words.as_slice())
 }
 
+/// A clock that no argument asks for.
+struct Unread;
+
+impl Clock for Unread {
+    fn monotonic(&self) -> io::Result<Duration> {
+        Err(io::Error::from(ErrorKind::Unsupported))
+    }
+
+    fn since_1970(&self) -> io::Result<Duration> {
+        Err(io::Error::from(ErrorKind::Unsupported))
+    }
+}
+
 /// Reads the arguments.
 pub fn words(rt: &impl Print, alloc: Global) -> io::Result<()> {
     let words = all_words(alloc)?;
     begin(rt)?;
-    answer(rt, &read_invocation(alloc, words))
+    answer(rt, &read_invocation(&Unread, alloc, words))
 }
 
 /// Reads the arguments by the options without a parallelism.

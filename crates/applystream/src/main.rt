@@ -3,9 +3,12 @@
 
 use apply_cli::{PromptingReader, Usage, follow_standard, given_words, refuse_standard};
 use input_validate_cli::Validate;
+use std::alloc::{AllocError, Global};
 use std::env;
 use std::io::{BufWriter, IsTerminal};
 use std::process::ExitCode;
+use std::sync::Wait;
+use std::thread::Threads;
 use stream_check::Check;
 use stream_play::Play;
 use stream_tool::{Tool, run_tool};
@@ -34,7 +37,7 @@ fn main(rt: HostRuntime) -> ExitCode {
     let status = match given_words(&rt) {
         Ok(words) => match use_tool(&rt, &words) {
             Some(status) => status,
-            None => follow_standard(&rt, &rt, words.get(1..).unwrap_or(&[])),
+            None => follow_main(&rt, &rt, words.get(1..).unwrap_or(&[])),
         },
         Err(usage) => refuse_standard(&rt, &usage),
     };
@@ -55,6 +58,26 @@ fn use_tool(rt: &HostRuntime, words: &[String]) -> Option<u8> {
         "validate" => Some(run(rt, &Validate, words, NO_PLAN)),
         _ => None,
     }
+}
+
+/// Runs the main command with these arguments, and returns the exit status. The one argument `help`
+/// stands for `--help`.
+fn follow_main<T: Threads + Wait + Sync>(rt: &HostRuntime, threads: &T, words: &[String]) -> u8 {
+    if words.len() != 1 || words[0].as_str() != "help" {
+        return follow_standard(rt, threads, words);
+    }
+    match help_words(rt.alloc()) {
+        Ok(words) => follow_standard(rt, threads, &words),
+        Err(_) => refuse_standard(rt, &Usage::Memory),
+    }
+}
+
+/// Returns the argument that asks for help. `Err` if memory is refused.
+fn help_words(alloc: Global) -> Result<Vec<String>, AllocError> {
+    let word = String::from_str(alloc, "--help")?;
+    let mut words = Vec::new(alloc);
+    words.push(word)?;
+    Ok(words)
 }
 
 /// Runs the tool with the arguments after its name, and returns the exit status. `prompt` is what a

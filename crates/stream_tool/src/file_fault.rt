@@ -5,6 +5,8 @@ use std::{fmt, io};
 /// A message about a file that could not be opened or read.
 #[derive(Clone, Copy)]
 pub struct FileFault<'a> {
+    /// What the file is: `file` or `script file`.
+    pub what: &'a str,
     /// The name of the file, with control characters escaped.
     pub name: &'a str,
     /// What could not be done, as a participle: `opened` or `read`.
@@ -15,11 +17,12 @@ pub struct FileFault<'a> {
 
 impl fmt::Display for FileFault<'_> {
     fn fmt<W: fmt::Write>(&self, f: &mut fmt::Formatter<W>) -> fmt::Result {
+        let what = self.what;
         let name = self.name;
         let done = self.done;
         match self.error {
-            Some(error) => write!(f, "the file {name} could not be {done}: {error}"),
-            None => write!(f, "the file {name} could not be {done}"),
+            Some(error) => write!(f, "the {what} {name} could not be {done}: {error}"),
+            None => write!(f, "the {what} {name} could not be {done}"),
         }
     }
 }

@@ -2,6 +2,7 @@
 #![tactic(auto)]
 
 mod arguments;
+mod dash_tip;
 mod draining;
 mod file_fault;
 mod options;
@@ -17,6 +18,7 @@ mod writing;
 
 pub use arguments::{file, file_of};
 pub use draining::flush_and_drain;
+pub use file_fault::FileFault;
 pub use options::{FIND, flag, is_given, with_option};
 pub use outcome::{Outcome, Report};
 pub use parsing::matches_of;

@@ -67,6 +67,7 @@ pub fn refuse_file<E: Write>(
     report(
         faults,
         FileFault {
+            what: "file",
             name: name.as_str(),
             done,
             error,

@@ -8,6 +8,7 @@ ghost use Rattle.clap.specs.declared.error.kind.ErrorKind.TheVariants.{DisplayHe
 ghost use Rattle.stream_tool.specs.Arguments.{State, StateNone};
 ghost use Rattle.stream_tool.specs.Running.{HasNotRun, HasRun, OnValue};
 
+use crate::dash_tip::with_dash_tip;
 use crate::draining::flush_and_drain;
 use crate::outcome::{Outcome, Report};
 use crate::parsing::matches_of;
@@ -25,7 +26,8 @@ const BUFFER_LEN: usize = 65_536;
 /// Parses the arguments of a tool.
 ///
 /// `Err` with `Usage::Help` where they ask for help, with `Usage::Words` where they do not fit or
-/// exclude each other, and with `Usage::Memory` where memory is refused.
+/// exclude each other, and with `Usage::Memory` where memory is refused. A tip ends the text of
+/// `Usage::Words` if an option of several letters has one dash.
 pub fn read_words<T: Tool>(alloc: Global, words: &[String]) -> Result<T::Settings, Usage>
     ensures stated { IfOk result (State T.arguments (map string_bytes words.now)) }
     ensures refused { IfErr result (StateNone T.arguments (map string_bytes words.now)) }
@@ -36,6 +38,7 @@ pub fn read_words<T: Tool>(alloc: Global, words: &[String]) -> Result<T::Setting
             None => Ok(T::settings_of(alloc, &matches)?),
             Some(usage) => Err(usage),
         },
+        Err(Usage::Words(text)) => Err(Usage::Words(with_dash_tip::<T>(alloc, text, words)?)),
         Err(usage) => Err(usage),
     }
 }

@@ -36,6 +36,8 @@ fn each_usage_has_its_answer(rt: HostRuntime) {
     answer_is(&rt, alloc, Usage::Version, 0, line, "");
     let errors = "applystream: out of memory\n";
     answer_is(&rt, alloc, Usage::Memory, 3, "", errors);
+    let errors = "applystream: the clock could not be read\n";
+    answer_is(&rt, alloc, Usage::Clock, 3, "", errors);
 }
 
 /// Fails if the status differs when neither stream accepts anything.

@@ -19,7 +19,7 @@ fn follows_so<T: Threads + Wait + Sync + Abort + Files>(
 ) {
     let words = words_of(rt, alloc, words);
     let (input, mut actual) = (REPLACEMENT.as_bytes(), Vec::new(alloc));
-    let (output, ended) = follow(rt, rt, alloc, words, input, output, &mut actual);
+    let (output, ended) = follow(rt, rt, &NO_CLOCK, alloc, words, input, output, &mut actual);
     let outcome = outcome_of(rt, alloc, ended, output.into_inner().taken, actual);
     outcome_is(rt, printed, outcome, status, printed, errors);
 }

@@ -58,7 +58,7 @@ pub(super) fn run_lanes<R: Read + Drop>(
 /// Fails if so many lanes do not refuse the texts with this error.
 fn is_refused(rt: &impl Abort, alloc: Global, lanes: u8, plan: &str, script: &str, fault: &str) {
     let outcome = run_lanes(rt, alloc, lanes, script, plan.as_bytes());
-    outcome_fails(rt, fault, outcome, 2, fault);
+    lanes_fail(rt, alloc, fault, outcome, lanes, fault);
 }
 
 /// The number of lanes is checked last.

@@ -82,7 +82,7 @@ fn a_plan_that_is_too_large_is_read_to_its_end(rt: HostRuntime) {
     blanks_fail(&rt, alloc, all_of(MOST + BEHIND), TOO_LARGE, 0, 1);
     let mut input = all_of(MOST + BEHIND);
     let outcome = run_lanes(&rt, alloc, 2, NO_SCRIPT, &mut input);
-    outcome_fails(&rt, "lanes", outcome, 2, TOO_LARGE);
+    lanes_fail(&rt, alloc, "lanes", outcome, 2, TOO_LARGE);
     left_are(&rt, "lanes", &input, 0, 1);
 }
 

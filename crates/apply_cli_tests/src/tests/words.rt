@@ -33,6 +33,8 @@ const SETTINGS: &str =
 --at -1 => Words
 --at=-1 => NotAMoment
 --at x --at x => Words
+--at Now => NotAMoment
+--at= => NotAMoment
 --at x --workers 9 => Words
 --script outcomes.json => Settings { at: Start { seconds: 0 }, script: Some(Text { inner: "outcomes.json" }), workers: 1, queue: 64, operation: Apply, halts: [] }
 --script => Words
@@ -83,6 +85,7 @@ const FORMS: &str = " => Applystream
 --form x --at x => Words
 --form terraform --at x => NotAMoment
 --form terraform --parallelism 2 --workers 2 => Beside
+--form terraform --at now => Clock
 --form terraform --version => Version
 --help --form x => Help";
 
@@ -104,6 +107,8 @@ const LANES: &str = " => None
 --parallelism 2 --queue 64 => Beside
 --queue=1 --workers=8 --parallelism=64 => Beside
 --parallelism 2 --workers 2 --at x => Beside
+--parallelism 2 --workers 2 --at now => Beside
+--parallelism 65 --at now => Words
 --parallelism 2 --workers 9 => Words
 --parallelism 2 --workers 2 --help => Help
 --workers 2 --queue 1 => None
@@ -218,6 +223,44 @@ fn options_take_the_numbers_that_a_run_takes(rt: HostRuntime) {
     number_is_taken(&rt, alloc, "--parallelism", 1, true);
     number_is_taken(&rt, alloc, "--parallelism", most, true);
     number_is_taken(&rt, alloc, "--parallelism", most + 1, false);
+}
+
+/// Fails unless `--at now` starts with the whole second of the clock.
+fn now_is(rt: &impl Abort, alloc: Global, since_1970: Option<Duration>, wanted: &str) {
+    let clock = Still { since_1970 };
+    for words in ["--at now", "--at=now --destroy --form terraform"] {
+        let words = words_of(rt, alloc, words);
+        let answer = match leaked(rt, alloc, read_invocation(&clock, alloc, words)) {
+            Ok(invocation) => shown(rt, alloc, &invocation.settings.at),
+            Err(usage) => fault_of(rt, alloc, usage),
+        };
+        text_is(rt, wanted, answer, wanted);
+    }
+}
+
+#[test]
+fn now_is_the_second_of_the_clock(rt: HostRuntime) {
+    let alloc = rt.alloc();
+    let at = |seconds, nanoseconds| Some(Duration::new(seconds, nanoseconds));
+    now_is(&rt, alloc, at(0, 999_999_999), "Start { seconds: 0 }");
+    now_is(
+        &rt,
+        alloc,
+        at(1_714_564_800, 1),
+        "Start { seconds: 1714564800 }",
+    );
+    let last = at(221_845_391_999, 999_999_999);
+    now_is(&rt, alloc, last, "Start { seconds: 221845391999 }");
+    now_is(&rt, alloc, at(221_845_392_000, 0), "Clock");
+    now_is(&rt, alloc, at(u64::MAX, 0), "Clock");
+    now_is(&rt, alloc, None, "Clock");
+    let words = words_of(&rt, alloc, "--at now");
+    let answer = leaked(&rt, alloc, read_words(alloc, words));
+    holds(
+        &rt,
+        "without a clock",
+        matches!(answer, Err(Usage::Moment(MomentError::NotAMoment))),
+    );
 }
 
 /// The words, so many times.

@@ -1,0 +1,82 @@
+//! The options of a run that `validate` takes too, as words to type.
+
+ghost use Rattle.std.specs.Prelude.{◌≡◌, None};
+ghost use Rattle.std.specs.Option.{option_copied};
+
+use apply_cli_args::Settings;
+use apply_text_terraform::Form;
+use std::alloc::{AllocError, Global};
+use term_text::escape_controls;
+
+/// The options of a run that `validate` takes too.
+#[derive(Clone, Copy)]
+pub(crate) struct SharedOptions<'a> {
+    /// The name of the script's file, if one is given.
+    pub script: Option<&'a str>,
+    /// How many changes run at once, if that is given.
+    pub parallelism: Option<u8>,
+    /// The form of the stream.
+    pub form: Form,
+}
+
+/// Returns the options of a run with these settings that `validate` takes too.
+pub(crate) fn shared_options<'a>(
+    settings: &'a Settings,
+    parallelism: Option<u8>,
+    form: Form,
+) -> SharedOptions<'a> {
+    let script = match &settings.script {
+        Some(name) => Some(name.as_str()),
+        None => None,
+    };
+    SharedOptions {
+        script,
+        parallelism,
+        form,
+    }
+}
+
+/// Returns the words of the options, with a blank before each. The default form has none. `Err` if
+/// memory is refused.
+pub(crate) fn shared_words(
+    alloc: Global,
+    options: SharedOptions<'_>,
+) -> Result<String, AllocError> {
+    let mut words = String::new(alloc);
+    if let Some(script) = options.script {
+        words.push_str(" --script ")?;
+        push_shell_word(alloc, &mut words, script)?;
+    }
+    if let Some(lanes) = options.parallelism {
+        write!(words, " --parallelism {lanes}")?;
+    }
+    if options.form == Form::Terraform {
+        words.push_str(" --form terraform")?;
+    }
+    Ok(words)
+}
+
+/// Adds the name as a word of a shell, with control characters escaped. It stands in single quotes
+/// if it has a character that a shell may read otherwise. `Err` if memory is refused.
+fn push_shell_word(alloc: Global, words: &mut String, name: &str) -> Result<(), AllocError> {
+    let shown = escape_controls(alloc, name.as_bytes())?;
+    let shown = shown.as_str();
+    if shown.chars().all(is_plain) {
+        return words.push_str(shown);
+    }
+    words.push_str("'")?;
+    for character in shown.chars() {
+        if character == '\'' {
+            // A quote ends the quoted text, stands escaped outside of it, and begins it again.
+            words.push_str("'\\''")?;
+        } else {
+            words.push(character)?;
+        }
+    }
+    words.push_str("'")
+}
+
+/// Whether each shell reads the character as itself.
+fn is_plain(character: char) -> bool {
+    character.is_ascii_alphanumeric() || "._-/+:@%,".contains(character)
+}

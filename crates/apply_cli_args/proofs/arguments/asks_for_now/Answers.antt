@@ -1,0 +1,14 @@
+use Rattle.std.proofs.Common.{◌∙◌, ap, codes, false}
+use Rattle.std.specs.Option.{option_map_or}
+use Rattle.std.specs.Str.{bytes_eq}
+use Rattle.clap.specs.Matches.{found_of}
+use Rattle.clap.proofs.WalkLemmas.{first_value-rows}
+use Rattle.apply_cli_args.proofs.arguments.asks_for_now.Goals as goal
+
+pub returns-in-Some : goal.returns-in-Some
+returns-in-Some c =
+    c.eq.ensures ∙ ap (λ o. option_map_or (λ text. bytes_eq text (codes "now")) o false) (c.in-Some.ensures ∙ first_value-rows (found_of c.args.matches.now) (codes "at"))
+
+pub returns-in-None : goal.returns-in-None
+returns-in-None c =
+    ap (λ o. option_map_or (λ text. bytes_eq text (codes "now")) o false) (c.in-None.ensures ∙ first_value-rows (found_of c.args.matches.now) (codes "at"))
