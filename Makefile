@@ -21,7 +21,7 @@ files = $(shell find crates/$(1)/src crates/$(1)/specs crates/$(1)/proofs -type 
 CRATES := $(call needs,applystream)
 # What the longest chain of crates does not wait for is proved next to it, and what only tools are made of steps back.
 BESIDE := apply_json apply_json_tree apply_resolve apply_bus apply_cli_args apply_writer term_text stream_lines stream_tool
-ASIDE := stream_message stream_check stream_play stream_view stream_timeline input_validate input_validate_cli
+ASIDE := stream_message stream_runs stream_check stream_play stream_view stream_timeline input_validate input_validate_cli
 above = $(foreach it,$(CRATES),$(if $(filter $(1),$(call needs,$(it))),$(it)))
 left = $$(for crate in $(CRATES); do [ -e $(LIBS)/$$crate.stamp ] || echo $$crate; done)
 # A prover ends with the make that started it.

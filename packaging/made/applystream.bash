@@ -2,14 +2,18 @@
 _applystream() {
   local word=${COMP_WORDS[COMP_CWORD]} before=${COMP_WORDS[COMP_CWORD - 1]}
   if [ "${COMP_WORDS[1]}" = check ] && [ "$COMP_CWORD" -gt 1 ]; then
-    COMPREPLY=($(compgen -W "--json --find --plan --help" -- "$word") $(compgen -f -- "$word"))
+    case $before in
+      --run) return ;;
+    esac
+    COMPREPLY=($(compgen -W "--json --find --plan --run --help" -- "$word") $(compgen -f -- "$word"))
     return
   fi
   if [ "${COMP_WORDS[1]}" = play ] && [ "$COMP_CWORD" -gt 1 ]; then
     case $before in
       --speed) return ;;
+      --run) return ;;
     esac
-    COMPREPLY=($(compgen -W "--speed --find --help" -- "$word") $(compgen -f -- "$word"))
+    COMPREPLY=($(compgen -W "--speed --find --run --help" -- "$word") $(compgen -f -- "$word"))
     return
   fi
   if [ "${COMP_WORDS[1]}" = view ] && [ "$COMP_CWORD" -gt 1 ]; then

@@ -10,7 +10,7 @@ use Rattle.stream_check.specs.Results.{◌>>=◌}
 
 -- each line is a message; `plans` states whether the stream of a plan is whole, too
 abbrev pub plain : (plans : Bool) → Mode
-plain plans = record { find = false; plan = plans }
+plain plans = record { find = false; plan = plans; lines_before = 0 }
 
 -- the earlier messages and these, the latest first, or the first fault
 abbrev pub with_all : (earlier : List Message) → List Message → Result (List Message) Fault

@@ -3,12 +3,12 @@ use Rattle.std.proofs.Common.{◌≡◌, ℕ, ◌+◌, List, [], ◌∷◌, leng
 use Rattle.std.specs.Prelude.{◌&&◌, ◌||◌}
 use Rattle.std.specs.List.{list_any}
 use Rattle.stream_check.specs.declared.rules.fault.Fault.{Fault}
-use Rattle.stream_check.specs.declared.rules.fault.Fault.TheVariants.{NoApply, NoEnd, Unended}
+use Rattle.stream_check.specs.declared.rules.fault.Fault.TheVariants.{Unended}
 use Rattle.stream_check.specs.declared.rules.mode.Mode.{Mode}
 use Rattle.stream_check.specs.declared.verdict.finding.Finding.{Finding}
 use Rattle.stream_check.specs.declared.verdict.whole.Whole.{Whole}
 use Rattle.stream_check.specs.Laws.{IsWhole, StateMessages}
-use Rattle.stream_check.specs.Lines.{at_line, end_of, is_plan_stream, line_message, next, read_line, verdict_after, verdict_of, whole_of, whole_plan_of}
+use Rattle.stream_check.specs.Lines.{at_line, end_of, is_plan_stream, line_message, next, no_end_of, read_line, verdict_after, verdict_of, whole_of, whole_plan_of}
 use Rattle.stream_check.specs.Message.{Message}
 use Rattle.stream_check.specs.Open.{any_open}
 use Rattle.stream_check.specs.Tally.{completed_totals, is_error, is_summary, planned_totals}
@@ -74,16 +74,15 @@ same_whole x t e = cc
 at_end : (mode : Mode) (ms : List Message) (t : Whole) → end_of mode ms ≡ Ok t → Ends mode ms t
 unfolding end_of
 at_end mode ms t e = by_open (any_open ms) refl e where
-  by_last : any_open ms ≡ false → (c d : Bool) → (list_any is_summary ms || list_any is_error ms) ≡ c → cond c (all_of (whole_of mode ms)) (cond d (Err NoApply) (Err NoEnd)) ≡ Ok t → Ends mode ms t
-  by_last closed true d is f = as_apply mode ms t closed is (same_whole (whole_of mode ms) t f)
-  by_last closed false true is f = absurd cc
-  by_last closed false false is f = absurd cc
+  by_last : any_open ms ≡ false → (c : Bool) → (list_any is_summary ms || list_any is_error ms) ≡ c → cond c (all_of (whole_of mode ms)) (Err (no_end_of ms)) ≡ Ok t → Ends mode ms t
+  by_last closed true is f = as_apply mode ms t closed is (same_whole (whole_of mode ms) t f)
+  by_last closed false is f = absurd cc
 
-  by_plan : any_open ms ≡ false → (b : Bool) → (mode.plan && is_plan_stream ms) ≡ b → cond b (all_of (whole_plan_of mode ms)) (cond (list_any is_summary ms || list_any is_error ms) (all_of (whole_of mode ms)) (cond (is_plan_stream ms) (Err NoApply) (Err NoEnd))) ≡ Ok t → Ends mode ms t
+  by_plan : any_open ms ≡ false → (b : Bool) → (mode.plan && is_plan_stream ms) ≡ b → cond b (all_of (whole_plan_of mode ms)) (cond (list_any is_summary ms || list_any is_error ms) (all_of (whole_of mode ms)) (Err (no_end_of ms))) ≡ Ok t → Ends mode ms t
   by_plan closed true is f = as_plan mode ms t closed (and_left mode.plan (is_plan_stream ms) is) (same_whole (whole_plan_of mode ms) t f)
-  by_plan closed false is f = by_last closed (list_any is_summary ms || list_any is_error ms) (is_plan_stream ms) refl f
+  by_plan closed false is f = by_last closed (list_any is_summary ms || list_any is_error ms) refl f
 
-  by_open : (b : Bool) → any_open ms ≡ b → cond b (Err Unended) (cond (mode.plan && is_plan_stream ms) (all_of (whole_plan_of mode ms)) (cond (list_any is_summary ms || list_any is_error ms) (all_of (whole_of mode ms)) (cond (is_plan_stream ms) (Err NoApply) (Err NoEnd)))) ≡ Ok t → Ends mode ms t
+  by_open : (b : Bool) → any_open ms ≡ b → cond b (Err Unended) (cond (mode.plan && is_plan_stream ms) (all_of (whole_plan_of mode ms)) (cond (list_any is_summary ms || list_any is_error ms) (all_of (whole_of mode ms)) (Err (no_end_of ms)))) ≡ Ok t → Ends mode ms t
   by_open true is f = absurd cc
   by_open false is f = by_plan is (mode.plan && is_plan_stream ms) refl f
 

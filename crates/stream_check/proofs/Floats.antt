@@ -16,8 +16,8 @@ use Rattle.stream_check.specs.declared.rules.open_entry.OpenEntry.{OpenEntry}
 use Rattle.stream_check.specs.declared.verdict.finding.Finding.{Finding}
 use Rattle.stream_check.specs.declared.verdict.whole.Whole.{Whole}
 use Rattle.stream_check.specs.Malformed.{path_text}
-use Rattle.stream_check.specs.Faults.{other_of, word_of}
-use Rattle.stream_check.specs.Objects.{totals_object, with_count, with_finding, with_front, with_plan, with_totals, with_whole}
+use Rattle.stream_check.specs.Faults.{line_after, other_of, word_of}
+use Rattle.stream_check.specs.Objects.{finding_after, totals_object, with_count, with_finding, with_front, with_plan, with_totals, with_whole}
 use Rattle.stream_check.specs.ReportObject.{entry_object, with_detail, with_object, with_report}
 use Rattle.stream_check.specs.Unended.{kind_word}
 use Rattle.stream_check.specs.Words.{action_word}
@@ -82,12 +82,13 @@ none_about (Some (about.Step action address)) rest = text_put (codes "action") (
 none_about (Some (about.Provisioner None address)) rest = text_put (codes "address") address.now rest
 none_about (Some (about.Provisioner (Some name) address)) rest = text_put (codes "provisioner") name.now (text_put (codes "address") address.now rest)
 
-none_in_entry : (entry : OpenEntry) → has_float (entry_object entry) ≡ false
-none_in_entry entry = (number_put (codes "line") entry.line (text_put (codes "kind") (kind_word entry.kind) (text_put (codes "address") entry.address.now none_yet))).free
+none_in_entry : (lines_before : ℕ) (entry : OpenEntry) → has_float (entry_object lines_before entry) ≡ false
+none_in_entry lines_before entry = (number_put (codes "line") (line_after lines_before entry.line) (text_put (codes "kind") (kind_word entry.kind) (text_put (codes "address") entry.address.now none_yet))).free
 
-none_in_entries : (entries : List OpenEntry) → items_have_float (items_of (map entry_object entries)) ≡ false
-none_in_entries [] = refl
-none_in_entries (entry ∷ entries) = neither (has_float (entry_object entry)) (items_have_float (items_of (map entry_object entries))) (none_in_entry entry) (none_in_entries entries)
+none_in_entries : (lines_before : ℕ) (entries : List OpenEntry) → items_have_float (items_of (map (entry_object lines_before) entries)) ≡ false
+none_in_entries lines_before [] = refl
+none_in_entries lines_before (entry ∷ entries) =
+    neither (has_float (entry_object lines_before entry)) (items_have_float (items_of (map (entry_object lines_before) entries))) (none_in_entry lines_before entry) (none_in_entries lines_before entries)
 
 none_in_front : {ms : Members} (text : List ℕ) (b : Bool) → Floatless ms → Floatless (with_front text b ms)
 none_in_front text b rest = one_put (codes "cut_off") (boolean b) refl (text_put (codes "text") (readable_text (front_of 80 text)) rest)
@@ -102,11 +103,14 @@ none_detailed fault.NoType report rest = none_in_front report.text.now report.is
 none_detailed (fault.Malformed path member_fault) report rest = text_put (codes "member") (path_text path) rest
 none_detailed (fault.WrongTotals stated counted) report rest = none_in_both stated counted rest
 none_detailed (fault.WrongPlanTotals stated counted) report rest = none_in_both stated counted rest
-none_detailed fault.Unended report rest = one_put (codes "open") (array (items_of (map entry_object report.open.now))) (none_in_entries report.open.now) rest
+none_detailed fault.Unended report rest = one_put (codes "open") (array (items_of (map (entry_object report.lines_before) report.open.now))) (none_in_entries report.lines_before report.open.now) rest
+none_detailed (fault.NoMessage lines) report rest = number_put (codes "lines") lines rest
 none_detailed _ report rest = rest
 
 pub none_in_report : (report : FindingReport) → has_float (object (with_report report no_members)) ≡ false
-none_in_report report = (none_detailed report.finding.fault report (none_about report.object (none_found report.finding))).free
+none_in_report report =
+    (count_put (codes "runs") report.runs
+    (none_detailed report.finding.fault report (none_about report.object (none_found (finding_after report.lines_before report.finding))))).free
 
 plan_put : {ms : Members} (is_plan : Bool) → Floatless ms → Floatless (with_plan is_plan ms)
 plan_put true rest = one_put (codes "plan") (boolean true) refl rest

@@ -5,7 +5,7 @@ use Rattle.std.specs.List.{list_any}
 use Rattle.std.specs.Io.KnownBytes.{IsAtEnd}
 use Rattle.std.specs.Io.BufRead.{drop_through}
 use Rattle.stream_check.specs.declared.rules.fault.Fault.{Fault}
-use Rattle.stream_check.specs.declared.rules.fault.Fault.TheVariants.{Memory, NoApply, NoEnd, TooLong, Unended}
+use Rattle.stream_check.specs.declared.rules.fault.Fault.TheVariants.{Memory, NoApply, NoEnd, NoMessage, TooLong, Unended}
 use Rattle.stream_check.specs.declared.rules.mode.Mode.{Mode}
 use Rattle.stream_check.specs.declared.verdict.finding.Finding.{Finding}
 use Rattle.stream_lines.specs.declared.line.LineEnd.{LineEnd}
@@ -20,10 +20,10 @@ use Rattle.stream_check.specs.Checking.{HasRead}
 use Rattle.stream_lines.specs.Cut.{after_lines, first_line, has_feed, cut_lines, feed_at, line_at}
 use Rattle.stream_check.specs.Faults.{is_no_json, reports_front, reports_line, reports_object}
 use Rattle.stream_check.specs.Judged.{judged, judged_after, Stops, StopsAt}
-use Rattle.stream_check.specs.Lines.{at_line, end_of, is_plan_stream, passed_of, read_line, verdict_after, verdict_of, whole_of, whole_plan_of}
+use Rattle.stream_check.specs.Lines.{at_line, end_of, is_plan_stream, is_without_messages, no_end_of, passed_of, read_line, verdict_after, verdict_of, whole_of, whole_plan_of}
 use Rattle.stream_check.specs.Open.{any_open}
 use Rattle.stream_check.specs.Tally.{is_error, is_summary}
-use Rattle.stream_check.specs.Reports.{IsReportOf}
+use Rattle.stream_check.specs.Reports.{IsReportOf, runs_from}
 use Rattle.stream_check.specs.Unended.{AreAllOpen}
 use Rattle.stream_check.specs.Message.{Message}
 use Rattle.stream_lines.specs.Reading.{Gives}
@@ -111,6 +111,7 @@ faulty mode earlier texts line fault (read.Found finding) is v =
     (λ e. is.0 (ap (λ (f : Finding). f.fault) (sym is.1) ∙ e), v is.0 ∙ ap (λ (f : Finding). let found : Result Whole Finding = Err f in found) (sym is.1))
 faulty mode earlier texts line fault read.Memory is v = tt
 faulty mode earlier texts line fault read.TooMany is v = absurd is
+faulty mode earlier texts line fault (read.NoRun missing) is v = absurd is
 faulty mode earlier texts line fault (read.Unread number) is v = absurd is
 
 -- at a faulty line
@@ -169,6 +170,7 @@ as_answer mode (Some bytes) v r h answer = answer (cut_lines bytes) h
 refused : (mode : Mode) (texts : List (List ℕ)) (r : ReadFault) → IsNoAnswer r → IsAnswer mode texts (Err r)
 refused mode texts (read.Found finding) none = absurd none
 refused mode texts read.TooMany none = absurd none
+refused mode texts (read.NoRun missing) none = absurd none
 refused mode texts (read.Unread number) none = tt
 refused mode texts read.Memory none = tt
 
@@ -191,57 +193,67 @@ feed_is : (messages : List Message) (bytes rest : List ℕ) (feed : Bool) → re
 feed_is messages bytes rest feed place is =
     is ∙ ap has_feed place ∙ ap (λ (n : ℕ). has_feed (after_lines n bytes)) (let e : length messages ≡ length messages + 1 - 1 = omega arith in e)
 
--- at a finding of that fault
-stops_found : (mode : Mode) (bytes : List ℕ) (earlier : List Message) (checker : Checker) (line : List ℕ) (feed : Bool) (number : ℕ) (fault : Fault) (finding : Finding) → finding ≡ record { line = number; fault = fault; passed = passed_of mode earlier }
-    → HasRead checker (judged mode (cut_lines bytes)) → (reports_line fault ≡ true → line ≡ line_at number bytes) → (reports_line fault ≡ true → feed ≡ feed_at number bytes) → StopsAt mode bytes finding checker line feed
-stops_found mode bytes earlier checker line feed number fault finding is read report ends =
-    subst (λ (f : Finding). StopsAt mode bytes f checker line feed) (sym is) (record { has_read = read; is_line = report; is_feed = ends })
+-- and what is left after it
+left_is : (messages : List Message) (bytes rest : List ℕ) (left : Option (List ℕ)) → rest ≡ after_lines (length messages) bytes → left ≡ Some (drop_through 10 rest) → left ≡ Some (after_lines (length messages + 1) bytes)
+left_is messages bytes rest left place is =
+    is ∙ ap Some (ap (drop_through 10) place ∙ ap (λ (n : ℕ). after_lines n bytes) (let e : suc (length messages) ≡ length messages + 1 = omega arith in e))
 
-stops_at : (mode : Mode) (bytes : List ℕ) (earlier : List Message) (checker : Checker) (line : List ℕ) (feed : Bool) (number : ℕ) (fault : Fault) (r : ReadFault) → IsFaultAt mode earlier number fault r
-    → (fault ≢ Memory → HasRead checker (judged mode (cut_lines bytes))) → (reports_line fault ≡ true → line ≡ line_at number bytes) → (reports_line fault ≡ true → feed ≡ feed_at number bytes) → Stops mode (Some bytes) checker line feed (Err r)
-stops_at mode bytes earlier checker line feed number fault (read.Found finding) is read report ends = stops_found mode bytes earlier checker line feed number fault finding is.1 (read is.0) report ends
-stops_at mode bytes earlier checker line feed number fault read.Memory is read report ends = tt
-stops_at mode bytes earlier checker line feed number fault read.TooMany is read report ends = tt
-stops_at mode bytes earlier checker line feed number fault (read.Unread n) is read report ends = tt
+-- at a finding of that fault
+stops_found : (mode : Mode) (bytes : List ℕ) (earlier : List Message) (checker : Checker) (line : List ℕ) (feed : Bool) (left : Option (List ℕ)) (number : ℕ) (fault : Fault) (finding : Finding) → finding ≡ record { line = number; fault = fault; passed = passed_of mode earlier }
+    → HasRead checker (judged mode (cut_lines bytes)) → (reports_line fault ≡ true → line ≡ line_at number bytes) → (reports_line fault ≡ true → feed ≡ feed_at number bytes) → (reports_line fault ≡ true → left ≡ Some (after_lines number bytes)) → StopsAt mode bytes finding checker line feed left
+stops_found mode bytes earlier checker line feed left number fault finding is read report ends rest =
+    subst (λ (f : Finding). StopsAt mode bytes f checker line feed left) (sym is) (record { has_read = read; is_line = report; is_feed = ends; is_left = rest })
+
+stops_at : (mode : Mode) (bytes : List ℕ) (earlier : List Message) (checker : Checker) (line : List ℕ) (feed : Bool) (left : Option (List ℕ)) (number : ℕ) (fault : Fault) (r : ReadFault) → IsFaultAt mode earlier number fault r
+    → (fault ≢ Memory → HasRead checker (judged mode (cut_lines bytes))) → (reports_line fault ≡ true → line ≡ line_at number bytes) → (reports_line fault ≡ true → feed ≡ feed_at number bytes) → (reports_line fault ≡ true → left ≡ Some (after_lines number bytes)) → Stops mode (Some bytes) checker line feed left (Err r)
+stops_at mode bytes earlier checker line feed left number fault (read.Found finding) is read report ends rest = stops_found mode bytes earlier checker line feed left number fault finding is.1 (read is.0) report ends rest
+stops_at mode bytes earlier checker line feed left number fault read.Memory is read report ends rest = tt
+stops_at mode bytes earlier checker line feed left number fault read.TooMany is read report ends rest = tt
+stops_at mode bytes earlier checker line feed left number fault (read.NoRun missing) is read report ends rest = absurd is
+stops_at mode bytes earlier checker line feed left number fault (read.Unread n) is read report ends rest = tt
 
 -- nothing is known of the bytes
-stops_unseen : (mode : Mode) (checker : Checker) (line : List ℕ) (feed : Bool) (r : ReadFault) → Stops mode None checker line feed (Err r)
-stops_unseen mode checker line feed (read.Found finding) = tt
-stops_unseen mode checker line feed read.Memory = tt
-stops_unseen mode checker line feed read.TooMany = tt
-stops_unseen mode checker line feed (read.Unread n) = tt
+stops_unseen : (mode : Mode) (checker : Checker) (line : List ℕ) (feed : Bool) (left : Option (List ℕ)) (r : ReadFault) → Stops mode None checker line feed left (Err r)
+stops_unseen mode checker line feed left (read.Found finding) = tt
+stops_unseen mode checker line feed left read.Memory = tt
+stops_unseen mode checker line feed left read.TooMany = tt
+stops_unseen mode checker line feed left (read.NoRun missing) = tt
+stops_unseen mode checker line feed left (read.Unread n) = tt
 
-pub stops_nowhere : (mode : Mode) (o : Option (List ℕ)) (checker : Checker) (line : List ℕ) (feed : Bool) (r : ReadFault) → IsNoAnswer r → Stops mode o checker line feed (Err r)
-stops_nowhere mode o checker line feed (read.Found finding) none = absurd none
-stops_nowhere mode o checker line feed read.Memory none = tt
-stops_nowhere mode o checker line feed read.TooMany none = tt
-stops_nowhere mode o checker line feed (read.Unread n) none = tt
+pub stops_nowhere : (mode : Mode) (o : Option (List ℕ)) (checker : Checker) (line : List ℕ) (feed : Bool) (left : Option (List ℕ)) (r : ReadFault) → IsNoAnswer r → Stops mode o checker line feed left (Err r)
+stops_nowhere mode o checker line feed left (read.Found finding) none = absurd none
+stops_nowhere mode o checker line feed left read.Memory none = tt
+stops_nowhere mode o checker line feed left read.TooMany none = tt
+stops_nowhere mode o checker line feed left (read.NoRun missing) none = absurd none
+stops_nowhere mode o checker line feed left (read.Unread n) none = tt
 
 -- at a faulty line
 pub stops_wrong : (mode : Mode) (all left rest : Option (List ℕ)) (messages : List Message) (checker : Checker) (line : List ℕ) (feed : Bool) (fault : Fault) (r : ReadFault) → Leads mode all left messages → IfSome left (Gives (next.Line feed) line rest)
-    → (fault ≢ Memory → read_line mode.find messages line ≡ Err fault) → HasRead checker messages → IsFaultAt mode messages (length messages + 1) fault r → Stops mode all checker line feed (Err r)
-stops_wrong mode None left rest messages checker line feed fault r h gives e read is = stops_unseen mode checker line feed r
+    → (fault ≢ Memory → read_line mode.find messages line ≡ Err fault) → HasRead checker messages → IsFaultAt mode messages (length messages + 1) fault r → Stops mode all checker line feed rest (Err r)
+stops_wrong mode None left rest messages checker line feed fault r h gives e read is = stops_unseen mode checker line feed rest r
 stops_wrong mode (Some bytes) left rest messages checker line feed fault r h gives e read is =
     let k = given left rest (next.Line feed) line h.0 h.1 gives in
     let at = ahead mode messages bytes h.0 k.0 h.2 in
-    stops_at mode bytes messages checker line feed (length messages + 1) fault r is
+    stops_at mode bytes messages checker line feed rest (length messages + 1) fault r is
     (λ memory. subst (λ (ms : List Message). HasRead checker ms)
     (judged_here mode messages line (cut_lines (drop_through 10 h.0)) fault (judged mode (cut_lines bytes)) (e memory) (ap (λ (l : List ℕ). judged_after mode messages (l ∷ cut_lines (drop_through 10 h.0))) k.1 ∙ at.reached)) read)
     (λ tells. here_is messages bytes h.0 line h.2.place k.1)
     (λ tells. feed_is messages bytes h.0 feed h.2.place k.3)
+    (λ tells. left_is messages bytes h.0 rest h.2.place k.2)
 
 -- at a line that is too long
 pub stops_too_long : (mode : Mode) (all left rest : Option (List ℕ)) (messages : List Message) (checker : Checker) (line : List ℕ) (feed : Bool) (r : ReadFault) → Leads mode all left messages → IfSome left (Gives next.TooLong line rest)
-    → HasRead checker messages → IsFaultAt mode messages (length messages + 1) TooLong r → Stops mode all checker line feed (Err r)
-stops_too_long mode None left rest messages checker line feed r h gives read is = stops_unseen mode checker line feed r
+    → HasRead checker messages → IsFaultAt mode messages (length messages + 1) TooLong r → Stops mode all checker line feed rest (Err r)
+stops_too_long mode None left rest messages checker line feed r h gives read is = stops_unseen mode checker line feed rest r
 stops_too_long mode (Some bytes) left rest messages checker line feed r h gives read is =
     let k = given left rest next.TooLong line h.0 h.1 gives in
     let at = ahead mode messages bytes h.0 k.0 h.2 in
-    stops_at mode bytes messages checker line feed (length messages + 1) TooLong r is
+    stops_at mode bytes messages checker line feed rest (length messages + 1) TooLong r is
     (λ memory. subst (λ (ms : List Message). HasRead checker ms)
     (judged_here mode messages (first_line h.0) (cut_lines (drop_through 10 h.0)) TooLong (judged mode (cut_lines bytes)) (too_long mode.find (first_line h.0) messages k.1) at.reached) read)
     (not_then (reports_line TooLong) line (line_at (length messages + 1) bytes) refl)
     (not_then (reports_line TooLong) feed (feed_at (length messages + 1) bytes) refl)
+    (not_then (reports_line TooLong) rest (Some (after_lines (length messages + 1) bytes)) refl)
 
 abbrev no_such : Fault → Result Whole Fault
 no_such fault = Err fault
@@ -254,36 +266,41 @@ end_tells_none : (mode : Mode) (messages : List Message) (fault : Fault) → end
 unfolding end_of
 end_tells_none mode messages fault e = by_open (any_open messages) e
   where
-    by_apply : (p : Bool) → cond p (no_such NoApply) (no_such NoEnd) ≡ Err fault → reports_line fault ≡ false
-    by_apply true e = ap reports_line (sym (fault_of NoApply fault e))
-    by_apply false e = ap reports_line (sym (fault_of NoEnd fault e))
+    by_lines : (b : Bool) → reports_line (cond b (NoMessage (length messages)) NoEnd) ≡ false
+    by_lines true = refl
+    by_lines false = refl
 
-    by_end : (b : Bool) → cond b (Ok (whole_of mode messages)) (cond (is_plan_stream messages) (no_such NoApply) (no_such NoEnd)) ≡ Err fault → reports_line fault ≡ false
+    by_apply : (p : Bool) → reports_line (cond p NoApply (cond (is_without_messages messages) (NoMessage (length messages)) NoEnd)) ≡ false
+    by_apply true = refl
+    by_apply false = by_lines (is_without_messages messages)
+
+    by_end : (b : Bool) → cond b (Ok (whole_of mode messages)) (no_such (no_end_of messages)) ≡ Err fault → reports_line fault ≡ false
     by_end true e = absurd cc
-    by_end false e = by_apply (is_plan_stream messages) e
+    by_end false e = ap reports_line (sym (fault_of (no_end_of messages) fault e)) ∙ by_apply (is_plan_stream messages)
 
-    by_plan : (b : Bool) → cond b (Ok (whole_plan_of mode messages)) (cond (list_any is_summary messages || list_any is_error messages) (Ok (whole_of mode messages)) (cond (is_plan_stream messages) (no_such NoApply) (no_such NoEnd))) ≡ Err fault → reports_line fault ≡ false
+    by_plan : (b : Bool) → cond b (Ok (whole_plan_of mode messages)) (cond (list_any is_summary messages || list_any is_error messages) (Ok (whole_of mode messages)) (no_such (no_end_of messages))) ≡ Err fault → reports_line fault ≡ false
     by_plan true e = absurd cc
     by_plan false e = by_end (list_any is_summary messages || list_any is_error messages) e
 
-    by_open : (b : Bool) → cond b (no_such Unended) (cond (mode.plan && is_plan_stream messages) (Ok (whole_plan_of mode messages)) (cond (list_any is_summary messages || list_any is_error messages) (Ok (whole_of mode messages)) (cond (is_plan_stream messages) (no_such NoApply) (no_such NoEnd)))) ≡ Err fault → reports_line fault ≡ false
+    by_open : (b : Bool) → cond b (no_such Unended) (cond (mode.plan && is_plan_stream messages) (Ok (whole_plan_of mode messages)) (cond (list_any is_summary messages || list_any is_error messages) (Ok (whole_of mode messages)) (no_such (no_end_of messages)))) ≡ Err fault → reports_line fault ≡ false
     by_open true e = ap reports_line (sym (fault_of Unended fault e))
     by_open false e = by_plan (mode.plan && is_plan_stream messages) e
 
 -- at the end
 pub stops_out : (mode : Mode) (all left rest : Option (List ℕ)) (messages : List Message) (checker : Checker) (line : List ℕ) (feed : Bool) (fault : Fault) (r : ReadFault) → Leads mode all left messages → IfSome left (Gives next.End line rest)
-    → HasRead checker messages → end_of mode messages ≡ Err fault → IsFaultAt mode messages (length messages) fault r → Stops mode all checker line feed (Err r)
-stops_out mode None left rest messages checker line feed fault r h gives read e is = stops_unseen mode checker line feed r
+    → HasRead checker messages → end_of mode messages ≡ Err fault → IsFaultAt mode messages (length messages) fault r → Stops mode all checker line feed rest (Err r)
+stops_out mode None left rest messages checker line feed fault r h gives read e is = stops_unseen mode checker line feed rest r
 stops_out mode (Some bytes) left rest messages checker line feed fault r h gives read e is =
     let none = (given left rest next.End line h.0 h.1 gives).0 in
-    stops_at mode bytes messages checker line feed (length messages) fault r is
+    stops_at mode bytes messages checker line feed rest (length messages) fault r is
     (λ memory. subst (λ (ms : List Message). HasRead checker ms)
     (judged_all mode messages (judged mode (cut_lines bytes)) (ap (λ (xs : List ℕ). judged_after mode messages (cut_lines xs)) (sym none) ∙ h.2.reached)) read)
     (not_then (reports_line fault) line (line_at (length messages) bytes) (end_tells_none mode messages fault e))
     (not_then (reports_line fault) feed (feed_at (length messages) bytes) (end_tells_none mode messages fault e))
+    (not_then (reports_line fault) rest (Some (after_lines (length messages) bytes)) (end_tells_none mode messages fault e))
 
 pub stops_ended : (mode : Mode) (all left rest : Option (List ℕ)) (messages : List Message) (checker : Checker) (line : List ℕ) (feed : Bool) (r : Result Whole ReadFault) → Leads mode all left messages → IfSome left (Gives next.End line rest)
-    → HasRead checker messages → IfErr r (λ answer. (ms : List Message) → HasRead checker ms → (fault : Fault) × (end_of mode ms ≡ Err fault) × IsFaultAt mode ms (length ms) fault answer) → Stops mode all checker line feed r
+    → HasRead checker messages → IfErr r (λ answer. (ms : List Message) → HasRead checker ms → (fault : Fault) × (end_of mode ms ≡ Err fault) × IsFaultAt mode ms (length ms) fault answer) → Stops mode all checker line feed rest r
 stops_ended mode all left rest messages checker line feed (Ok whole) h gives read why = tt
 stops_ended mode all left rest messages checker line feed (Err answer) h gives read why =
     let w = why messages read in
@@ -309,12 +326,14 @@ about_same : (find b : Bool) (line there : List ℕ) → (b ≡ true → line �
 about_same find true line there same = ap (about_line find) (same refl)
 about_same find false line there same = refl
 
-pub report_holds : (mode : Mode) (bytes : List ℕ) (finding : Finding) (checker : Checker) (line : List ℕ) (feed : Bool) (report : FindingReport) → report.finding ≡ finding → report.text.now ≡ line
+pub report_holds : (mode : Mode) (bytes : List ℕ) (finding : Finding) (checker : Checker) (line : List ℕ) (feed : Bool) (left : Option (List ℕ)) (report : FindingReport) → report.finding ≡ finding → report.text.now ≡ line
     → report.is_cut_off ≡ (is_no_json finding.fault && not feed)
     → option_map object_view report.object ≡ cond (reports_object finding.fault) (about_line mode.find line) None
     → (finding.fault ≡ Unended → (messages : List Message) → HasRead checker messages → AreAllOpen messages report.«open».now)
-    → StopsAt mode bytes finding checker line feed → IsReportOf mode bytes report
-report_holds mode bytes finding checker line feed report same text cut about open_there stops = record {
+    → report.lines_before ≡ mode.lines_before
+    → ((rest : List ℕ) → (reports_line finding.fault ≡ true → left ≡ Some rest) → IfSome report.runs (λ n. n ≡ runs_from mode.find rest))
+    → StopsAt mode bytes finding checker line feed left → IsReportOf mode bytes report
+report_holds mode bytes finding checker line feed left report same text cut about open_there before runs stops = record {
   text = λ front. text ∙ stops.is_line (shown front) ∙ number;
   cut_off = λ front.
       cut_same report.finding.fault finding.fault feed (feed_at report.finding.line bytes) report.is_cut_off (ap (λ (f : Finding). f.fault) same) cut
@@ -323,6 +342,8 @@ report_holds mode bytes finding checker line feed report same text cut about ope
       ∙ about_same mode.find (reports_object finding.fault) line (line_at finding.line bytes) (λ tells. stops.is_line (object_is_line finding.fault tells))
       ∙ sym (ap (λ (f : Finding). cond (reports_object f.fault) (about_line mode.find (line_at f.line bytes)) None) same);
   «open» = λ is. open_there (sym (ap (λ (f : Finding). f.fault) same) ∙ is) (judged mode (cut_lines bytes)) stops.has_read;
+  before = before;
+  runs = subst (λ (f : Finding). IfSome report.runs (λ n. n ≡ runs_from mode.find (after_lines f.line bytes))) (sym same) (runs (after_lines finding.line bytes) stops.is_left);
 }
   where
     number : line_at finding.line bytes ≡ line_at report.finding.line bytes
@@ -331,10 +352,12 @@ report_holds mode bytes finding checker line feed report same text cut about ope
     shown : reports_front report.finding.fault ≡ true → reports_line finding.fault ≡ true
     shown front = front_is_line finding.fault (sym (ap (λ (f : Finding). reports_front f.fault) same) ∙ front)
 
-pub report_holds_if_known : (mode : Mode) (seen : Option (List ℕ)) (finding : Finding) (checker : Checker) (line : List ℕ) (feed : Bool) (report : FindingReport) → report.finding ≡ finding → report.text.now ≡ line
+pub report_holds_if_known : (mode : Mode) (seen : Option (List ℕ)) (finding : Finding) (checker : Checker) (line : List ℕ) (feed : Bool) (left : Option (List ℕ)) (report : FindingReport) → report.finding ≡ finding → report.text.now ≡ line
     → report.is_cut_off ≡ (is_no_json finding.fault && not feed)
     → option_map object_view report.object ≡ cond (reports_object finding.fault) (about_line mode.find line) None
     → (finding.fault ≡ Unended → (messages : List Message) → HasRead checker messages → AreAllOpen messages report.«open».now)
-    → IfSome seen (λ bytes. StopsAt mode bytes finding checker line feed) → IfSome seen (λ bytes. IsReportOf mode bytes report)
-report_holds_if_known mode None finding checker line feed report same text cut about open_there stops = tt
-report_holds_if_known mode (Some bytes) finding checker line feed report same text cut about open_there stops = report_holds mode bytes finding checker line feed report same text cut about open_there stops
+    → report.lines_before ≡ mode.lines_before
+    → ((rest : List ℕ) → (reports_line finding.fault ≡ true → left ≡ Some rest) → IfSome report.runs (λ n. n ≡ runs_from mode.find rest))
+    → IfSome seen (λ bytes. StopsAt mode bytes finding checker line feed left) → IfSome seen (λ bytes. IsReportOf mode bytes report)
+report_holds_if_known mode None finding checker line feed left report same text cut about open_there before runs stops = tt
+report_holds_if_known mode (Some bytes) finding checker line feed left report same text cut about open_there before runs stops = report_holds mode bytes finding checker line feed left report same text cut about open_there before runs stops

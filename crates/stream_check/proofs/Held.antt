@@ -1,11 +1,11 @@
 -- A checker that holds what is needed of the messages so far.
-use Rattle.std.proofs.Common.{◌≡◌, ℕ, List, Bool, true, false, cond, not, Option, Result, Ok, Err, refl, sym, ap, ◌∙◌}
+use Rattle.std.proofs.Common.{◌≡◌, ℕ, List, Bool, true, false, not, Option, Result, Ok, Err, refl, sym, ap, ◌∙◌}
 use Rattle.std.specs.Prelude.{◌&&◌, ◌||◌, is_some, nat_lt, unwrap_or}
 use Rattle.std.specs.BTreeMap.{get_by_text}
 use Rattle.std.specs.List.{list_any}
 use Rattle.stream_check.specs.declared.rules.checker.Checker.{Checker}
 use Rattle.stream_check.specs.declared.rules.fault.Fault.{Fault}
-use Rattle.stream_check.specs.declared.rules.fault.Fault.TheVariants.{NoApply, NoEnd, Unended}
+use Rattle.stream_check.specs.declared.rules.fault.Fault.TheVariants.{Unended}
 use Rattle.stream_check.specs.declared.rules.mode.Mode.{Mode}
 use Rattle.stream_check.specs.declared.rules.address_state.AddressState.{AddressState}
 use Rattle.stream_check.specs.declared.rules.tally.Tally.{Tally}
@@ -15,7 +15,7 @@ use Rattle.stream_check.specs.Lines.{end_of, is_plan_stream, whole_of, whole_pla
 use Rattle.stream_check.specs.Message.{Message}
 use Rattle.stream_check.specs.Open.{any_open, is_open_at, stands_open}
 use Rattle.stream_check.specs.AddressState.{idle, state_of}
-use Rattle.stream_check.specs.Tallied.{has_nothing_begun}
+use Rattle.stream_check.specs.Tallied.{has_nothing_begun, no_end_fault}
 use Rattle.stream_check.specs.Tally.{is_error, is_summary}
 use Rattle.stream_check.proofs.Continuing.{kept}
 use Rattle.stream_check.proofs.Counting.{line_any}
@@ -77,13 +77,9 @@ abbrev faulty : Fault → Result Whole Fault
 faulty fault = Err fault
 
 pub ends_badly : (mode : Mode) (checker : Checker) (messages : List Message) → HasRead checker messages → any_open messages ≡ false → (mode.plan && has_nothing_begun checker.tally) ≡ false
-    → (is_some checker.tally.summary || checker.tally.has_failed) ≡ false → end_of mode messages ≡ Err (cond (has_nothing_begun checker.tally) NoApply NoEnd)
+    → (is_some checker.tally.summary || checker.tally.has_failed) ≡ false → end_of mode messages ≡ Err (no_end_fault checker.tally)
 unfolding end_of
 ends_badly mode checker messages read closed no_plan last =
     let no : (mode.plan && is_plan_stream messages) ≡ false = ap (λ (b : Bool). mode.plan && b) (sym (plan_is checker messages read)) ∙ no_plan in
     let told : (list_any is_summary messages || list_any is_error messages) ≡ false = sym (closed_is checker messages read) ∙ last in
-    rw (closed, no, told, plan_is checker messages read) (choose (is_plan_stream messages))
-  where
-    choose : (b : Bool) → cond b (faulty NoApply) (faulty NoEnd) ≡ faulty (cond b NoApply NoEnd)
-    choose true = refl
-    choose false = refl
+    rw (closed, no, told) (ap (λ (t : Tally). faulty (no_end_fault t)) (sym read.tally))

@@ -22,3 +22,4 @@ pub mod Statuses
 pub mod Summaries
 pub mod Summing
 pub mod WholeStream
+pub mod Searching

@@ -7,7 +7,11 @@ use Rattle.std.proofs.KnownBytes.{Keeps-refl}
 use Rattle.serde_json.specs.Data.{no_members, object}
 use Rattle.serde_json.specs.Written.{compact_text}
 use Rattle.stream_lines.specs.Cut.{cut_lines}
-use Rattle.stream_check.specs.CommandLine.{IsSilent}
+use Rattle.stream_runs.specs.Selected.{IsSelected}
+use Rattle.stream_runs.specs.declared.choice.RunChoice.{RunChoice}
+use Rattle.stream_runs.specs.declared.fault.RunFault.TheVariants as run
+use Rattle.stream_check.specs.CommandLine.{HasJudgedChoice, IsSilent}
+use Rattle.stream_check.specs.declared.command.settings.Settings.{Settings}
 use Rattle.stream_check.specs.Reading.{IsAnswer}
 use Rattle.stream_check.specs.Reports.{IsFaultReported, IsReported, IsReportOf, TakesMemory, status_of, whole_report}
 use Rattle.stream_check.specs.ReportObject.{with_report}
@@ -33,6 +37,7 @@ status_most (Ok whole) (Ok done) = whole_most whole.has_errors
 status_most (Ok whole) (Err why) = omega arith
 status_most (Err (read.Found finding)) (Ok done) = omega arith
 status_most (Err read.TooMany) (Ok done) = omega arith
+status_most (Err (read.NoRun missing)) (Ok done) = omega arith
 status_most (Err (read.Unread number)) (Ok done) = omega arith
 status_most (Err read.Memory) (Ok done) = omega arith
 status_most (Err fault) (Err why) = omega arith
@@ -41,6 +46,7 @@ status_most (Err fault) (Err why) = omega arith
 pub bad : {R : Type 0} (fault : ReadFault) (reported : Result (Unit {0}) Unreported) → status_of (Err fault) reported ≤ 1 → R
 bad (read.Found finding) (Ok done) few = absurd (omega arith)
 bad read.TooMany (Ok done) few = absurd (omega arith)
+bad (read.NoRun missing) (Ok done) few = absurd (omega arith)
 bad (read.Unread number) (Ok done) few = absurd (omega arith)
 bad read.Memory (Ok done) few = absurd (omega arith)
 bad fault (Err why) few = absurd (omega arith)
@@ -115,7 +121,9 @@ pub kept : (mode : Mode) (seen : Option (List ℕ)) (form : Form) (fault : ReadF
     → IsFaultReported mode seen form fault before after
 kept mode seen form (read.Found finding) before after apart keeps = absurd (apart finding refl)
 kept mode seen Text read.TooMany before after apart keeps = keeps
+kept mode seen Text (read.NoRun missing) before after apart keeps = keeps
 kept mode seen Json read.TooMany before after apart keeps = keeps
+kept mode seen Json (read.NoRun missing) before after apart keeps = keeps
 kept mode seen Text (read.Unread number) before after apart keeps = keeps
 kept mode seen Json (read.Unread number) before after apart keeps = keeps
 kept mode seen Text read.Memory before after apart keeps = keeps
@@ -134,3 +142,21 @@ no_finding finding same = cc
 pub no_answer : (mode : Mode) (known : Option (List ℕ)) → IfSome known (λ bytes. IsAnswer mode (cut_lines bytes) (Err read.Memory))
 no_answer mode None = tt
 no_answer mode (Some bytes) = tt
+
+-- want of memory selects nothing, whatever the input holds
+none_selected : (find : Bool) (choice : RunChoice) (known : Option (List ℕ)) → IfSome known (λ bytes. IsSelected find choice bytes (Err run.Memory))
+none_selected find choice None = tt
+none_selected find choice (Some bytes) = tt
+
+-- want of memory before anything was read, whatever was to be judged
+pub memory_judged : (chosen : Option RunChoice) (settings : Settings) (given before after : Option (List ℕ)) → Keeps before after
+    → HasJudgedChoice chosen settings given before after (record { verdict = Err read.Memory; reported = Ok tt })
+memory_judged None settings given before after keeps = record {
+  judged = no_answer settings.mode given;
+  reported = kept settings.mode given settings.form read.Memory before after no_finding keeps;
+}
+memory_judged (Some choice) settings given before after keeps = (
+  Err run.Memory,
+  none_selected settings.mode.find choice given,
+  (refl, kept settings.mode None settings.form read.Memory before after no_finding keeps),
+)

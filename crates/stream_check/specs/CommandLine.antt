@@ -1,16 +1,22 @@
 -- The options of `check`, the settings they state, and what the command does.
-use Rattle.std.specs.Prelude.{◌≡◌, ◌⊎◌, ℕ, Bool, List, [], ◌∷◌, Option, Some, IfSome, Ok, Err, true, false, codes, is_err, is_some, option_map, string_bytes}
+use Rattle.std.specs.Prelude.{◌≡◌, ◌⊎◌, ℕ, Bool, List, [], ◌∷◌, Option, Some, None, IfSome, Result, Ok, Err, true, false, codes, is_err, is_some, option_map, string_bytes}
 use Rattle.clap.specs.Simple.{App, new_shape}
 use Rattle.clap.specs.Walk.{Row, first_of, one_of}
 use Rattle.stream_lines.specs.Cut.{cut_lines}
 use Rattle.stream_tool.specs.Arguments.{Arguments}
 use Rattle.stream_tool.specs.Words.{file_rule, flag_rule, unless_dash}
-use Rattle.stream_check.specs.Reading.{IsAnswer}
+use Rattle.stream_runs.specs.Arguments.{is_run_wrong, run_rule, stated_run}
+use Rattle.stream_runs.specs.Selected.{IsSelected}
+use Rattle.stream_runs.specs.declared.choice.RunChoice.{RunChoice}
+use Rattle.stream_runs.specs.declared.fault.RunFault.{RunFault}
+use Rattle.stream_runs.specs.declared.selecting.Run.{Run}
+use Rattle.stream_check.specs.Reading.{IsAnswer, unselected}
 use Rattle.stream_check.specs.Reports.{IsReported, status_of}
 use Rattle.stream_check.specs.declared.command.checked.Checked.{Checked}
 use Rattle.stream_check.specs.declared.command.settings.Form.TheVariants as form
 use Rattle.stream_check.specs.declared.command.unreported.Unreported.TheVariants.{Gone}
 use Rattle.stream_check.specs.declared.command.settings.Settings.{Settings}
+use Rattle.stream_check.specs.declared.rules.mode.Mode.{Mode}
 use Rattle.stream_check.specs.declared.verdict.whole.Whole.{Whole}
 
 -- ---- the options
@@ -20,7 +26,7 @@ abbrev pub command_line : App
 command_line = record {
   top = record (new_shape (codes "applystream check")) {
     no_binary_name = true;
-    rules = flag_rule (codes "json") ∷ flag_rule (codes "find") ∷ flag_rule (codes "plan") ∷ file_rule ∷ [];
+    rules = flag_rule (codes "json") ∷ flag_rule (codes "find") ∷ flag_rule (codes "plan") ∷ run_rule ∷ file_rule ∷ [];
   };
   subs = [];
 }
@@ -36,22 +42,43 @@ pub record AreStated (rows : List Row) (settings : Settings) : Type 0 where
   pub no_plan : one_of (codes "plan") rows ≡ Some (codes "false") → settings.mode.plan ≡ false
   pub json : one_of (codes "json") rows ≡ Some (codes "true") → settings.form ≡ form.Json
   pub text : one_of (codes "json") rows ≡ Some (codes "false") → settings.form ≡ form.Text
+  pub run : settings.run ≡ stated_run rows
+  pub first : settings.mode.lines_before ≡ 0
 
--- how arguments state them; all options go together
+-- how arguments state them; all options go together, but the value of `--run` may name no run
 abbrev pub arguments : Arguments Settings
 arguments = record {
   IsCommand = λ app. app ≡ command_line;
-  are_conflicting = λ rows. false;
+  are_conflicting = is_run_wrong;
   AreStated = AreStated;
   file = λ settings. option_map string_bytes settings.file;
 }
 
 -- ---- what the command does
 
+-- A stream that was read so was judged, and the verdict was reported.
+pub record HasJudged (settings : Settings) (mode : Mode) (given before after : Option (List ℕ)) (checked : Checked) : Type 0 where
+  pub judged : IfSome given (λ bytes. IsAnswer mode (cut_lines bytes) checked.verdict)
+  pub reported : IsReported (is_some settings.file) mode given settings.form checked.verdict checked.reported before after
+
+-- The chosen run was judged, with the lines before it; or the verdict says why there is none.
+abbrev pub HasJudgedRun : Settings → Result Run RunFault → (before after : Option (List ℕ)) → Checked → Type 0
+HasJudgedRun settings (Ok run) before after checked =
+    HasJudged settings (record settings.mode { lines_before = run.lines_before }) (Some run.bytes.items) before after checked
+HasJudgedRun settings (Err fault) before after checked =
+    (checked.verdict ≡ Err (unselected fault))
+    × IsReported (is_some settings.file) settings.mode None settings.form checked.verdict checked.reported before after
+
+-- what was judged: the whole input, or the chosen run of it
+abbrev pub HasJudgedChoice : Option RunChoice → Settings → (given before after : Option (List ℕ)) → Checked → Type 0
+HasJudgedChoice None settings given before after checked = HasJudged settings settings.mode given before after checked
+HasJudgedChoice (Some choice) settings given before after checked =
+    (selected : Result Run RunFault) × IfSome given (λ bytes. IsSelected settings.mode.find choice bytes selected)
+    × HasJudgedRun settings selected before after checked
+
 -- A stream was checked: the verdict, its report, and the exit status.
 pub record HasChecked (settings : Settings) (given before after : Option (List ℕ)) (checked : Checked) (status : ℕ) : Type 0 where
-  pub judged : IfSome given (λ bytes. IsAnswer settings.mode (cut_lines bytes) checked.verdict)
-  pub reported : IsReported (is_some settings.file) settings.mode given settings.form checked.verdict checked.reported before after
+  pub judged : HasJudgedChoice settings.run settings given before after checked
   pub exit : status ≡ status_of checked.verdict checked.reported
 
 -- there is no whole stream

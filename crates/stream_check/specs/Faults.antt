@@ -1,5 +1,5 @@
 -- Faults as programs see them.
-use Rattle.std.specs.Prelude.{ℕ, List, codes, Bool, true, false, ◌||◌, Option, Some, None}
+use Rattle.std.specs.Prelude.{ℕ, ◌+◌, List, codes, Bool, true, false, ◌||◌, min, Option, Some, None}
 use Rattle.stream_check.specs.declared.rules.fault.Fault.{Fault}
 use Rattle.stream_check.specs.declared.rules.fault.Fault.TheVariants as fault
 
@@ -28,6 +28,7 @@ word_of (fault.WrongTotals stated counted) = codes "wrong_totals"
 word_of (fault.WrongPlanTotals stated counted) = codes "wrong_totals"
 word_of fault.NoEnd = codes "no_end"
 word_of fault.NoApply = codes "no_end"
+word_of (fault.NoMessage lines) = codes "no_message"
 word_of fault.Memory = codes "memory"
 
 -- the line that the faulty one contradicts
@@ -41,6 +42,23 @@ other_of (fault.NotLater line) = Some line
 other_of (fault.LeavesProvisioner line) = Some line
 other_of (fault.ProvisionerRuns line) = Some line
 other_of _ = None
+
+-- the number of a line in an input with so many lines before the stream; it stays a number of 64
+-- bits
+abbrev pub line_after : (lines line : ℕ) → ℕ
+line_after lines line = min (lines + line) 18446744073709551615
+
+-- the fault, with the numbers of lines in the input
+abbrev pub fault_after : (lines : ℕ) → Fault → Fault
+fault_after lines (fault.VersionAgain line) = fault.VersionAgain (line_after lines line)
+fault_after lines (fault.AfterSummary line) = fault.AfterSummary (line_after lines line)
+fault_after lines (fault.PlanAgain line) = fault.PlanAgain (line_after lines line)
+fault_after lines (fault.StartsAgain line) = fault.StartsAgain (line_after lines line)
+fault_after lines (fault.TooMany line) = fault.TooMany (line_after lines line)
+fault_after lines (fault.NotLater line) = fault.NotLater (line_after lines line)
+fault_after lines (fault.LeavesProvisioner line) = fault.LeavesProvisioner (line_after lines line)
+fault_after lines (fault.ProvisionerRuns line) = fault.ProvisionerRuns (line_after lines line)
+fault_after lines given = given
 
 -- the report has the front of the faulty line
 abbrev pub reports_front : Fault → Bool
@@ -64,6 +82,7 @@ reports_object (fault.WrongTotals stated counted) = false
 reports_object (fault.WrongPlanTotals stated counted) = false
 reports_object fault.NoEnd = false
 reports_object fault.NoApply = false
+reports_object (fault.NoMessage lines) = false
 reports_object fault.Memory = false
 reports_object _ = true
 

@@ -1,5 +1,5 @@
 -- What a checker has read where a fault ends the check.
-use Rattle.std.specs.Prelude.{◌≡◌, ℕ, List, [], ◌∷◌, Bool, true, ⊤, Option, IfSome, Result, Ok, Err}
+use Rattle.std.specs.Prelude.{◌≡◌, ℕ, List, [], ◌∷◌, Bool, true, ⊤, Option, Some, IfSome, Result, Ok, Err}
 use Rattle.stream_check.specs.declared.rules.checker.Checker.{Checker}
 use Rattle.stream_check.specs.declared.rules.mode.Mode.{Mode}
 use Rattle.stream_check.specs.declared.verdict.finding.Finding.{Finding}
@@ -7,7 +7,7 @@ use Rattle.stream_check.specs.declared.verdict.read_fault.ReadFault.{ReadFault}
 use Rattle.stream_check.specs.declared.verdict.read_fault.ReadFault.TheVariants as read
 use Rattle.stream_check.specs.declared.verdict.whole.Whole.{Whole}
 use Rattle.stream_check.specs.Checking.{HasRead}
-use Rattle.stream_lines.specs.Cut.{cut_lines, feed_at, line_at}
+use Rattle.stream_lines.specs.Cut.{after_lines, cut_lines, feed_at, line_at}
 use Rattle.stream_check.specs.Faults.{reports_line}
 use Rattle.stream_check.specs.Lines.{read_line}
 use Rattle.stream_check.specs.Message.{Message}
@@ -28,17 +28,20 @@ abbrev pub judged : Mode → List (List ℕ) → List Message
 judged mode texts = judged_after mode [] texts
 
 -- A finding ended the check of these bytes. The checker knows the messages before it. Where the
--- report needs the faulty line, `line` is its text, and `feed` says whether it has a line feed.
-pub record StopsAt (mode : Mode) (bytes : List ℕ) (finding : Finding) (checker : Checker) (line : List ℕ) (feed : Bool) : Type 0 where
+-- report needs the faulty line, `line` is its text, `feed` says whether it has a line feed, and the bytes
+-- after it are left.
+pub record StopsAt (mode : Mode) (bytes : List ℕ) (finding : Finding) (checker : Checker) (line : List ℕ) (feed : Bool) (left : Option (List ℕ)) : Type 0 where
   pub has_read : HasRead checker (judged mode (cut_lines bytes))
   pub is_line : reports_line finding.fault ≡ true → line ≡ line_at finding.line bytes
   pub is_feed : reports_line finding.fault ≡ true → feed ≡ feed_at finding.line bytes
+  pub is_left : reports_line finding.fault ≡ true → left ≡ Some (after_lines finding.line bytes)
 
 -- where the check of a reader's bytes ended, if the bytes are known
-abbrev pub Stops : Mode → Option (List ℕ) → Checker → List ℕ → Bool → Result Whole ReadFault → Type 0
-Stops mode input checker line feed (Ok whole) = ⊤
-Stops mode input checker line feed (Err (read.Found finding)) =
-    IfSome input (λ bytes. StopsAt mode bytes finding checker line feed)
-Stops mode input checker line feed (Err read.TooMany) = ⊤
-Stops mode input checker line feed (Err (read.Unread number)) = ⊤
-Stops mode input checker line feed (Err read.Memory) = ⊤
+abbrev pub Stops : Mode → Option (List ℕ) → Checker → List ℕ → Bool → (left : Option (List ℕ)) → Result Whole ReadFault → Type 0
+Stops mode input checker line feed left (Ok whole) = ⊤
+Stops mode input checker line feed left (Err (read.Found finding)) =
+    IfSome input (λ bytes. StopsAt mode bytes finding checker line feed left)
+Stops mode input checker line feed left (Err read.TooMany) = ⊤
+Stops mode input checker line feed left (Err (read.NoRun missing)) = ⊤
+Stops mode input checker line feed left (Err (read.Unread number)) = ⊤
+Stops mode input checker line feed left (Err read.Memory) = ⊤

@@ -12,6 +12,7 @@ pub mod Laws
 pub mod Limits
 pub mod Lines
 pub mod Malformed
+pub mod Marks
 pub mod Members
 pub mod Message
 pub mod MessageView

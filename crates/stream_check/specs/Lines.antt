@@ -1,5 +1,5 @@
 -- The rules of a stream: each line is checked after the lines before it.
-use Rattle.std.specs.Prelude.{ℕ, ◌+◌, List, [], ◌∷◌, length, count_by, codes, Bool, true, false, ◌&&◌, ◌||◌, not, nat_lt, if◌then◌else◌, Option, Some, None, is_some, Result, Ok, Err}
+use Rattle.std.specs.Prelude.{ℕ, ◌+◌, List, [], ◌∷◌, length, count_by, codes, Bool, true, false, ◌==◌, ◌&&◌, ◌||◌, not, nat_lt, if◌then◌else◌, Option, Some, None, is_some, Result, Ok, Err}
 use Rattle.std.specs.List.{list_any}
 use Rattle.std.specs.Option.{option_map_or}
 use Rattle.serde_json.specs.Data.{Data}
@@ -8,7 +8,7 @@ use Rattle.stream_check.specs.declared.messages.action.Action.{Action}
 use Rattle.stream_check.specs.declared.messages.timed_stage.TimedStage.{TimedStage}
 use Rattle.stream_check.specs.declared.messages.totals.Totals.{Totals}
 use Rattle.stream_check.specs.declared.rules.fault.Fault.{Fault}
-use Rattle.stream_check.specs.declared.rules.fault.Fault.TheVariants.{TooLong, NotJson, NoType, NoVersion, VersionAgain, AfterSummary, PlanAgain, OutputsAlone, NotPlanned, Unended, WrongTotals, WrongPlanTotals, NoEnd, NoApply}
+use Rattle.stream_check.specs.declared.rules.fault.Fault.TheVariants.{TooLong, NotJson, NoType, NoVersion, VersionAgain, AfterSummary, PlanAgain, OutputsAlone, NotPlanned, Unended, WrongTotals, WrongPlanTotals, NoEnd, NoApply, NoMessage}
 use Rattle.stream_check.specs.declared.rules.mode.Mode.{Mode}
 use Rattle.stream_check.specs.declared.verdict.finding.Finding.{Finding}
 use Rattle.stream_check.specs.declared.verdict.whole.Whole.{Whole}
@@ -154,6 +154,17 @@ is_plan_stream messages =
     is_some (line_of is_plan_summary messages)
     && (not (is_some (line_of is_summary messages)) && same_totals (begun_totals messages) no_totals)
 
+-- each line was ignored, as the lines of a log are that hold no message
+abbrev pub is_without_messages : List Message → Bool
+is_without_messages messages = count_by is_foreign messages == length messages
+
+-- why a stream has no end: it is that of a plan, it has no message, or its end is missing
+abbrev pub no_end_of : List Message → Fault
+no_end_of messages =
+    if is_plan_stream messages then NoApply
+    else if is_without_messages messages then NoMessage (length messages)
+    else NoEnd
+
 -- The verdict at the end, or the fault of the end. Nothing may be open. There must be a summary or
 -- an error, or the summary of a plan where such a stream is accepted.
 unfoldable pub end_of : Mode → List Message → Result Whole Fault
@@ -161,8 +172,7 @@ end_of mode messages =
     if any_open messages then Err Unended
     else if mode.plan && is_plan_stream messages then Ok (whole_plan_of mode messages)
     else if list_any is_summary messages || list_any is_error messages then Ok (whole_of mode messages)
-    else if is_plan_stream messages then Err NoApply
-    else Err NoEnd
+    else Err (no_end_of messages)
 
 abbrev pub at_line : {A : Type 0} → Mode → List Message → (line : ℕ) → Result A Fault → Result A Finding
 at_line mode earlier line (Ok x) = Ok x

@@ -5,7 +5,7 @@ use Rattle.serde_json.specs.Data.{Data, Members, boolean, no_members, number, ob
 use Rattle.stream_check.specs.declared.messages.totals.Totals.{Totals}
 use Rattle.stream_check.specs.declared.verdict.finding.Finding.{Finding}
 use Rattle.stream_check.specs.declared.verdict.whole.Whole.{Whole}
-use Rattle.stream_check.specs.Faults.{other_of, word_of}
+use Rattle.stream_check.specs.Faults.{fault_after, line_after, other_of, word_of}
 use Rattle.term_text.specs.Fronts.{front_of}
 use Rattle.term_text.specs.Shown.{readable_text}
 
@@ -44,6 +44,10 @@ with_whole whole members =
     (with_number (codes "lines") whole.lines
     (with_member (codes "errors") (boolean whole.has_errors)
     (with_number (codes "change") whole.totals.changed (with_number (codes "add") whole.totals.added members)))))))
+
+-- the finding, with the numbers of lines in the input
+abbrev pub finding_after : (lines : ℕ) → Finding → Finding
+finding_after lines finding = record { line = line_after lines finding.line; fault = fault_after lines finding.fault; passed = finding.passed }
 
 -- the fault and its line, with the line that the faulty one contradicts
 abbrev pub with_finding : Finding → Members → Members

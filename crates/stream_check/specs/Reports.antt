@@ -1,5 +1,5 @@
 -- The report of a verdict and its exit status: a line for people, an object for programs.
-use Rattle.std.specs.Prelude.{◌≡◌, ⊤, ℕ, List, [], ◌∷◌, ◌++◌, codes, decimal, ◌==◌, Bool, true, false, ◌&&◌, not, if◌then◌else◌, Option, Some, None, IfSome, option_map, Result, Ok, Err}
+use Rattle.std.specs.Prelude.{◌≡◌, ⊤, ℕ, List, [], ◌∷◌, ◌++◌, ◌+◌, codes, decimal, min, ◌==◌, Bool, true, false, ◌&&◌, not, if◌then◌else◌, Option, Some, None, IfSome, option_map, Result, Ok, Err}
 use Rattle.std.specs.Io.KnownBytes.{Appends, Keeps}
 use Rattle.serde_json.specs.Data.{no_members, object}
 use Rattle.serde_json.specs.Written.{compact_text}
@@ -15,7 +15,8 @@ use Rattle.stream_check.specs.declared.verdict.whole.Whole.{Whole}
 use Rattle.stream_check.specs.declared.rules.fault.Fault.TheVariants.{Unended}
 use Rattle.stream_check.specs.declared.rules.mode.Mode.{Mode}
 use Rattle.stream_check.specs.About.{about_line, object_view}
-use Rattle.stream_lines.specs.Cut.{cut_lines, feed_at, line_at}
+use Rattle.stream_lines.specs.Cut.{after_lines, cut_lines, feed_at, line_at}
+use Rattle.stream_runs.specs.Counted.{runs_in}
 use Rattle.stream_check.specs.Faults.{is_no_json, reports_front, reports_object}
 use Rattle.stream_check.specs.Judged.{judged}
 use Rattle.stream_check.specs.Objects.{with_whole}
@@ -60,6 +61,7 @@ whole_status_of whole = if whole.has_errors then 1 else 0
 abbrev pub fault_status_of : ReadFault → ℕ
 fault_status_of (read.Found finding) = 4
 fault_status_of read.TooMany = 2
+fault_status_of (read.NoRun missing) = 2
 fault_status_of (read.Unread number) = 2
 fault_status_of read.Memory = 3
 
@@ -71,6 +73,11 @@ status_of (Err fault) (Ok done) = fault_status_of fault
 
 -- ---- what is written
 
+-- how many runs there are where a second one has begun before these bytes; it stays a number of 64
+-- bits
+abbrev pub runs_from : (find : Bool) → List ℕ → ℕ
+runs_from find bytes = min (runs_in find (cut_lines bytes) + 2) 18446744073709551615
+
 -- The report is true of these bytes. Its text is the line of its number. It says whether that line
 -- was cut off, what its message is about, and all that stands open after the messages before the
 -- fault.
@@ -81,6 +88,8 @@ pub record IsReportOf (mode : Mode) (bytes : List ℕ) (report : FindingReport) 
   pub object : option_map object_view report.object
       ≡ (if reports_object report.finding.fault then about_line mode.find (line_at report.finding.line bytes) else None)
   pub «open» : report.finding.fault ≡ Unended → AreAllOpen (judged mode (cut_lines bytes)) report.«open».now
+  pub before : report.lines_before ≡ mode.lines_before
+  pub runs : IfSome report.runs (λ n. n ≡ runs_from mode.find (after_lines report.finding.line bytes))
 
 -- What a fault adds to the output: nothing, or in the form `Json` the object on a line. The object
 -- is true of the input, if its bytes are known.
@@ -100,6 +109,7 @@ abbrev pub TakesMemory : (is_named : Bool) → Result Whole ReadFault → Type 0
 TakesMemory is_named (Ok whole) = ⊤
 TakesMemory is_named (Err (read.Found finding)) = ⊤
 TakesMemory is_named (Err read.TooMany) = ⊥
+TakesMemory is_named (Err (read.NoRun missing)) = ⊥
 TakesMemory is_named (Err (read.Unread number)) = is_named ≡ true
 TakesMemory is_named (Err read.Memory) = ⊥
 
@@ -109,6 +119,7 @@ GoesOut form (Ok whole) = ⊤
 GoesOut form.Json (Err (read.Found finding)) = ⊤
 GoesOut form.Text (Err (read.Found finding)) = ⊥
 GoesOut form (Err read.TooMany) = ⊥
+GoesOut form (Err (read.NoRun missing)) = ⊥
 GoesOut form (Err (read.Unread number)) = ⊥
 GoesOut form (Err read.Memory) = ⊥
 

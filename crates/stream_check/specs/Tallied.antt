@@ -1,9 +1,11 @@
 -- The tally of a checker, line by line, for private clauses.
-use Rattle.std.specs.Prelude.{ℕ, ◌+◌, ◌-◌, List, length, count_by, Bool, true, false, ◌&&◌, not, is_some, Some}
+use Rattle.std.specs.Prelude.{ℕ, ◌+◌, ◌-◌, ◌==◌, if◌then◌else◌, List, length, count_by, Bool, true, false, ◌&&◌, not, is_some, Some}
 use Rattle.std.specs.List.{list_any}
 use Rattle.stream_check.specs.declared.messages.action.Action.{Action}
 use Rattle.stream_check.specs.declared.messages.intent.Intent.{Intent}
 use Rattle.stream_check.specs.declared.messages.timed_stage.TimedStage.{TimedStage}
+use Rattle.stream_check.specs.declared.rules.fault.Fault.{Fault}
+use Rattle.stream_check.specs.declared.rules.fault.Fault.TheVariants.{NoApply, NoEnd, NoMessage}
 use Rattle.stream_check.specs.declared.rules.tally.Tally.{Tally}
 use Rattle.stream_check.specs.Counted.{begun_counted, counted, failures_counted, planned_counted, is_used_up}
 use Rattle.stream_check.specs.Message.{Message}
@@ -68,3 +70,10 @@ is_beyond action stage t =
 
 abbrev pub has_nothing_begun : Tally → Bool
 has_nothing_begun t = is_some t.plan_summary && (not (is_some t.summary) && same_totals t.begun no_totals)
+
+-- the fault of a stream without an end
+abbrev pub no_end_fault : Tally → Fault
+no_end_fault t =
+    if has_nothing_begun t then NoApply
+    else if t.foreign == t.lines then NoMessage t.lines
+    else NoEnd

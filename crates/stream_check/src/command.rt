@@ -9,6 +9,7 @@ pub(crate) mod members;
 pub(crate) mod message_text;
 pub(crate) mod object;
 pub(crate) mod objects;
+pub(crate) mod reading_on;
 pub(crate) mod refusals;
 pub(crate) mod settings;
 pub(crate) mod status;

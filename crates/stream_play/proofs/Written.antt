@@ -132,6 +132,7 @@ pub unread : (find : Bool) (fault : PlayFault) (all left : Option (List ℕ)) (n
 unread find fault None left n a b c h keeps is = tt
 unread find (play.TooLong number) (Some bytes) left n a b c h keeps is = absurd is
 unread find play.TooMany (Some bytes) left n a b c h keeps is = absurd is
+unread find (play.NoRun missing) (Some bytes) left n a b c h keeps is = absurd is
 unread find (play.Unread failed) (Some bytes) left n a b c h keeps is = (n, lines_kept find bytes n a b c h.lines keeps)
 unread find play.Memory (Some bytes) left n a b c h keeps is = (n, lines_kept find bytes n a b c h.lines keeps)
 unread find play.Gone (Some bytes) left n a b c h keeps is =
@@ -155,6 +156,7 @@ part_of_line find bytes whole n k a b c is h part =
 line_fault : (find : Bool) (fault : PlayFault) (bytes whole : List ℕ) (n : ℕ) (a b c : Option (List ℕ)) → output_of find (after_lines n bytes) ≡ whole ++ output_of find (drop_through 10 (after_lines n bytes)) → LinesWritten find bytes n a b → IsLineWritten whole b c (Err fault) → IsPlayed find bytes a c (Err fault)
 line_fault find (play.TooLong number) bytes whole n a b c is h played = absurd played
 line_fault find play.TooMany bytes whole n a b c is h played = absurd played
+line_fault find (play.NoRun missing) bytes whole n a b c is h played = absurd played
 line_fault find (play.Unread failed) bytes whole n a b c is h played = absurd played
 line_fault find play.Memory bytes whole n a b c is h played = (n, lines_kept find bytes n a b c h played)
 line_fault find play.Gone bytes whole n a b c is h played = part_of_line find bytes whole n played.0 a b c is h played.1

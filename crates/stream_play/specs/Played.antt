@@ -7,6 +7,8 @@ use Rattle.stream_lines.specs.Limits.{max_bytes}
 use Rattle.stream_lines.specs.declared.line_fault.LineFault.{LineFault}
 use Rattle.stream_lines.specs.declared.line_fault.LineFault.TheVariants as of
 use Rattle.stream_message.specs.Located.{found_message}
+use Rattle.stream_runs.specs.declared.fault.RunFault.{RunFault}
+use Rattle.stream_runs.specs.declared.fault.RunFault.TheVariants as run
 use Rattle.stream_tool.specs.declared.writing.WriteFault.{WriteFault}
 use Rattle.stream_tool.specs.declared.writing.WriteFault.TheVariants as write
 use Rattle.stream_play.specs.declared.play_fault.PlayFault.{PlayFault}
@@ -16,6 +18,14 @@ use Rattle.stream_play.specs.declared.play_fault.PlayFault.TheVariants as play
 abbrev pub as_play_fault : LineFault → PlayFault
 as_play_fault (of.Unread failed) = play.Unread failed
 as_play_fault of.Memory = play.Memory
+
+-- why no run could be played
+abbrev pub unselected : RunFault → PlayFault
+unselected (run.Missing missing) = play.NoRun missing
+unselected (run.TooLong line) = play.TooLong line
+unselected run.TooMany = play.TooMany
+unselected (run.Unread failed) = play.Unread failed
+unselected run.Memory = play.Memory
 
 -- a failed write or flush ends the playing with the same fault
 abbrev pub write_fault : WriteFault → PlayFault
@@ -65,6 +75,7 @@ IsPlayed find bytes before after (Ok done) = Appends before after (output_of fin
 IsPlayed find bytes before after (Err (play.TooLong number)) =
     LinesWritten find bytes (number - 1) before after × (max_bytes < length (line_at number bytes))
 IsPlayed find bytes before after (Err play.TooMany) = TooManyWritten find bytes before after
+IsPlayed find bytes before after (Err (play.NoRun missing)) = ⊥
 IsPlayed find bytes before after (Err (play.Unread failed)) = (count : ℕ) × LinesWritten find bytes count before after
 IsPlayed find bytes before after (Err play.Memory) = (count : ℕ) × LinesWritten find bytes count before after
 IsPlayed find bytes before after (Err play.Gone) = FrontWritten find bytes before after
@@ -76,6 +87,7 @@ abbrev pub IsLineWritten : List ℕ → (before after : Option (List ℕ)) → R
 IsLineWritten line before after (Ok done) = Appends before after line
 IsLineWritten line before after (Err (play.TooLong number)) = ⊥
 IsLineWritten line before after (Err play.TooMany) = ⊥
+IsLineWritten line before after (Err (play.NoRun missing)) = ⊥
 IsLineWritten line before after (Err (play.Unread failed)) = ⊥
 IsLineWritten line before after (Err play.Memory) = Keeps before after
 IsLineWritten line before after (Err play.Gone) = (n : ℕ) × Appends before after (take n line)
@@ -85,6 +97,7 @@ IsLineWritten line before after (Err play.Unwritten) = (n : ℕ) × Appends befo
 abbrev pub IsReadFault : PlayFault → Type 0
 IsReadFault (play.TooLong number) = ⊥
 IsReadFault play.TooMany = ⊥
+IsReadFault (play.NoRun missing) = ⊥
 IsReadFault (play.Unread failed) = ⊤
 IsReadFault play.Memory = ⊤
 IsReadFault play.Gone = ⊤

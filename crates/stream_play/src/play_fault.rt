@@ -1,11 +1,12 @@
 //! Why a stream was not played to its end.
 
 ghost use Rattle.std.specs.Prelude.{◌≡◌};
-ghost use Rattle.stream_play.specs.Played.{as_play_fault, write_fault};
+ghost use Rattle.stream_play.specs.Played.{as_play_fault, unselected, write_fault};
 ghost use Rattle.stream_play.specs.declared.play_fault.PlayFault.TheVariants.{Memory};
 
 use std::alloc::{AllocError, AllocFailed};
 use stream_lines::{FailedRead, LineFault};
+use stream_runs::{MissingRun, RunFault};
 use stream_tool::WriteFault;
 use thiserror::Error;
 
@@ -18,6 +19,9 @@ pub enum PlayFault {
     /// The stream has more than 18,446,744,073,709,551,614 lines.
     #[error("the stream has more than 18446744073709551614 lines")]
     TooMany,
+    /// The run that was chosen is not there.
+    #[error("{0}")]
+    NoRun(MissingRun),
     /// A read failed.
     #[error("the stream could not be read")]
     Unread(FailedRead),
@@ -39,6 +43,20 @@ impl From<LineFault> for PlayFault {
         match given {
             LineFault::Unread(failed) => PlayFault::Unread(failed),
             LineFault::Memory => PlayFault::Memory,
+        }
+    }
+}
+
+impl From<RunFault> for PlayFault {
+    ghost from_gives = { λ given fault. fault ≡ unselected given };
+
+    fn from(given: RunFault) -> PlayFault {
+        match given {
+            RunFault::Missing(missing) => PlayFault::NoRun(missing),
+            RunFault::TooLong(line) => PlayFault::TooLong(line),
+            RunFault::TooMany => PlayFault::TooMany,
+            RunFault::Unread(failed) => PlayFault::Unread(failed),
+            RunFault::Memory => PlayFault::Memory,
         }
     }
 }

@@ -11,6 +11,7 @@ use crate::command::settings::{Form, Settings};
 use crate::rules::mode::Mode;
 use clap::{ArgMatches, Command};
 use std::alloc::{AllocError, Global};
+use stream_runs::{run_of, run_option};
 use stream_tool::{FIND, file, file_of, flag, is_given, with_option};
 
 const ABOUT: &str =
@@ -26,6 +27,9 @@ const AFTER: &str = r#"Example, while Terraform writes the stream:
 Example of a job's log:
   applystream check --find job.log
 
+Example of the last of several runs in a log:
+  applystream check --find --run last job.log
+
 Example of a stream that was cut off:
   $ applystream check stream.jsonl
   applystream: line 4 comes before all has ended and each failure is explained: create of null_resource.a since line 2
@@ -33,7 +37,7 @@ Example of a stream that was cut off:
 Exit status:
   0  the stream is whole and reports no error; or help was printed
   1  the stream is whole and reports an error
-  2  the stream was not checked: wrong options, or a file or a stream that can't be read
+  2  the stream was not checked: wrong options, no such run, or a file or a stream that can't be read
   3  out of memory, or the output could not be written
   4  the stream is not whole"#;
 
@@ -55,6 +59,7 @@ pub(crate) fn command<'a>(alloc: Global) -> Result<Command<'a>, AllocError>
     let line = with_option(line, flag(alloc, "json", JSON));
     let line = with_option(line, flag(alloc, "find", FIND));
     let line = with_option(line, flag(alloc, "plan", PLAN));
+    let line = with_option(line, run_option(alloc));
     with_option(line, file(alloc))
 }
 
@@ -67,7 +72,9 @@ pub(crate) fn settings_of(alloc: Global, matches: &ArgMatches<'_>) -> Result<Set
         mode: Mode {
             find: is_given(matches, "find"),
             plan: is_given(matches, "plan"),
+            lines_before: 0,
         },
+        run: run_of(matches),
         form: form_of(matches),
         file,
     })

@@ -16,4 +16,8 @@ pub struct FindingReport<'a> {
     pub object: Option<Object<'a>>,
     /// What stands open, where that is the fault.
     pub open: &'a [OpenEntry<'a>],
+    /// How many lines of the input stand before the stream. Their number is added to each line.
+    pub lines_before: u64,
+    /// How many runs the input has, where its second run is the fault and they were counted.
+    pub runs: Option<u64>,
 }

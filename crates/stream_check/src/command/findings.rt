@@ -16,6 +16,7 @@ ghost use Rattle.stream_check.specs.declared.verdict.read_fault.ReadFault.{ReadF
 
 use crate::command::finding_report::FindingReport;
 use crate::command::object::{Object, object_in};
+use crate::command::reading_on::{runs_there, suggest};
 use crate::command::settings::Form;
 use crate::command::texts::finding_line;
 use crate::command::unreported::Unreported;
@@ -28,37 +29,43 @@ use crate::rules::open_entry::OpenEntry;
 use crate::verdict::finding::Finding;
 use apply_json::Scratch;
 use std::alloc::{AllocError, Global};
-use std::io::Write;
+use std::io::{BufRead, Write};
 use stream_lines::Line;
 
-/// Reports the finding, with what is known about the faulty line. `Err` with `Unreported::Memory`
-/// where memory was refused. In the form `Json`, `Err` also where the object could not be written.
-pub fn report_finding<W: Write, E: Write>(
+/// Reports the finding, with what is known about the faulty line. `reader` has the bytes after that
+/// line. They are read on where they tell which option takes the stream.
+///
+/// `Err` with `Unreported::Memory` where memory was refused. In the form `Json`, `Err` also where the object could not be written.
+pub fn report_finding<R: BufRead, W: Write, E: Write>(
     alloc: Global,
     mode: Mode,
     form: Form,
     checker: &Checker,
     line: &Line,
     finding: &Finding,
+    reader: &mut R,
     out: &mut W,
     faults: &mut E,
 ) -> Result<(), Unreported>
-    ensures reported { (seen : Option (List ℕ)) → IfSome seen (λ bytes. StopsAt mode bytes finding.now checker.now line.now.text.items line.now.has_feed)
+    ensures reported { (seen : Option (List ℕ)) → IfSome seen (λ bytes. StopsAt mode bytes finding.now checker.now line.now.text.items line.now.has_feed (R.remaining reader.old))
         → (is_named : Bool) → IsReported is_named mode seen form (Err (fault_type.Found finding.now)) result (W.contents out.old) (W.contents out.new) }
     ensures gone { result ≡ Err Gone → Keeps (E.contents faults.old) (E.contents faults.new) }
 {
     let mut scratch = Scratch::new(alloc);
     let object = object_of(alloc, &mut scratch, mode, line, finding.fault)?;
     let open = open_entries(alloc, checker, finding.fault)?;
+    let runs = runs_there(alloc, mode.find, form, finding.fault, reader)?;
     let report = FindingReport {
         finding: *finding,
         text: &line.text,
         is_cut_off: is_cut_off(line, finding.fault),
         object,
         open: &open,
+        lines_before: mode.lines_before,
+        runs,
     };
     match form {
-        Form::Text => report_finding_text(alloc, &report, faults),
+        Form::Text => report_finding_text(alloc, mode.find, &report, reader, faults),
         Form::Json => report_finding_object(alloc, &report, out),
     }
 }
@@ -73,16 +80,21 @@ fn is_cut_off(line: &Line, fault: Fault) -> bool
     }
 }
 
-/// Writes the finding for people, on `faults`. `Err` where memory was refused.
-fn report_finding_text<E: Write>(
+/// Writes the finding for people, on `faults`, and then which option takes the stream. `Err` where
+/// memory was refused for the finding.
+fn report_finding_text<R: BufRead, E: Write>(
     alloc: Global,
+    find: bool,
     report: &FindingReport<'_>,
+    reader: &mut R,
     faults: &mut E,
 ) -> Result<(), Unreported>
     ensures { IfErr result (λ unreported. unreported ≡ Memory) }
 {
     let line = finding_line(alloc, report)?;
     let _ = faults.write_all(line.as_str().as_bytes());
+    let _ = faults.flush();
+    suggest(alloc, find, report, reader, faults);
     Ok(())
 }
 

@@ -11,7 +11,7 @@ use crate::command::members::Members;
 use crate::command::object::Object;
 use crate::command::texts::LINE_FRONT;
 use crate::messages::totals::Totals;
-use crate::rules::fault::Fault;
+use crate::rules::fault::{Fault, line_after};
 use crate::rules::open_entry::OpenEntry;
 use crate::verdict::finding::Finding;
 use crate::verdict::whole::Whole;
@@ -55,9 +55,10 @@ fn put_count(members: &mut Members, name: &str, count: Option<u64>)
 pub fn put_report(members: &mut Members, report: &FindingReport<'_>)
     ensures { Puts members.old members.new (report_object.with_report report.now) }
 {
-    put_finding(members, &report.finding);
+    put_finding(members, &report.finding.after_lines(report.lines_before));
     put_object(members, report.object);
     put_details(members, report);
+    put_count(members, "runs", report.runs);
 }
 
 /// Adds the fault and its line, with the line that the faulty one contradicts.
@@ -101,7 +102,8 @@ fn put_details(members: &mut Members, report: &FindingReport<'_>)
             put_totals(members, "says", stated);
             put_totals(members, "counted", counted);
         }
-        Fault::Unended => put_open(members, report.open),
+        Fault::Unended => put_open(members, report.lines_before, report.open),
+        Fault::NoMessage(lines) => members.number("lines", lines),
         _ => {}
     }
 }
@@ -134,31 +136,39 @@ fn totals_object(alloc: Global, totals: Totals) -> Result<Value, AllocError>
 }
 
 /// Adds all that stands open.
-fn put_open(members: &mut Members, entries: &[OpenEntry<'_>])
-    ensures { Puts members.old members.new (report_object.with_open entries.now) }
+fn put_open(members: &mut Members, lines_before: u64, entries: &[OpenEntry<'_>])
+    ensures { Puts members.old members.new (report_object.with_open lines_before entries.now) }
 {
-    let value = open_array(members.alloc(), entries);
+    let value = open_array(members.alloc(), lines_before, entries);
     members.made("open", value);
 }
 
 /// Returns all that stands open, as an array. `Err` where memory was refused.
-fn open_array(alloc: Global, entries: &[OpenEntry<'_>]) -> Result<Value, AllocError>
-    ensures { IfOk result (λ value. view value ≡ report_object.open_array entries.now) }
+fn open_array(
+    alloc: Global,
+    lines_before: u64,
+    entries: &[OpenEntry<'_>],
+) -> Result<Value, AllocError>
+    ensures { IfOk result (λ value. view value ≡ report_object.open_array lines_before entries.now) }
 {
     let mut values = Vec::new(alloc);
     for entry in entries {
-        values.push(entry_object(alloc, entry)?)?;
+        values.push(entry_object(alloc, lines_before, entry)?)?;
     }
     Ok(Value::Array(values))
 }
 
 /// Returns one open entry as an object. `Err` where memory was refused.
-fn entry_object(alloc: Global, entry: &OpenEntry<'_>) -> Result<Value, AllocError>
-    ensures { IfOk result (λ value. view value ≡ report_object.entry_object entry.now) }
+fn entry_object(
+    alloc: Global,
+    lines_before: u64,
+    entry: &OpenEntry<'_>,
+) -> Result<Value, AllocError>
+    ensures { IfOk result (λ value. view value ≡ report_object.entry_object lines_before entry.now) }
 {
     let mut members = Members::new(alloc);
     members.text("address", entry.address);
     members.text("kind", entry.kind.word());
-    members.number("line", entry.line);
+    members.number("line", line_after(lines_before, entry.line));
     members.object()
 }

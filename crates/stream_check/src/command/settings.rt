@@ -4,6 +4,7 @@ ghost use Rattle.std.specs.Prelude.{◌≡◌, is_some, option_map, string_bytes
 ghost use Rattle.std.specs.Option.{option_copied};
 
 use crate::rules::mode::Mode;
+use stream_runs::RunChoice;
 
 /// The form of the verdict.
 #[derive(Clone, Copy)]
@@ -17,8 +18,10 @@ pub enum Form {
 /// The settings that the arguments of `check` state.
 #[derive(Drop)]
 pub struct Settings {
-    /// What kind of stream is accepted.
+    /// How the stream is read.
     pub mode: Mode,
+    /// The run that is checked, of several in the input. `None` checks the whole input.
+    pub run: Option<RunChoice>,
     /// The form of the verdict.
     pub form: Form,
     /// The file with the stream. Without a file, or with `-`, the stream is standard input.

@@ -33,7 +33,7 @@ fn fault_status(fault: ReadFault) -> u8
 {
     match fault {
         ReadFault::Found(_) => NOT_WHOLE,
-        ReadFault::TooMany | ReadFault::Unread(_) => REFUSED,
+        ReadFault::TooMany | ReadFault::NoRun(_) | ReadFault::Unread(_) => REFUSED,
         ReadFault::Memory => FAILED,
     }
 }

@@ -9,7 +9,7 @@ use crate::command::finding_report::FindingReport;
 use crate::command::message_text::MessageText;
 use crate::command::object::Object;
 use crate::messages::totals::Totals;
-use crate::rules::fault::Fault;
+use crate::rules::fault::{Fault, line_after};
 use crate::rules::open_entry::OpenEntry;
 use crate::verdict::whole::Whole;
 use std::alloc::{AllocError, Global};
@@ -36,11 +36,12 @@ pub fn finding_line(alloc: Global, report: &FindingReport<'_>) -> Result<String,
 
 /// Appends the number of the line and the fault.
 fn append_finding(alloc: Global, words: &mut MessageText, report: &FindingReport<'_>) {
+    let finding = report.finding.after_lines(report.lines_before);
     if report.is_cut_off {
         words.text("line ");
-        words.count(report.finding.line, " is cut off");
+        words.count(finding.line, " is cut off");
     } else {
-        words.made(report.finding.to_string(alloc));
+        words.made(finding.to_string(alloc));
     }
 }
 
@@ -53,7 +54,7 @@ fn append_details(words: &mut MessageText, report: &FindingReport<'_>) {
         }
         Fault::Unended => {
             words.text(": ");
-            append_open(words, report.open);
+            append_open(words, report.lines_before, report.open);
         }
         Fault::WrongTotals(stated, counted) => {
             words.text(": says ");
@@ -86,7 +87,7 @@ fn append_object(words: &mut MessageText, object: Object<'_>) {
 }
 
 /// Appends what stands open: one entry by itself, else their number and the first ten.
-fn append_open(words: &mut MessageText, open: &[OpenEntry<'_>]) {
+fn append_open(words: &mut MessageText, lines_before: u64, open: &[OpenEntry<'_>]) {
     if open.len() != 1 {
         words.count(open.len() as u64, " stand open: ");
     }
@@ -95,7 +96,7 @@ fn append_open(words: &mut MessageText, open: &[OpenEntry<'_>]) {
         if index > 0 {
             words.text(", ");
         }
-        append_entry(words, *entry);
+        append_entry(words, lines_before, *entry);
     }
     if open.len() > MAX_OPEN {
         words.text(", and ");
@@ -104,12 +105,12 @@ fn append_open(words: &mut MessageText, open: &[OpenEntry<'_>]) {
 }
 
 /// Appends one open entry.
-fn append_entry(words: &mut MessageText, entry: OpenEntry<'_>) {
+fn append_entry(words: &mut MessageText, lines_before: u64, entry: OpenEntry<'_>) {
     words.text(entry.kind.word());
     words.text(" of ");
     words.escaped(MAX_SHOWN, entry.address);
     words.text(" since line ");
-    words.count(entry.line, "");
+    words.count(line_after(lines_before, entry.line), "");
 }
 
 /// Returns the text about a whole stream.

@@ -4,7 +4,7 @@ ghost use Rattle.stream_check.specs.CommandLine.{HasChecked, IsSilent, arguments
 
 use crate::command::arguments::{command, settings_of};
 use crate::command::checked::Checked;
-use crate::command::checking::check_reader;
+use crate::command::checking::check_input;
 use crate::command::settings::Settings;
 use crate::command::status::exit_status;
 use crate::verdict::read_fault::ReadFault;
@@ -12,6 +12,7 @@ use clap::{ArgMatches, Command};
 use std::alloc::{AllocError, Global};
 use std::io::{BufReader, Read, Write};
 use std::rt::Files;
+use stream_runs::run_refusal;
 use stream_tool::{Report, Tool, Usage};
 
 /// The tool `check`.
@@ -20,8 +21,8 @@ use stream_tool::{Report, Tool, Usage};
 ///
 /// - 0: the stream is whole and reports no error, or help was printed.
 /// - 1: the stream is whole and reports an error.
-/// - 2: the arguments are refused, the file can't be opened, or the stream has too many lines or
-///   could not be read.
+/// - 2: the arguments are refused, the file can't be opened, the run is not there, or the stream has
+///   too many lines or could not be read.
 /// - 3: memory was refused, or the output could not be written.
 /// - 4: the stream is not whole.
 ///
@@ -51,8 +52,8 @@ impl Tool for Check {
         command(alloc)
     }
 
-    fn conflict(_alloc: Global, _words: &[String], _matches: &ArgMatches<'_>) -> Option<Usage> {
-        None
+    fn conflict(alloc: Global, _words: &[String], matches: &ArgMatches<'_>) -> Option<Usage> {
+        run_refusal(alloc, matches)
     }
 
     fn settings_of(alloc: Global, matches: &ArgMatches<'_>) -> Result<Settings, AllocError> {
@@ -83,7 +84,7 @@ impl Tool for Check {
         out: &mut W,
         faults: &mut E,
     ) -> Report<Checked> {
-        let answer = check_reader(alloc, settings, reader, out, faults);
+        let answer = check_input(alloc, settings, reader, out, faults);
         Report {
             status: exit_status(answer.verdict, answer.reported),
             answer,

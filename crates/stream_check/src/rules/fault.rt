@@ -1,7 +1,7 @@
 //! What is wrong with a line, or with the end of a stream.
 
 ghost use Rattle.std.specs.Prelude.{◌≡◌};
-ghost use Rattle.stream_check.specs.Faults.{other_of, reports_object, word_of};
+ghost use Rattle.stream_check.specs.Faults.{fault_after, line_after, other_of, reports_object, word_of};
 ghost use Rattle.stream_check.specs.declared.rules.fault.Fault.TheVariants.{Memory};
 
 use crate::messages::member_fault::MemberFault;
@@ -61,6 +61,8 @@ pub enum Fault {
     NoEnd,
     /// The stream ends with the summary of a plan, as the stream of a plan does.
     NoApply,
+    /// The stream ends, and none of its lines is a message. It has that many lines.
+    NoMessage(u64),
     /// Memory was refused.
     Memory,
 }
@@ -91,6 +93,7 @@ impl Fault {
             Fault::Unended => "unended",
             Fault::WrongTotals(..) | Fault::WrongPlanTotals(..) => "wrong_totals",
             Fault::NoEnd | Fault::NoApply => "no_end",
+            Fault::NoMessage(_) => "no_message",
             Fault::Memory => "memory",
         }
     }
@@ -109,6 +112,7 @@ impl Fault {
             | Fault::WrongPlanTotals(..)
             | Fault::NoEnd
             | Fault::NoApply
+            | Fault::NoMessage(_)
             | Fault::Memory => false,
             _ => true,
         }
@@ -128,6 +132,23 @@ impl Fault {
             | Fault::LeavesProvisioner(line)
             | Fault::ProvisionerRuns(line) => Some(line),
             _ => None,
+        }
+    }
+
+    /// The same fault of a stream with so many lines of the input before it.
+    pub fn after_lines(self, lines: u64) -> Fault
+        ensures { result ≡ fault_after lines self }
+    {
+        match self {
+            Fault::VersionAgain(line) => Fault::VersionAgain(line_after(lines, line)),
+            Fault::AfterSummary(line) => Fault::AfterSummary(line_after(lines, line)),
+            Fault::PlanAgain(line) => Fault::PlanAgain(line_after(lines, line)),
+            Fault::StartsAgain(line) => Fault::StartsAgain(line_after(lines, line)),
+            Fault::TooMany(line) => Fault::TooMany(line_after(lines, line)),
+            Fault::NotLater(line) => Fault::NotLater(line_after(lines, line)),
+            Fault::LeavesProvisioner(line) => Fault::LeavesProvisioner(line_after(lines, line)),
+            Fault::ProvisionerRuns(line) => Fault::ProvisionerRuns(line_after(lines, line)),
+            fault => fault,
         }
     }
 
@@ -156,6 +177,9 @@ impl Fault {
             Fault::NoEnd => "is the last, and no summary came",
             Fault::NoApply =>
                 "is the last, and no summary of an apply came (--plan takes a plan's stream)",
+            Fault::NoMessage(0) => "there is no line",
+            Fault::NoMessage(1) => "the one line is no message",
+            Fault::NoMessage(_) => "none of the ",
             Fault::Memory => "out of memory",
         }
     }
@@ -171,12 +195,24 @@ impl Fault {
     }
 }
 
+/// The number of a line in an input with so many lines before the stream.
+pub fn line_after(lines: u64, line: u64) -> u64
+    ensures { result ≡ line_after lines line }
+{
+    lines.saturating_add(line)
+}
+
 // A derived implementation would be proved with one return for each text.
 impl fmt::Display for Fault {
     fn fmt<W: fmt::Write>(&self, f: &mut fmt::Formatter<W>) -> fmt::Result {
         f.write_str(self.text())?;
         match *self {
             Fault::Malformed(path, member_fault) => write!(f, "{path} {member_fault}"),
+            Fault::NoMessage(lines) => if lines > 1 {
+                write!(f, "{lines} lines is a message")
+            } else {
+                Ok(())
+            },
             _ => match self.other() {
                 Some(line) => write!(f, "{line}{}", self.text_after_line()),
                 None => Ok(()),

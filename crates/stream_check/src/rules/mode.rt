@@ -1,6 +1,6 @@
-//! Which streams are accepted.
+//! How a stream is read.
 
-/// Which streams are accepted.
+/// How a stream is read, and which streams are accepted.
 #[derive(Clone, Copy)]
 pub struct Mode {
     /// The lines are those of a log. Messages are located in them, and lines without a message are
@@ -8,6 +8,8 @@ pub struct Mode {
     pub find: bool,
     /// The stream of a plan is accepted too. It ends with the summary of the plan.
     pub plan: bool,
+    /// How many lines of the input stand before the stream. Reports count them too.
+    pub lines_before: u64,
 }
 
 impl Mode {
@@ -15,5 +17,6 @@ impl Mode {
     pub const PLAIN: Mode = Mode {
         find: false,
         plan: false,
+        lines_before: 0,
     };
 }

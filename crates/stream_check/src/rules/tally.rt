@@ -1,6 +1,6 @@
 //! Counts the lines of a stream.
 
-ghost use Rattle.std.specs.Prelude.{◌≡◌, ◌<◌, ◌^◌, ◌&&◌, ◌||◌, if◌then◌else◌, is_some, []};
+ghost use Rattle.std.specs.Prelude.{◌≡◌, ◌<◌, ◌^◌, ◌&&◌, ◌||◌, is_some, []};
 ghost use Rattle.stream_check.specs.Counted.{failures_counted, is_used_up};
 
 use crate::messages::action::Action;
@@ -40,7 +40,7 @@ pub struct Tally {
 
 impl Tally {
     ghost use Rattle.stream_check.specs.Small.{IsSmall};
-    ghost use Rattle.stream_check.specs.Tallied.{has_nothing_begun, is_beyond, tally_of, with_error, with_error_at, with_foreign, with_line, with_outputs, with_plan_summary, with_planned, with_step, with_summary, with_version};
+    ghost use Rattle.stream_check.specs.Tallied.{has_nothing_begun, is_beyond, no_end_fault, tally_of, with_error, with_error_at, with_foreign, with_line, with_outputs, with_plan_summary, with_planned, with_step, with_summary, with_version};
 
     /// The tally of no line.
     pub fn new() -> Tally
@@ -236,10 +236,12 @@ impl Tally {
 
     /// Returns the fault of a stream without an end.
     pub fn why_no_end(&self) -> Fault
-        ensures { result ≡ (if has_nothing_begun self.now then Fault.NoApply else Fault.NoEnd) }
+        ensures { result ≡ no_end_fault self.now }
     {
         if self.is_plan() {
             Fault::NoApply
+        } else if self.foreign == self.lines {
+            Fault::NoMessage(self.lines)
         } else {
             Fault::NoEnd
         }

@@ -51,7 +51,7 @@ pub fn check_with<R: BufRead>(
     requires { HasRead checker.old [] }
     ensures answer { IfSome (R.remaining reader.old) (λ bytes. IsAnswer mode (cut_lines bytes) result) }
     ensures at_end { OnOk result (OnSome (R.remaining reader.old) (IsAtEnd (R.remaining reader.new))) }
-    ensures stops { Stops mode (R.remaining reader.old) checker.new line.new.text.items line.new.has_feed result }
+    ensures stops { Stops mode (R.remaining reader.old) checker.new line.new.text.items line.new.has_feed (R.remaining reader.new) result }
 {
     'lines: loop {
         let next = match next_line(reader, &mut line.text) {

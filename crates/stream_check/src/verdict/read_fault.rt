@@ -1,12 +1,14 @@
 //! Why there is no verdict that a stream is whole.
 
 ghost use Rattle.std.specs.Prelude.{◌≡◌};
-ghost use Rattle.stream_check.specs.Reading.{IsNoAnswer};
+ghost use Rattle.stream_check.specs.Reading.{IsNoAnswer, unselected};
 ghost use Rattle.stream_check.specs.declared.verdict.read_fault.ReadFault.TheVariants.{Memory};
 
+use crate::rules::fault::Fault;
 use crate::verdict::finding::Finding;
 use std::alloc::AllocError;
 use stream_lines::{FailedRead, LineFault};
+use stream_runs::{MissingRun, RunFault};
 use thiserror::Error;
 
 /// Why there is no verdict that a stream is whole.
@@ -18,6 +20,9 @@ pub enum ReadFault {
     /// The stream has more than 4,294,967,296 lines.
     #[error("the stream has more than 4294967296 lines")]
     TooMany,
+    /// The run that was chosen is not there.
+    #[error("{0}")]
+    NoRun(MissingRun),
     /// A read failed.
     #[error("the stream could not be read")]
     Unread(FailedRead),
@@ -42,5 +47,23 @@ impl From<AllocError> for ReadFault {
 
     fn from(_refused: AllocError) -> ReadFault {
         ReadFault::Memory
+    }
+}
+
+impl From<RunFault> for ReadFault {
+    ghost from_gives = { λ given fault. fault ≡ unselected given };
+
+    fn from(given: RunFault) -> ReadFault {
+        match given {
+            RunFault::Missing(missing) => ReadFault::NoRun(missing),
+            RunFault::TooLong(line) => ReadFault::Found(Finding {
+                line,
+                fault: Fault::TooLong,
+                passed: None,
+            }),
+            RunFault::TooMany => ReadFault::TooMany,
+            RunFault::Unread(failed) => ReadFault::Unread(failed),
+            RunFault::Memory => ReadFault::Memory,
+        }
     }
 }

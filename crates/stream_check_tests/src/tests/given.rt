@@ -6,12 +6,14 @@ use super::*;
 const FIND: Mode = Mode {
     find: true,
     plan: false,
+    lines_before: 0,
 };
 
 /// Accepts the stream of a plan.
 const PLAN: Mode = Mode {
     find: false,
     plan: true,
+    lines_before: 0,
 };
 
 /// A line whose type is no text.
@@ -43,12 +45,12 @@ fn at_line(line: u64, fault: Fault) -> Finding {
 #[test]
 fn nothing_is_no_stream(rt: HostRuntime) {
     let none: [Vec<u8>; 0] = [];
-    let finding = at_line(0, Fault::NoEnd);
+    let finding = at_line(0, Fault::NoMessage(0));
     finding_is(&rt, rt.alloc(), &none, Mode::PLAIN, finding);
 }
 
 /// Lines are counted from 1. A missing end is a fault of the last line. In a log, a line that
-/// starts no message of Terraform is ignored.
+/// starts no message of Terraform is ignored, and without other lines there is no message.
 #[test]
 fn lines_have_numbers(rt: HostRuntime) {
     let alloc = rt.alloc();
@@ -59,7 +61,7 @@ fn lines_have_numbers(rt: HostRuntime) {
     finding_is(&rt, alloc, lines, PLAN, at_line(2, Fault::NoType));
     let passed = Finding {
         line: 2,
-        fault: Fault::NoEnd,
+        fault: Fault::NoMessage(2),
         passed: Some(2),
     };
     finding_is(&rt, alloc, lines, FIND, passed);

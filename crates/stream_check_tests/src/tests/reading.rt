@@ -105,6 +105,7 @@ fn finding_comes_first(rt: HostRuntime) {
 fn of_input(form: Form) -> Settings {
     Settings {
         mode: Mode::PLAIN,
+        run: None,
         form,
         file: None,
     }

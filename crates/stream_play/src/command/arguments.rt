@@ -10,6 +10,7 @@ use crate::command::settings::Settings;
 use crate::speed::Speed;
 use clap::{Arg, ArgMatches, Command, value_parser};
 use std::alloc::{AllocError, Global};
+use stream_runs::{run_of, run_option};
 use stream_tool::{FIND, file, file_of, flag, is_given, with_option};
 
 const ABOUT: &str =
@@ -30,7 +31,7 @@ Example of the messages in a job's log, at once:
 
 Exit status:
   0  the whole stream was written; or help was printed
-  2  wrong options, a file or a stream that can't be read, or a line that is too long
+  2  wrong options, no such run, a file or a stream that can't be read, or a line that is too long
   3  out of memory, or the output could not be written"#;
 
 /// Defines the options and their help. `Err` where memory is refused.
@@ -45,6 +46,7 @@ pub(crate) fn command<'a>(alloc: Global) -> Result<Command<'a>, AllocError>
     );
     let line = with_option(line, speed(alloc));
     let line = with_option(line, flag(alloc, "find", FIND));
+    let line = with_option(line, run_option(alloc));
     with_option(line, file(alloc))
 }
 
@@ -68,6 +70,7 @@ pub(crate) fn settings_of(alloc: Global, matches: &ArgMatches<'_>) -> Result<Set
     Ok(Settings {
         speed: speed_of(matches),
         find: is_given(matches, "find"),
+        run: run_of(matches),
         file,
     })
 }

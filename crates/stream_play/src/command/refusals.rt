@@ -32,7 +32,8 @@ fn fault_status(fault: PlayFault) -> u8
     ensures { result ≡ fault_status_of fault }
 {
     match fault {
-        PlayFault::TooLong(_) | PlayFault::TooMany | PlayFault::Unread(_) => REFUSED,
+        PlayFault::TooLong(_) | PlayFault::TooMany | PlayFault::NoRun(_) | PlayFault::Unread(_) =>
+            REFUSED,
         PlayFault::Memory | PlayFault::Gone | PlayFault::Unwritten => FAILED,
     }
 }

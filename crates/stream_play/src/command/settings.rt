@@ -4,6 +4,7 @@ ghost use Rattle.std.specs.Prelude.{◌≡◌, is_some, option_map, string_bytes
 ghost use Rattle.std.specs.Option.{option_copied};
 
 use crate::speed::Speed;
+use stream_runs::RunChoice;
 
 /// The settings that the arguments of `play` state.
 #[derive(Debug, Drop)]
@@ -12,6 +13,8 @@ pub struct Settings {
     pub speed: Speed,
     /// Whether the lines are those of a log. Then the messages that are found in them are played.
     pub find: bool,
+    /// The run that is played, of several in the input. `None` plays the whole input.
+    pub run: Option<RunChoice>,
     /// The file with the stream. Without a file, or with `-`, the stream is standard input.
     pub file: Option<String>,
 }

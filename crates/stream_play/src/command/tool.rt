@@ -3,15 +3,16 @@
 ghost use Rattle.stream_play.specs.CommandLine.{HasPlayed, IsSilent, arguments, is_fault};
 
 use crate::command::arguments::{command, settings_of};
+use crate::command::choosing::play_input;
 use crate::command::refusals::{refuse, send_on};
 use crate::command::settings::Settings;
 use crate::play_fault::PlayFault;
-use crate::playing::play;
 use clap::{ArgMatches, Command};
 use std::alloc::{AllocError, Global};
 use std::io::{BufReader, Read, Write};
 use std::rt::Files;
 use std::time::Clock;
+use stream_runs::run_refusal;
 use stream_tool::{Report, Tool, Usage};
 
 /// The tool `play`, which waits by this clock.
@@ -19,7 +20,8 @@ use stream_tool::{Report, Tool, Usage};
 /// Its exit status is:
 ///
 /// - 0: the whole stream was written, or help was printed.
-/// - 2: the arguments are refused, the file can't be opened, a read failed, or a line is too long.
+/// - 2: the arguments are refused, the file can't be opened, the run is not there, a read failed, or
+///   a line is too long.
 /// - 3: memory was refused, or the output could not be written.
 ///
 /// A fault is reported at once on standard error. Lines before the fault are flushed first. Nothing
@@ -50,8 +52,8 @@ impl<C: Clock> Tool for Play<'_, C> {
         command(alloc)
     }
 
-    fn conflict(_alloc: Global, _words: &[String], _matches: &ArgMatches<'_>) -> Option<Usage> {
-        None
+    fn conflict(alloc: Global, _words: &[String], matches: &ArgMatches<'_>) -> Option<Usage> {
+        run_refusal(alloc, matches)
     }
 
     fn settings_of(alloc: Global, matches: &ArgMatches<'_>) -> Result<Settings, AllocError> {
@@ -79,14 +81,7 @@ impl<C: Clock> Tool for Play<'_, C> {
         out: &mut W,
         faults: &mut E,
     ) -> Report<Result<(), PlayFault>> {
-        match play(
-            alloc,
-            self.clock,
-            settings.speed,
-            settings.find,
-            reader,
-            out,
-        ) {
+        match play_input(alloc, self.clock, settings, reader, out) {
             Ok(()) => Report {
                 status: 0,
                 answer: Ok(()),

@@ -13,6 +13,7 @@ fn of_input(speed: u32) -> Settings {
     Settings {
         speed: Speed::new(speed),
         find: false,
+        run: None,
         file: None,
     }
 }

@@ -14,4 +14,5 @@ returns c =
     let json = c.with_option-line.ensures no_options _ none c.flag.ensures.0 c.flag.ensures.1 in
     let find = c.with_option-line-2.ensures _ _ json c.flag-2.ensures.0 c.flag-2.ensures.1 in
     let plan = c.with_option-line-3.ensures _ _ find c.flag-3.ensures.0 c.flag-3.ensures.1 in
-    c.with_option.ensures _ _ plan c.file.ensures.0 c.file.ensures.1
+    let run = c.with_option-line-4.ensures _ _ plan c.run_option.ensures.0 c.run_option.ensures.1 in
+    c.with_option.ensures _ _ run c.file.ensures.0 c.file.ensures.1

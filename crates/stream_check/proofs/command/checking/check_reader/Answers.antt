@@ -7,8 +7,10 @@ invariant_of-checker g c = record { small = c.check_with.new.checker.small }
 
 pub returns-in-Ok : goal.returns-in-Ok
 returns-in-Ok g c = record {
-  verdict = c.in-Ok.ensures.answer;
-  reported = c.report_whole.ensures.reported (is_some c.args.settings.now.file) (g.R.Read.remaining c.args.reader.now) c.args.settings.now.mode;
+  judged = record {
+    judged = c.in-Ok.ensures.answer;
+    reported = c.report_whole.ensures.reported (is_some c.args.settings.now.file) (g.R.Read.remaining c.args.reader.now) c.args.mode;
+  };
   silent = whole_silent c.in-Ok.whole c.report_whole.result c.report_whole.ensures.quiet c.report_whole.ensures.gone;
 }
 
@@ -17,7 +19,9 @@ invariant_of-checker-2 g c = record { small = c.check_with.new.checker.small }
 
 pub returns : goal.returns
 returns g c = record {
-  verdict = c.in-Err.ensures.answer;
-  reported = c.report_fault.ensures.reported (g.R.Read.remaining c.args.reader.now) c.in-Err.ensures.stops;
+  judged = record {
+    judged = c.in-Err.ensures.answer;
+    reported = c.report_fault.ensures.reported (g.R.Read.remaining c.args.reader.now) c.in-Err.ensures.stops;
+  };
   silent = fault_silent c.in-Err.fault c.report_fault.result c.report_fault.ensures.gone;
 }

@@ -17,6 +17,6 @@ returns-in-Found g c = record {
 
 pub returns-in_default : goal.returns-in_default
 returns-in_default g c = record {
-  reported = λ seen stops. fault_reported (is_some c.args.settings.now.file) c.args.settings.now.mode seen c.args.settings.now.form c.args.fault c.refuse.result (g.W.Write.contents c.args.out.now) c.in_default.not-Found (subst (λ (named : Bool). IfErr c.refuse.result (λ why. (why ≡ unreported.Memory) × TakesMemory named (Err c.args.fault))) c.file.ensures.named c.refuse.ensures);
+  reported = λ seen stops. fault_reported (is_some c.args.settings.now.file) c.args.mode seen c.args.settings.now.form c.args.fault c.refuse.result (g.W.Write.contents c.args.out.now) c.in_default.not-Found (subst (λ (named : Bool). IfErr c.refuse.result (λ why. (why ≡ unreported.Memory) × TakesMemory named (Err c.args.fault))) c.file.ensures.named c.refuse.ensures);
   gone = not_gone c.refuse.result (IfErr-weaker c.refuse.result _ _ (λ why refused. refused.0) c.refuse.ensures);
 }

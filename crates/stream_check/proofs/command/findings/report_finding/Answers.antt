@@ -40,7 +40,15 @@ returns g c = record {
       (λ (form : Form). IsReported is_named c.args.mode seen form (Err (read.Found c.args.finding.now)) c.report_finding_object.result (g.W.Write.contents c.args.out.now) (g.W.Write.contents c.report_finding_object.new.out))
       (sym c.in-Json.is)
       (c.report_finding_object.ensures seen c.args.mode
-      (report_holds_if_known c.args.mode seen c.args.finding.now c.args.checker.now c.args.line.now.text.items c.args.line.now.has_feed _ refl c.deref.ensures.value c.is_cut_off.ensures c.in_ok-object.ensures
-      (λ is messages has_read. subst (λ (entries : List OpenEntry). AreAllOpen messages entries) (sym c.deref-2.ensures.value) (c.in_ok-open.ensures is messages has_read)) stops) is_named);
+      (report_holds_if_known c.args.mode seen c.args.finding.now c.args.checker.now c.args.line.now.text.items c.args.line.now.has_feed (g.R.Read.remaining c.args.reader.now) _ refl c.deref.ensures.value c.is_cut_off.ensures c.in_ok-object.ensures
+      (λ is messages has_read. subst (λ (entries : List OpenEntry). AreAllOpen messages entries) (sym c.deref-2.ensures.value) (c.in_ok-open.ensures is messages has_read)) refl c.in_ok-runs.ensures stops) is_named);
   gone = λ gone. Keeps-refl (g.E.Write.contents c.args.faults.now);
 }
+
+pub returns-in_err-runs : goal.returns-in_err-runs
+returns-in_err-runs g c =
+    let p = err_from_is_err_and c.from_residual-in_err-runs.result c.from_residual-in_err-runs.ensures.1 in
+    rw (p.1, p.2) (record {
+      reported = λ seen stops is_named. memory_reported is_named c.args.mode seen c.args.form (Err (read.Found c.args.finding.now)) (g.W.Write.contents c.args.out.now) tt;
+      gone = not_gone (Err unreported.Memory) refl;
+    })

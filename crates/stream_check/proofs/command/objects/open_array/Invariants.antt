@@ -5,4 +5,4 @@ use Rattle.stream_check.specs.ReportObject.{entry_object}
 use Rattle.stream_check.proofs.command.objects.open_array.Given as goal
 
 abbrev pub invariant-loop-entry : goal.invariant-loop-entry
-invariant-loop-entry l = map view l.values.items ≡ map entry_object (take l.entry-index l.entries)
+invariant-loop-entry l = map view l.values.items ≡ map (entry_object l.lines_before) (take l.entry-index l.entries)

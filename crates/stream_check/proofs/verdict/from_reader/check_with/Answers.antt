@@ -18,7 +18,7 @@ pub returns-in-Err : goal.returns-in-Err
 returns-in-Err g c = record {
   answer = says_nothing c.args.mode (g.R.Read.remaining c.args.reader.now) c.from.result c.from.ensures;
   at_end = tt;
-  stops = stops_nowhere c.args.mode (g.R.Read.remaining c.args.reader.now) c.lines.checker c.next_line.new.line.items c.lines.line.has_feed c.from.result c.from.ensures;
+  stops = stops_nowhere c.args.mode (g.R.Read.remaining c.args.reader.now) c.lines.checker c.next_line.new.line.items c.lines.line.has_feed (g.R.Read.remaining c.next_line.new.reader) c.from.result c.from.ensures;
 }
 
 pub returns-in-End : goal.returns-in-End

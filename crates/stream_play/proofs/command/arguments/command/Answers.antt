@@ -13,4 +13,5 @@ returns c =
     ∙ ap (on_top (λ shape. record shape { no_binary_name = true })) c.new.ensures.app in
     let speed = c.with_option-line.ensures no_options _ none c.speed.ensures.0 c.speed.ensures.1 in
     let find = c.with_option-line-2.ensures _ _ speed c.flag.ensures.0 c.flag.ensures.1 in
-    c.with_option.ensures _ _ find c.file.ensures.0 c.file.ensures.1
+    let run = c.with_option-line-3.ensures _ _ find c.run_option.ensures.0 c.run_option.ensures.1 in
+    c.with_option.ensures _ _ run c.file.ensures.0 c.file.ensures.1

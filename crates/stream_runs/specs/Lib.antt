@@ -1,0 +1,6 @@
+pub mod Arguments
+pub mod Choices
+pub mod Collected
+pub mod Counted
+pub mod Runs
+pub mod Selected
