@@ -140,15 +140,15 @@ def met_first(told, own=frozenset()):
     return None
 
 
-def wrote_wrongly(told):
-    """What is wrong with the writes: one behind a failed one, or a fault's line in pieces."""
+def wrote_wrongly(told, faults=1):
+    """What is wrong with the writes: one behind a failed one, or what is said in more writes than so many."""
     failed = False
     for what, result, _ in told:
         if what == "output" and failed:
             return "something was written behind a failed write"
         failed = failed or (what == "output" and result < 0)
-    if sum(what == "faults" for what, _, _ in told) > 1:
-        return "the fault went out in more than one write"
+    if sum(what == "faults" for what, _, _ in told) > faults:
+        return "what is said went out in too many writes"
     return None
 
 
