@@ -28,8 +28,8 @@ abbrev pub judged : Mode → List (List ℕ) → List Message
 judged mode texts = judged_after mode [] texts
 
 -- A finding ended the check of these bytes. The checker knows the messages before it. Where the
--- report needs the faulty line, `line` is its text, `feed` says whether it has a line feed, and the bytes
--- after it are left.
+-- report needs the faulty line, `line` is its text, `feed` says whether it has a line feed, and the
+-- bytes after it are left.
 pub record StopsAt (mode : Mode) (bytes : List ℕ) (finding : Finding) (checker : Checker) (line : List ℕ) (feed : Bool) (left : Option (List ℕ)) : Type 0 where
   pub has_read : HasRead checker (judged mode (cut_lines bytes))
   pub is_line : reports_line finding.fault ≡ true → line ≡ line_at finding.line bytes

@@ -35,7 +35,8 @@ use stream_lines::Line;
 /// Reports the finding, with what is known about the faulty line. `reader` has the bytes after that
 /// line. They are read on where they tell which option takes the stream.
 ///
-/// `Err` with `Unreported::Memory` where memory was refused. In the form `Json`, `Err` also where the object could not be written.
+/// `Err` with `Unreported::Memory` where memory was refused. In the form `Json`, `Err` also where
+/// the object could not be written.
 pub fn report_finding<R: BufRead, W: Write, E: Write>(
     alloc: Global,
     mode: Mode,
