@@ -231,29 +231,6 @@ fn end_of(fault: &str) -> &'static str {
     }
 }
 
-/// Fails unless the run in lanes was refused with this error, and nothing was printed.
-fn lanes_fail(
-    rt: &impl Abort,
-    alloc: Global,
-    case: &str,
-    outcome: Outcome,
-    lanes: u8,
-    fault: &str,
-) {
-    let end = match end_of(fault).strip_prefix("\napplystream: applystream validate") {
-        Some(rest) => {
-            let end = format!(in alloc;
-                "\napplystream: applystream validate --parallelism {lanes}{rest}"
-            );
-            leaked_text(rt, alloc, end.expect(rt, "memory"))
-        }
-        None => "\n",
-    };
-    status_is(rt, case, outcome.status, 2);
-    text_is(rt, case, outcome.printed, "");
-    line_is(rt, case, outcome.errors, fault, end);
-}
-
 /// The text before the first mark, and the text after it.
 fn parted<'a>(rt: &impl Abort, text: &'a str, mark: &str) -> (&'a str, &'a str) {
     text.split_once(mark).expect(rt, text)

@@ -3,6 +3,29 @@
 use super::*;
 use apply_cli::run_in_lanes;
 
+/// Fails unless the run in lanes was refused with this error, and nothing was printed.
+pub(super) fn lanes_fail(
+    rt: &impl Abort,
+    alloc: Global,
+    case: &str,
+    outcome: Outcome,
+    lanes: u8,
+    fault: &str,
+) {
+    let end = match end_of(fault).strip_prefix("\napplystream: applystream validate") {
+        Some(rest) => {
+            let end = format!(in alloc;
+                "\napplystream: applystream validate --parallelism {lanes}{rest}"
+            );
+            leaked_text(rt, alloc, end.expect(rt, "memory"))
+        }
+        None => "\n",
+    };
+    status_is(rt, case, outcome.status, 2);
+    text_is(rt, case, outcome.printed, "");
+    line_is(rt, case, outcome.errors, fault, end);
+}
+
 /// Two creates.
 const CREATES: &str =
     r#"{"format_version":"1.2","terraform_version":"1.9.0","resource_changes":[{"address":"null_resource.a","mode":"managed","type":"null_resource","name":"a","change":{"actions":["create"]}},{"address":"null_resource.b","mode":"managed","type":"null_resource","name":"b","change":{"actions":["create"]}}]}"#;

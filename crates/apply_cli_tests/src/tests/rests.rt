@@ -1,7 +1,7 @@
 //! The rest of an input whose plan was refused: it is read to its end and dropped, after the error
 //! was reported.
 
-use super::lanes::run_lanes;
+use super::lanes::{lanes_fail, run_lanes};
 use super::*;
 use stream_lines::drain;
 
