@@ -20,8 +20,8 @@ needs = $(sort $(1) $(foreach crate,$(call below,$(1)),$(call needs,$(crate))))
 files = $(shell find crates/$(1)/src crates/$(1)/specs crates/$(1)/proofs -type f ! -path '*/src/tests*' 2>/dev/null)
 CRATES := $(call needs,applystream)
 # What the longest chain of crates does not wait for is proved next to it, and what only tools are made of steps back.
-BESIDE := apply_json apply_json_tree apply_resolve apply_bus apply_cli_args apply_writer term_text stream_lines stream_tool
-ASIDE := stream_message stream_runs stream_check stream_play stream_view stream_timeline input_validate input_validate_cli
+BESIDE := apply_json apply_json_tree apply_resolve apply_bus apply_cli_args apply_writer term_text term_words stream_lines stream_tool
+ASIDE := stream_message stream_runs stream_check stream_play stream_view stream_watch stream_timeline input_validate input_validate_cli
 above = $(foreach it,$(CRATES),$(if $(filter $(1),$(call needs,$(it))),$(it)))
 left = $$(for crate in $(CRATES); do [ -e $(LIBS)/$$crate.stamp ] || echo $$crate; done)
 # A prover ends with the make that started it.

@@ -20,8 +20,7 @@ checked=$?
 applystream view --svg "$folder/stream.jsonl" >"$folder/view.svg"
 applystream view --width 100 "$folder/stream.jsonl" | tee "$folder/view.txt"
 if [ -n "${GITHUB_STEP_SUMMARY-}" ] && [ -s "$folder/view.txt" ]; then
-  # Each line is indented, so that no text of a provider can end the code fence.
-  { echo '```' && sed 's/^/    /' "$folder/view.txt" && echo '```'; } >>"$GITHUB_STEP_SUMMARY"
+  applystream view --markdown "$folder/stream.jsonl" >>"$GITHUB_STEP_SUMMARY"
 fi
 
 [ "$applied" = 0 ] || exit "$applied"

@@ -3,9 +3,18 @@ _applystream() {
   local word=${COMP_WORDS[COMP_CWORD]} before=${COMP_WORDS[COMP_CWORD - 1]}
   if [ "${COMP_WORDS[1]}" = check ] && [ "$COMP_CWORD" -gt 1 ]; then
     case $before in
+      --write) return ;;
       --run) return ;;
     esac
-    COMPREPLY=($(compgen -W "--json --find --plan --run --help" -- "$word") $(compgen -f -- "$word"))
+    COMPREPLY=($(compgen -W "--json --find --write --plan --run --help" -- "$word") $(compgen -f -- "$word"))
+    return
+  fi
+  if [ "${COMP_WORDS[1]}" = watch ] && [ "$COMP_CWORD" -gt 1 ]; then
+    case $before in
+      --width) return ;;
+      --color) COMPREPLY=($(compgen -W "auto always never" -- "$word")); return ;;
+    esac
+    COMPREPLY=($(compgen -W "--find --plan --width --color --help" -- "$word") $(compgen -f -- "$word"))
     return
   fi
   if [ "${COMP_WORDS[1]}" = play ] && [ "$COMP_CWORD" -gt 1 ]; then
@@ -22,8 +31,9 @@ _applystream() {
       --sort) COMPREPLY=($(compgen -W "begin length" -- "$word")); return ;;
       --width) return ;;
       --color) COMPREPLY=($(compgen -W "auto always never" -- "$word")); return ;;
+      --run) return ;;
     esac
-    COMPREPLY=($(compgen -W "--svg --json --rows --all --sort --width --color --find --help" -- "$word") $(compgen -f -- "$word"))
+    COMPREPLY=($(compgen -W "--svg --json --markdown --rows --all --sort --width --color --find --run --help" -- "$word") $(compgen -f -- "$word"))
     return
   fi
   if [ "${COMP_WORDS[1]}" = validate ] && [ "$COMP_CWORD" -gt 1 ]; then
@@ -46,7 +56,7 @@ _applystream() {
     --form) COMPREPLY=($(compgen -W "applystream terraform" -- "$word")); return ;;
   esac
   local words="--at --script --workers --queue --destroy --halt-before --halt-in --parallelism --form --help --version"
-  [ "$COMP_CWORD" != 1 ] || words+=" check play view validate"
+  [ "$COMP_CWORD" != 1 ] || words+=" check watch play view validate"
   COMPREPLY=($(compgen -W "$words" -- "$word"))
 }
 complete -o filenames -F _applystream applystream

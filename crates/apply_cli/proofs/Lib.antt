@@ -5,6 +5,8 @@ mod Front
 mod Fronts
 mod InForm
 mod InLanes
+mod Prefixes
+mod Reports
 mod ScriptFile
 mod Statuses
 mod Usages

@@ -20,6 +20,19 @@ of_input (Ok bytes) known status P reads front stated unread good =
 of_input (Err input.Read) known status P reads front stated unread good = absurd (omega arith)
 of_input (Err input.Memory) known status P reads front stated unread good = absurd (omega arith)
 
+-- and so does what was reported
+pub reported_of_input : (read : Result (Vec ℕ Global) InputFault) (known : Option (List ℕ)) (status : ℕ) (P Q : List ℕ → Type 0) → ((bytes : List ℕ) → P bytes → (plan : SavedPlan) × (plan_of bytes ≡ Ok plan))
+    → IfOk read (λ bytes. IfSome known (λ all. bytes.items ≡ take (max_bytes + 1) all))
+    → IfOk read (λ bytes. status ≤ 1 → P bytes.items)
+    → IfOk read (λ bytes. status ≤ 1 → Q bytes.items)
+    → IfErr read (λ fault. status ≡ input_status_of fault)
+    → status ≤ 1 → OfInput known Q
+reported_of_input (Ok bytes) known status P Q reads front stated reported unread good =
+    let plan = reads bytes.items (stated good) in
+    (bytes.items, reported good, whole known bytes.items plan.0 front plan.1)
+reported_of_input (Err input.Read) known status P Q reads front stated reported unread good = absurd (omega arith)
+reported_of_input (Err input.Memory) known status P Q reads front stated reported unread good = absurd (omega arith)
+
 -- the same with 3, where the output may be as it was
 pub of_input_in_part : (read : Result (Vec ℕ Global) InputFault) (known : Option (List ℕ)) (status : ℕ) (Unchanged : Type 0) (P : List ℕ → Type 0) → ((bytes : List ℕ) → P bytes → (plan : SavedPlan) × (plan_of bytes ≡ Ok plan))
     → IfOk read (λ bytes. IfSome known (λ all. bytes.items ≡ take (max_bytes + 1) all))

@@ -5,4 +5,5 @@ pub mod CommandInLanes
 pub mod Invocation
 pub mod Options
 pub mod Status
+pub mod Unmatched
 pub mod Version

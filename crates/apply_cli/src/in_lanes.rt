@@ -9,6 +9,7 @@ ghost use Rattle.apply_cli.specs.Command.{OfInput, sink_state};
 ghost use Rattle.apply_cli.specs.CommandInForm.{HasAppliedInFormAndLanes, HasBegunInFormAndLanes, HasRefusedInFormAndLanes};
 ghost use Rattle.apply_cli.specs.CommandInLanes.{HasAppliedInLanes, HasBegunInLanes};
 ghost use Rattle.apply_cli.specs.Status.{input_status_of};
+ghost use Rattle.apply_cli.specs.Unmatched.{AreReported, unmatched_of};
 
 use crate::input::read_input;
 use crate::input_fault::InputFault;
@@ -16,6 +17,7 @@ use crate::reporting::{report_refusal, report_unless_gone};
 use crate::run::{finish_reading, flush_unless_failed};
 use crate::shared_options::shared_options;
 use crate::status::{FAILED, input_status, refusal_status, run_status};
+use crate::unmatched::report_unmatched;
 use apply_cli_args::Settings;
 use apply_hooks::Registry;
 use apply_run::{Refusal, Sink, StdSink, Why, apply_bytes_in_form_and_lanes};
@@ -48,7 +50,8 @@ pub fn run_in_lanes<R: Read + Drop, W: Write + Drop, E: Write>(
         ⊎ OfInput (R.remaining input) (λ bytes.
         HasBegunInLanes (record { plan = bytes; script = option_copied script.entry; hooks = rules_of registry.now })
         lanes settings.now.at settings.now.operation (sink_state W.contents output) (sink_state W.contents result.0)) }
-    ensures quiet { result.1 ≤ 1 → Keeps (E.contents faults.old) (E.contents faults.new) }
+    ensures reported { result.1 ≤ 1 → OfInput (R.remaining input) (λ bytes.
+        AreReported (unmatched_of bytes settings.now.halts.items) (E.contents faults.old) (E.contents faults.new)) }
     ensures gone { result.0.is_reader_gone ≡ true → Keeps (E.contents faults.old) (E.contents faults.new) }
     ensures statuses { result.1 ≤ 3 }
 {
@@ -89,7 +92,8 @@ pub fn run_in_form_and_lanes<R: Read + Drop, W: Write + Drop, E: Write>(
         ⊎ OfInput (R.remaining input) (λ bytes.
         HasBegunInFormAndLanes form (record { plan = bytes; script = option_copied script.entry; hooks = rules_of registry.now })
         lanes settings.now.at settings.now.operation (sink_state W.contents output) (sink_state W.contents result.0)) }
-    ensures quiet { result.1 ≤ 1 → Keeps (E.contents faults.old) (E.contents faults.new) }
+    ensures reported { result.1 ≤ 1 → OfInput (R.remaining input) (λ bytes.
+        AreReported (unmatched_of bytes settings.now.halts.items) (E.contents faults.old) (E.contents faults.new)) }
     ensures gone { result.0.is_reader_gone ≡ true → Keeps (E.contents faults.old) (E.contents faults.new) }
     ensures statuses { result.1 ≤ 3 }
 {
@@ -128,7 +132,8 @@ fn run_input_in_lanes<W: Write + Drop, E: Write>(
     ensures large { IfOk input (λ bytes. max_bytes < length bytes.items → result.1 ≡ 2) }
     ensures unread { IfErr input (λ fault. result.1 ≡ input_status_of fault) }
     ensures untouched { OnErr input (Keeps (W.contents output.writer) (W.contents result.0.writer)) }
-    ensures quiet { result.1 ≤ 1 → Keeps (E.contents faults.old) (E.contents faults.new) }
+    ensures reported { IfOk input (λ bytes. result.1 ≤ 1 →
+        AreReported (unmatched_of bytes.items settings.now.halts.items) (E.contents faults.old) (E.contents faults.new)) }
     ensures gone { result.0.is_reader_gone ≡ true → Keeps (E.contents faults.old) (E.contents faults.new) }
     ensures statuses { result.1 ≤ 3 }
 {
@@ -169,7 +174,8 @@ fn run_bytes_in_lanes<W: Write + Drop, E: Write>(
     ensures cut_off { result.1 ≡ 3 → Keeps (W.contents output.writer) (W.contents result.0.writer)
         ⊎ HasBegunInFormAndLanes form (record { plan = bytes.now; script = option_copied script.entry; hooks = rules_of registry.now })
         lanes settings.now.at settings.now.operation (sink_state W.contents output) (sink_state W.contents result.0) }
-    ensures quiet { result.1 ≤ 1 → Keeps (E.contents faults.old) (E.contents faults.new) }
+    ensures reported { result.1 ≤ 1 →
+        AreReported (unmatched_of bytes.now settings.now.halts.items) (E.contents faults.old) (E.contents faults.new) }
     ensures gone { result.0.is_reader_gone ≡ true → Keeps (E.contents faults.old) (E.contents faults.new) }
     ensures statuses { result.1 ≤ 3 }
 {
@@ -191,6 +197,7 @@ fn run_bytes_in_lanes<W: Write + Drop, E: Write>(
                 report_unless_gone(&output, faults, Why::Write);
                 return (output, FAILED);
             }
+            report_unmatched(alloc, &output, faults, &settings.halts, bytes);
             (output, run_status(report.contains_error))
         }
         Err(Refusal::Fault(fault)) => {

@@ -15,6 +15,7 @@ mod script_file;
 mod shared_options;
 mod standard;
 mod status;
+mod unmatched;
 mod version;
 
 pub use answer::answer_usage;

@@ -9,6 +9,7 @@ ghost use Rattle.apply_cli_args.specs.CommandLine.{AskForHelp, AskForHelpAlone};
 ghost use Rattle.apply_cli_args.specs.Halt.{hooks_of_halts, rules_of_halt};
 ghost use Rattle.apply_cli.specs.Invocation.{HasAppliedAsAsked, HasBegunAsAsked, WereApplied, WereBegun, unfailed};
 ghost use Rattle.apply_cli.specs.Status.{usage_status_of};
+ghost use Rattle.apply_cli.specs.Unmatched.{AreAllMatched, AreReported, WereReported, unmatched_of};
 ghost use Rattle.apply_cli.specs.Version.{AskForVersion, AskForVersionAlone, WasAnswered, WereAnsweredVersion};
 
 use crate::answer::{answer_usage, report_hook};
@@ -49,7 +50,8 @@ pub fn given_words<R: Env + AllocGlobal>(rt: &R) -> Result<Vec<String>, Usage> {
 /// `answer_version` answers arguments that ask for the version, `answer_usage` those that
 /// `read_invocation` refuses, and `follow_invocation` all others. If a write fails since the reader
 /// of the output is gone, nothing is reported. Help that cannot be written is dropped, and does not
-/// count as a failure.
+/// count as a failure. With status 0 and 1 nothing is reported but prefixes of halts, as in
+/// `run_command`.
 pub fn follow<
     F: Files,
     C: Clock,
@@ -81,7 +83,10 @@ pub fn follow<
     ensures cut_off { result.1 ≡ 3 → Keeps (W.contents output) (W.contents result.0.writer)
         ⊎ (WereBegun F.File.remaining (map string_bytes words.now) (R.remaining input) (W.contents output) (sink_state W.contents result.0)
         ⊎ WereAnsweredVersion (map string_bytes words.now) (unfailed (W.contents output)) (sink_state W.contents result.0) result.1) }
-    ensures quiet { result.1 ≤ 1 → Keeps (E.contents faults.old) (E.contents faults.new) }
+    ensures quiet { result.1 ≤ 1 → AreAllMatched (map string_bytes words.now) (R.remaining input)
+        → Keeps (E.contents faults.old) (E.contents faults.new) }
+    ensures reported { result.1 ≤ 1 → Keeps (E.contents faults.old) (E.contents faults.new)
+        ⊎ WereReported (map string_bytes words.now) (R.remaining input) (E.contents faults.old) (E.contents faults.new) }
     ensures gone { result.0.is_reader_gone ≡ true → Keeps (E.contents faults.old) (E.contents faults.new) }
     ensures statuses { result.1 ≤ 3 }
 {
@@ -166,7 +171,8 @@ pub fn follow_invocation<
         ⊎ OfInput (R.remaining input) (λ plan. OfFile F.File.remaining settings.now.script (λ script.
         HasBegunAsAsked (record { plan = plan; script = script; hooks = hooks_of_halts settings.now.halts.items })
         settings.now parallelism form (sink_state W.contents output) (sink_state W.contents result.0))) }
-    ensures quiet { result.1 ≤ 1 → Keeps (E.contents faults.old) (E.contents faults.new) }
+    ensures reported { result.1 ≤ 1 → OfInput (R.remaining input) (λ plan.
+        AreReported (unmatched_of plan settings.now.halts.items) (E.contents faults.old) (E.contents faults.new)) }
     ensures gone { output.is_reader_gone ≡ false → result.0.is_reader_gone ≡ true
         → Keeps (E.contents faults.old) (E.contents faults.new) }
     ensures statuses { result.1 ≤ 3 }
@@ -234,7 +240,8 @@ fn run_with_hooks<F: Files, R: Read + Drop, W: Write + Drop, E: Write, T: Thread
         ⊎ OfInput (R.remaining input) (λ plan. OfFile F.File.remaining settings.now.script (λ script.
         HasBegunAsAsked (record { plan = plan; script = script; hooks = hooks_of_halts settings.now.halts.items })
         settings.now parallelism form (sink_state W.contents output) (sink_state W.contents result.0))) }
-    ensures quiet { result.1 ≤ 1 → Keeps (E.contents faults.old) (E.contents faults.new) }
+    ensures reported { result.1 ≤ 1 → OfInput (R.remaining input) (λ plan.
+        AreReported (unmatched_of plan settings.now.halts.items) (E.contents faults.old) (E.contents faults.new)) }
     ensures gone { output.is_reader_gone ≡ false → result.0.is_reader_gone ≡ true
         → Keeps (E.contents faults.old) (E.contents faults.new) }
     ensures statuses { result.1 ≤ 3 }
@@ -282,7 +289,8 @@ fn run_script<R: Read + Drop, W: Write + Drop, E: Write, T: Threads + Wait + Syn
         ⊎ OfInput (R.remaining input) (λ plan.
         HasBegunAsAsked (record { plan = plan; script = option_copied script.entry; hooks = rules_of registry.now })
         settings.now parallelism form (sink_state W.contents output) (sink_state W.contents result.0)) }
-    ensures quiet { result.1 ≤ 1 → Keeps (E.contents faults.old) (E.contents faults.new) }
+    ensures reported { result.1 ≤ 1 → OfInput (R.remaining input) (λ plan.
+        AreReported (unmatched_of plan settings.now.halts.items) (E.contents faults.old) (E.contents faults.new)) }
     ensures gone { output.is_reader_gone ≡ false → result.0.is_reader_gone ≡ true
         → Keeps (E.contents faults.old) (E.contents faults.new) }
     ensures statuses { result.1 ≤ 3 }

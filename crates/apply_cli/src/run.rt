@@ -9,6 +9,7 @@ ghost use Rattle.apply_cli.specs.Command.{HasApplied, HasBegun, OfInput, sink_st
 ghost use Rattle.apply_cli.specs.CommandInForm.{HasAppliedInForm, HasBegunInForm, HasRefusedInForm};
 ghost use Rattle.apply_cli.specs.Options.{options_of};
 ghost use Rattle.apply_cli.specs.Status.{input_status_of};
+ghost use Rattle.apply_cli.specs.Unmatched.{AreReported, unmatched_of};
 
 use crate::input::read_input;
 use crate::input_fault::InputFault;
@@ -16,6 +17,7 @@ use crate::options::run_options;
 use crate::reporting::{report_refusal, report_unless_gone};
 use crate::shared_options::shared_options;
 use crate::status::{FAILED, input_status, refusal_status, run_status};
+use crate::unmatched::report_unmatched;
 use apply_cli_args::Settings;
 use apply_hooks::Registry;
 use apply_run::{
@@ -39,8 +41,9 @@ use stream_lines::drain;
 /// - 3: memory or a thread was refused, or the output could not be written. A prefix of the stream
 ///   may have been written. It has a summary only if the whole plan was applied.
 ///
-/// Errors are reported on `faults`. Nothing is reported if that fails too, or if the output's
-/// reader is gone.
+/// Errors are reported on `faults`. After a whole stream, so is each prefix of the settings' halts
+/// that no address of the plan begins with, unless memory is refused for that. Nothing is reported
+/// if `faults` fails too, or if the output's reader is gone.
 ///
 /// If the plan is too large, a read failed, or memory was refused for it, the rest of the input is
 /// read and dropped after the report. So whoever writes into the pipe is not stopped. A read that
@@ -67,7 +70,8 @@ pub fn run_command<R: Read + Drop, W: Write + Drop, E: Write, T: Threads + Wait 
         ⊎ OfInput (R.remaining input) (λ bytes.
         HasBegun (record { plan = bytes; script = option_copied script.entry; hooks = rules_of registry.now })
         (options_of settings.now) (sink_state W.contents output) (sink_state W.contents result.0)) }
-    ensures quiet { result.1 ≤ 1 → Keeps (E.contents faults.old) (E.contents faults.new) }
+    ensures reported { result.1 ≤ 1 → OfInput (R.remaining input) (λ bytes.
+        AreReported (unmatched_of bytes settings.now.halts.items) (E.contents faults.old) (E.contents faults.new)) }
     ensures gone { result.0.is_reader_gone ≡ true → Keeps (E.contents faults.old) (E.contents faults.new) }
     ensures statuses { result.1 ≤ 3 }
 {
@@ -111,7 +115,8 @@ pub fn run_command_in_form<R: Read + Drop, W: Write + Drop, E: Write, T: Threads
         ⊎ OfInput (R.remaining input) (λ bytes.
         HasBegunInForm form (record { plan = bytes; script = option_copied script.entry; hooks = rules_of registry.now })
         (options_of settings.now) (sink_state W.contents output) (sink_state W.contents result.0)) }
-    ensures quiet { result.1 ≤ 1 → Keeps (E.contents faults.old) (E.contents faults.new) }
+    ensures reported { result.1 ≤ 1 → OfInput (R.remaining input) (λ bytes.
+        AreReported (unmatched_of bytes settings.now.halts.items) (E.contents faults.old) (E.contents faults.new)) }
     ensures gone { result.0.is_reader_gone ≡ true → Keeps (E.contents faults.old) (E.contents faults.new) }
     ensures statuses { result.1 ≤ 3 }
 {
@@ -172,7 +177,8 @@ pub fn run_input<W: Write + Drop, E: Write, T: Threads + Wait + Sync>(
     ensures large { IfOk input (λ bytes. max_bytes < length bytes.items → result.1 ≡ 2) }
     ensures unread { IfErr input (λ fault. result.1 ≡ input_status_of fault) }
     ensures untouched { OnErr input (Keeps (W.contents output.writer) (W.contents result.0.writer)) }
-    ensures quiet { result.1 ≤ 1 → Keeps (E.contents faults.old) (E.contents faults.new) }
+    ensures reported { IfOk input (λ bytes. result.1 ≤ 1 →
+        AreReported (unmatched_of bytes.items settings.now.halts.items) (E.contents faults.old) (E.contents faults.new)) }
     ensures gone { result.0.is_reader_gone ≡ true → Keeps (E.contents faults.old) (E.contents faults.new) }
     ensures statuses { result.1 ≤ 3 }
 {
@@ -213,7 +219,8 @@ pub fn run_bytes<W: Write + Drop, E: Write, T: Threads + Wait + Sync>(
         ⊎ HasBegunInForm form (record { plan = bytes.now; script = option_copied script.entry; hooks = rules_of registry.now })
         (options_of settings.now) (sink_state W.contents output) (sink_state W.contents result.0) }
     ensures large { max_bytes < length bytes.now → result.1 ≡ 2 }
-    ensures quiet { result.1 ≤ 1 → Keeps (E.contents faults.old) (E.contents faults.new) }
+    ensures reported { result.1 ≤ 1 →
+        AreReported (unmatched_of bytes.now settings.now.halts.items) (E.contents faults.old) (E.contents faults.new) }
     ensures gone { result.0.is_reader_gone ≡ true → Keeps (E.contents faults.old) (E.contents faults.new) }
     ensures statuses { result.1 ≤ 3 }
 {
@@ -235,6 +242,7 @@ pub fn run_bytes<W: Write + Drop, E: Write, T: Threads + Wait + Sync>(
                 report_unless_gone(&output, faults, Why::Write);
                 return (output, FAILED);
             }
+            report_unmatched(alloc, &output, faults, &settings.halts, bytes);
             one_worker_applies_all_changes_in_order();
             (output, run_status(report.contains_error))
         }

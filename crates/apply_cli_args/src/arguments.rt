@@ -38,6 +38,7 @@ Standard error: errors.
 
 Tools for a stream of such messages, each with its own --help:
   applystream check     reports whether a stream is whole
+  applystream watch     shows an apply to people while it is under way
   applystream view      draws a stream, as text or SVG
   applystream play      writes a stream in its own time, or faster
 And for a plan and a script:

@@ -13,6 +13,7 @@ use stream_check::Check;
 use stream_play::Play;
 use stream_tool::{Tool, run_tool};
 use stream_view::View;
+use stream_watch::Watch;
 
 /// Printed when somebody types `applystream check` alone.
 const NO_STREAM: &str =
@@ -25,6 +26,10 @@ const NO_STREAM_TO_PLAY: &str =
 /// Printed when somebody types `applystream view` alone.
 const NO_STREAM_TO_VIEW: &str =
     "a stream is awaited from this terminal: name its file, as in applystream view stream.jsonl";
+
+/// Printed when somebody types `applystream watch` alone.
+const NO_STREAM_TO_WATCH: &str =
+    "a stream is awaited from this terminal: name its file, as in applystream watch stream.jsonl";
 
 /// Printed when somebody types `applystream validate` alone.
 const NO_PLAN: &str =
@@ -54,6 +59,11 @@ fn use_tool(rt: &HostRuntime, words: &[String]) -> Option<u8> {
             let is_colour_wanted = rt.stdout().is_terminal() && wants_colour(rt);
             let tool = View { is_colour_wanted };
             Some(run(rt, &tool, words, NO_STREAM_TO_VIEW))
+        }
+        "watch" => {
+            let is_colour_wanted = rt.stdout().is_terminal() && wants_colour(rt);
+            let tool = Watch { is_colour_wanted };
+            Some(run(rt, &tool, words, NO_STREAM_TO_WATCH))
         }
         "validate" => Some(run(rt, &Validate, words, NO_PLAN)),
         _ => None,

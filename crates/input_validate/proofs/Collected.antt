@@ -1,6 +1,7 @@
 -- The report of findings that are put together.
-use Rattle.std.proofs.Common.{◌≡◌, ℕ, zero, suc, ◌+◌, ◌-◌, List, [], ◌∷◌, ◌++◌, length, map, min, take, drop, get_or, set, ◌<◌, Bool, true, false, ◌||◌, refl, sym, ap, ◌∙◌, arith}
+use Rattle.std.proofs.Common.{◌≡◌, ℕ, zero, suc, ◌+◌, ◌-◌, List, [], ◌∷◌, ◌++◌, length, map, min, take, drop, get_or, set, ◌<◌, Bool, nat_lt, true, false, ◌||◌, refl, sym, ap, ◌∙◌, arith}
 use Rattle.std.specs.List.{flat_map, list_any}
+use Rattle.std.proofs.lemmas.Bool.{le-ltb, lt-ltb}
 use Rattle.std.proofs.lemmas.List.Edits.{map_over_more}
 use Rattle.std.proofs.lemmas.List.{flat_map_more, length-append, length-map, take-map, take-take, take_more}
 use Rattle.std.proofs.lemmas.List.Folds.{list_any-append}
@@ -87,3 +88,17 @@ flat_map_next f xs i x below read =
 pub refuses_is : (t : Reported) (xs : List Finding) → t ≡ reported xs → t.refuses ≡ list_any is_refusal xs
 unfolding reported
 refuses_is t xs is = ap (λ (s : Reported). s.refuses) is
+
+-- a list with findings is counted as more than 0
+pub some_counted : (f : Reported) (all : List Finding) (n : ℕ) → f ≡ reported all → n ≡ f.count → 0 < n → nat_lt 0 (length all) ≡ true
+unfolding reported
+some_counted f all n is counted some =
+    let count : f.count ≡ min (length all) most_counted = ap (λ (r : Reported). r.count) is in
+    lt-ltb 0 (length all) (omega (arith, count, counted))
+
+-- a list without findings is counted as 0
+pub none_counted : (f : Reported) (all : List Finding) (n : ℕ) → f ≡ reported all → n ≡ f.count → n ≡ 0 → nat_lt 0 (length all) ≡ false
+unfolding reported
+none_counted f all n is counted none =
+    let count : f.count ≡ min (length all) most_counted = ap (λ (r : Reported). r.count) is in
+    le-ltb 0 (length all) (omega (arith, count, counted))

@@ -1,6 +1,8 @@
+pub mod AfterModules
 pub mod Collected
 pub mod EditRows
 pub mod FirstNames
+pub mod Mapped
 pub mod Named
 pub mod Options
 pub mod OutputsSoFar

@@ -4,7 +4,7 @@ use Rattle.std.specs.List.{list_any}
 use Rattle.input_validate.specs.declared.findings.finding.Finding.{Finding}
 use Rattle.input_validate.specs.declared.findings.path.Segment.{Segment}
 use Rattle.input_validate.specs.declared.findings.problem.Problem.{Problem}
-use Rattle.input_validate.specs.declared.findings.problem.Problem.TheVariants.{NotRead}
+use Rattle.input_validate.specs.declared.findings.problem.Problem.TheVariants.{NeedlessSkip, NotRead, UnheededFailure, ValuelessOutput}
 
 -- a finding at the value itself
 abbrev pub finding_here : Problem → Finding
@@ -18,9 +18,12 @@ finding_at segment problem = record { path = segment ∷ []; problem = problem }
 abbrev pub under : Segment → Finding → Finding
 under segment finding = record { path = segment ∷ finding.path; problem = finding.problem }
 
--- a run refuses for this problem; `NotRead` is the only warning
+-- a run refuses for this problem; the others are warnings
 abbrev pub is_refusal_of : Problem → Bool
 is_refusal_of NotRead = false
+is_refusal_of UnheededFailure = false
+is_refusal_of NeedlessSkip = false
+is_refusal_of (ValuelessOutput number) = false
 is_refusal_of _ = true
 
 -- a run refuses for this finding

@@ -1,10 +1,12 @@
 pub mod AgainstPlan
+pub mod Doubts
 pub mod EditRows
 pub mod Extras
 pub mod Findings
 pub mod FirstNamed
 pub mod InForm
 pub mod Names
+pub mod NearestAddresses
 pub mod NearestNames
 pub mod ObjectNames
 pub mod PlanFindings

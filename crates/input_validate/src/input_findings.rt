@@ -16,8 +16,9 @@ ghost use Rattle.input_validate.specs.Whole.{after_first, refusals_against_plan,
 
 use crate::against_plan::planned::Planned;
 use crate::against_plan::waiting::{place_of_waits, waits_findings};
+use crate::doubts::whole::doubts_unless;
 use crate::extras::bytes::extras_for;
-use crate::findings::list::{Findings, joined};
+use crate::findings::list::{Findings, is_either, joined};
 use crate::findings::name::Name;
 use crate::findings::path::{Path, Segment};
 use crate::findings::problem::Problem;
@@ -98,7 +99,8 @@ pub struct InputFindings {
 ///
 /// There is an error if and only if a run of the same bytes in that form refuses the plan or the
 /// script. `lanes` says that the run has `--parallelism`; without it no step may wait. If the plan
-/// has an error, the script is not compared with it.
+/// has an error, the script is not compared with it. If there is no error, the last findings are
+/// doubts: what a run accepts, and what is likely a mistake.
 pub fn findings_of(
     alloc: Global,
     plan: &[u8],
@@ -113,9 +115,11 @@ pub fn findings_of(
     let of_script = findings_given(alloc, plan, script, lanes)?;
     let extras = extras_for(alloc, form, of_plan.refuses(), plan, script)?;
     let all = of_script.then(extras)?;
+    let is_refused = is_either(of_plan.refuses(), all.refuses());
+    let doubts = doubts_unless(alloc, is_refused, form, lanes, plan, script)?;
     Ok(InputFindings {
         plan: of_plan,
-        script: all,
+        script: all.then(doubts)?,
     })
 }
 

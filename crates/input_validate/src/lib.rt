@@ -1,7 +1,9 @@
 //! Finds every error of a plan and a script at once, each with its place.
 #![tactic(auto)]
 
+mod addresses;
 mod against_plan;
+mod doubts;
 mod extras;
 mod findings;
 mod form;
@@ -11,6 +13,7 @@ mod plan;
 mod rules;
 mod script;
 
+pub use addresses::nearest_addresses;
 pub use findings::expected::Expected;
 pub use findings::finding::Finding;
 pub use findings::list::Findings;

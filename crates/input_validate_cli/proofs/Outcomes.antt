@@ -1,12 +1,12 @@
 -- The outcome of a validation.
-use Rattle.std.proofs.Common.{◌≡◌, ◌∙◌, ◌+◌, ℕ, List, [], length, Bool, false, Bor, Option, None, Some, Result, Ok, Err, arith, refl, subst, sym, take}
-use Rattle.std.specs.Prelude.{IsErrAnd, OnErr, is_some}
+use Rattle.std.proofs.Common.{◌≡◌, ◌∙◌, ◌+◌, ℕ, List, [], length, Bool, true, false, Bor, Option, None, Some, Result, Ok, Err, arith, refl, subst, sym, take}
+use Rattle.std.specs.Prelude.{IsErrAnd, OnErr, if◌then◌else◌, is_some}
 use Rattle.std.specs.Io.KnownBytes.{Appends, Keeps}
 use Rattle.std.specs.Option.{option_copied}
 use Rattle.std.proofs.KnownBytes.{Appends-kept}
 use Rattle.std.proofs.lemmas.List.{take_all}
 use Rattle.input_validate.specs.Findings.{Reported, reported}
-use Rattle.input_validate.specs.InForm.{findings_in}
+use Rattle.input_validate.specs.InForm.{findings_in, is_refused}
 use Rattle.input_validate.specs.Whole.{plan_findings}
 use Rattle.input_validate.specs.declared.findings.finding.Finding.{Finding}
 use Rattle.input_validate.specs.declared.form.Form.{Form}
@@ -18,10 +18,14 @@ use Rattle.input_validate_cli.specs.Lines.{line_count, lines_for}
 use Rattle.input_validate_cli.specs.Validated.{IsReport, ReportsOn, WasReported}
 use Rattle.input_validate_cli.specs.declared.command.validate_fault.ValidateFault.{ValidateFault}
 
+none_either : (b : Bool) → (let all : List Finding = if b then [] else [] in all) ≡ []
+none_either true = refl
+none_either false = refl
+
 -- without a script there are no findings
 none_without : (form : Form) (lanes : Bool) (plan : List ℕ) (script : Option (List ℕ)) → is_some script ≡ false → findings_in form lanes plan script ≡ []
-none_without Applystream lanes plan None absent = refl
-none_without Terraform lanes plan None absent = refl
+none_without Applystream lanes plan None absent = none_either (is_refused Applystream lanes plan None)
+none_without Terraform lanes plan None absent = none_either (is_refused Terraform lanes plan None)
 none_without form lanes plan (Some bytes) absent = absurd cc
 
 -- the text for stored findings is a report on a plan and a script with these findings

@@ -14,7 +14,7 @@ as_validate_fault write.Unwritten = fault.Unwritten
 -- memory.
 abbrev pub IsReadFault : {A : Type 0} → (script : Option A) → ValidateFault → Type 0
 IsReadFault script (fault.Plan failed) = ⊤
-IsReadFault script fault.Unopened = IsSome script
+IsReadFault script (fault.Unopened error) = IsSome script
 IsReadFault script (fault.Script failed) = IsSome script
 IsReadFault script fault.Memory = ⊤
 IsReadFault script fault.Gone = ⊥
@@ -23,8 +23,17 @@ IsReadFault script fault.Unwritten = ⊥
 -- the exit status for this cause
 abbrev pub fault_status_of : ValidateFault → ℕ
 fault_status_of (fault.Plan failed) = 2
-fault_status_of fault.Unopened = 2
+fault_status_of (fault.Unopened error) = 2
 fault_status_of (fault.Script failed) = 2
 fault_status_of fault.Memory = 3
 fault_status_of fault.Gone = 3
 fault_status_of fault.Unwritten = 3
+
+-- the report of this cause takes memory, for the name of the script's file
+abbrev pub TakesMemory : ValidateFault → Type 0
+TakesMemory (fault.Plan failed) = ⊥
+TakesMemory (fault.Unopened error) = ⊤
+TakesMemory (fault.Script failed) = ⊤
+TakesMemory fault.Memory = ⊥
+TakesMemory fault.Gone = ⊥
+TakesMemory fault.Unwritten = ⊥

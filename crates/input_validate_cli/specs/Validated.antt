@@ -1,5 +1,5 @@
 -- What `validate` reads, writes and answers.
-use Rattle.std.specs.Prelude.{◌≡◌, ◌+◌, ◌<◌, ⊤, ℕ, List, [], Bool, false, Option, Some, None, IfSome, IsSome, Result, Ok, Err, codes, if◌then◌else◌, is_some, length, take}
+use Rattle.std.specs.Prelude.{◌≡◌, ◌+◌, ◌<◌, ◌≤◌, ⊤, ℕ, List, [], Bool, false, Option, Some, None, IfSome, IsSome, Result, Ok, Err, codes, if◌then◌else◌, is_some, length, take}
 use Rattle.std.specs.Io.KnownBytes.{Appends, Keeps}
 use Rattle.apply_plan.specs.Bytes.{max_bytes}
 use Rattle.stream_tool.specs.Running.{Giving}
@@ -53,7 +53,7 @@ abbrev pub HasOutcome : Form → (lanes : Bool) → (plan : List ℕ) → (scrip
 HasOutcome form lanes plan script before after status (Ok done) =
     IsReported form lanes plan script before after × (status ≡ status_for form lanes plan script)
 HasOutcome form lanes plan script before after status (Err (fault.Plan failed)) = ⊥
-HasOutcome form lanes plan script before after status (Err fault.Unopened) = ⊥
+HasOutcome form lanes plan script before after status (Err (fault.Unopened error)) = ⊥
 HasOutcome form lanes plan script before after status (Err (fault.Script failed)) = ⊥
 HasOutcome form lanes plan script before after status (Err fault.Memory) = (status ≡ 3) × Keeps before after
 HasOutcome form lanes plan script before after status (Err fault.Gone) = (status ≡ 3) × IsBegun form lanes plan script before after
@@ -86,18 +86,19 @@ pub record IsOfRead {File : Type 0} (remaining : File → Option (List ℕ)) (se
 
 -- What `validate` gives with these settings, for the bytes of the plan. A read of the plan or the
 -- script failed, or the script's file could not be opened: status 2, and the output is unchanged.
--- Memory was refused: status 3, and the output is unchanged. Else the inputs were validated.
--- `remaining` gives the bytes of a file.
+-- Memory was refused, if only for the name of that file: status 3, and the output is unchanged.
+-- Else the inputs were validated. `remaining` gives the bytes of a file.
 abbrev pub HasValidated : {File : Type 0} → (remaining : File → Option (List ℕ)) → Giving Settings (Result (Unit {0}) ValidateFault)
 HasValidated remaining settings given before after (Err (fault.Plan failed)) status = (status ≡ 2) × Keeps before after
-HasValidated remaining settings given before after (Err fault.Unopened) status = (status ≡ 2) × Keeps before after × IsSome settings.script
+HasValidated remaining settings given before after (Err (fault.Unopened error)) status = (status ≡ 2) × Keeps before after × IsSome settings.script
 HasValidated remaining settings given before after (Err (fault.Script failed)) status = (status ≡ 2) × Keeps before after × IsSome settings.script
 HasValidated remaining settings given before after (Err fault.Memory) status = (status ≡ 3) × Keeps before after
 HasValidated remaining settings given before after answer status =
     IsOfRead remaining settings given (λ plan script. HasOutcome settings.form settings.lanes plan script before after status answer)
 
--- nothing is reported: the findings were written, or the reader of the output is gone
-abbrev pub IsSilent : Result (Unit {0}) ValidateFault → Type 0
-IsSilent (Ok done) = ⊤
-IsSilent (Err fault.Gone) = ⊤
-IsSilent (Err why) = ⊥
+-- nothing is reported on standard error: the findings were written, the reader of the output is gone,
+-- or the exit status is 0 or 1
+abbrev pub IsQuiet : Result (Unit {0}) ValidateFault → (status : ℕ) → Type 0
+IsQuiet (Ok done) status = ⊤
+IsQuiet (Err fault.Gone) status = ⊤
+IsQuiet (Err why) status = status ≤ 1

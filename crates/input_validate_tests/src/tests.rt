@@ -7,6 +7,7 @@ mod streams;
 
 use input_validate::{
     Form, Name, findings_of, findings_of_plan, findings_of_script, known_names, nearest,
+    nearest_addresses,
 };
 use input_validate_cli::{InputSizes, report_text, validate};
 use std::alloc::Global;
@@ -52,6 +53,105 @@ fn nearest_names_are_listed(rt: HostRuntime) {
     }
     let near = nearest(alloc, "fail", &names, 2).expect(&rt, "memory");
     assert_eq!(rt; (near.len(), near.first().copied()), (1, Some(3)));
+}
+
+#[test]
+fn nearest_addresses_are_of_the_same_resource(rt: HostRuntime) {
+    let alloc = rt.alloc();
+    let addresses = [
+        r#"module.m["a.b]"].a.web[0]"#,
+        "a.wob",
+        "module.m.a.web",
+        "data.a.web",
+    ];
+    let near = nearest_addresses(alloc, "a.web[1]", &addresses, 1).expect(&rt, "memory");
+    assert_eq!(rt; near.as_slice(), [0, 2].as_slice());
+    let near = nearest_addresses(alloc, "a.wab", &addresses, 1).expect(&rt, "memory");
+    assert_eq!(rt; near.as_slice(), [1].as_slice());
+    let deposed = "a.web (deposed object 4f2c9a1b)";
+    let near = nearest_addresses(alloc, deposed, &addresses, 1).expect(&rt, "memory");
+    assert_eq!(rt; near.as_slice(), [0, 2].as_slice());
+}
+
+/// Fails if the report on this plan is another text.
+fn is_reported(rt: &impl Abort, alloc: Global, plan: &[u8], wanted: &str) {
+    let findings = findings_of(alloc, plan, None, false, Form::Terraform).expect(rt, "memory");
+    let sizes = InputSizes::of(plan, None);
+    let text = report_text(alloc, &findings, plan, None, sizes).expect(rt, "memory");
+    assert_eq!(rt; text.as_str(), wanted);
+}
+
+#[test]
+fn saved_plan_is_reported(rt: HostRuntime) {
+    let alloc = rt.alloc();
+    is_reported(
+        &rt,
+        alloc,
+        b"PK\x03\x04",
+        "plan .: is a saved plan: terraform show -json PLANFILE prints it as JSON\n",
+    );
+    is_reported(
+        &rt,
+        alloc,
+        b"P",
+        "plan line 1, column 1: is not JSON, or nested more than 127 deep\n",
+    );
+    is_reported(
+        &rt,
+        alloc,
+        "[\"é\",\n \"é\",]".as_bytes(),
+        "plan line 2, column 6: is not JSON, or nested more than 127 deep\n",
+    );
+    is_reported(
+        &rt,
+        alloc,
+        b"[\"\xff\"]",
+        "plan line 1, column 3: is not JSON, or nested more than 127 deep\n",
+    );
+}
+
+/// A plan that creates two objects and leaves an output unknown.
+const UNKNOWN_OUTPUT: &str = r#"{"format_version":"1.2","resource_changes":[
+{"address":"a.b","mode":"managed","type":"a","name":"b","change":{"actions":["create"]}},
+{"address":"a.c","mode":"managed","type":"a","name":"c","change":{"actions":["create"]}}],
+"output_changes":{"o p":{"actions":["create"],"after_unknown":true}}}"#;
+
+/// Fails if the report on this script for that plan is another text.
+fn doubts_are(rt: &impl Abort, alloc: Global, form: Form, script: &str, wanted: &str) {
+    let (plan, script) = (UNKNOWN_OUTPUT.as_bytes(), Some(script.as_bytes()));
+    let findings = findings_of(alloc, plan, script, true, form).expect(rt, "memory");
+    assert!(rt; !findings.script.refuses());
+    let sizes = InputSizes::of(plan, script);
+    let text = report_text(alloc, &findings, plan, script, sizes).expect(rt, "memory");
+    assert_eq!(rt; text.as_str(), wanted);
+}
+
+#[test]
+fn doubts_are_reported(rt: HostRuntime) {
+    let alloc = rt.alloc();
+    doubts_are(
+        &rt,
+        alloc,
+        Form::Terraform,
+        r#"{"changes":[{"address":"a.b","steps":[{"skipped":true}]}]}"#,
+        "warning: script .changes[0].steps[0].skipped: nothing fails, so Terraform would not skip it\n\
+warning: plan .output_changes[\"o p\"]: is unknown, and the script tells no value\n",
+    );
+    doubts_are(
+        &rt,
+        alloc,
+        Form::Applystream,
+        r#"{"changes":[{"address":"a.b","steps":[{"seconds":1,"failed":{"summary":"s"}}]}]}"#,
+        "warning: script .changes[0].steps[0].failed: fails, and no step waits for it (\"after\")\n",
+    );
+    doubts_are(
+        &rt,
+        alloc,
+        Form::Applystream,
+        r#"{"changes":[{"address":"a.b","steps":[{"seconds":1,"failed":{"summary":"s"}}]},
+{"address":"a.c","steps":[{"seconds":1,"after":["a.b"]}]}]}"#,
+        "plan and script are accepted\n",
+    );
 }
 
 /// Fails if the validation ends with another status, or prints an error.

@@ -17,7 +17,6 @@ use Rattle.apply_events.specs.Step.{Step}
 use Rattle.apply_events.specs.StepEvents as told_in
 use Rattle.apply_events.specs.StepEvents.{end_of, endings, event, goes_on, halts, notes, phase_after, seconds_of, start_events, step_events, step_time}
 use Rattle.apply_events.proofs.Provisions.{all_along}
-use Rattle.laws_check.specs.ReadBack.{read_back}
 use Rattle.laws_check.proofs.Phases.{MayRun, Phase, under_way, Turns}
 
 -- these events lead a change from the first phase to the last, one after another, in a step with

@@ -2,6 +2,7 @@
 use Rattle.std.proofs.Common.{◌≡◌, ◌≢◌, ℕ, zero, suc, ◌+◌, ◌<◌, ◌≤◌, ◌==◌, List, [], ◌∷◌, cond, count_by, flat_map, length, Bool, true, false, Some, refl, sym, ap, ◌∙◌, subst, ⊎_elim, slice_get, arith}
 use Rattle.std.specs.Prelude.{◌&&◌}
 use Rattle.std.specs.List.{enumerate_from}
+use Rattle.std.proofs.lemmas.Bool.{cases_lt}
 use Rattle.std.proofs.lemmas.Bool.Decides.{eqb_tells}
 use Rattle.std.proofs.lemmas.List.Sums.{sum_by-append, sum_by-cons}
 use Rattle.apply_events.specs.declared.event.Event.{Event}
@@ -20,6 +21,45 @@ total_most low (suc n) g h each =
     let rest = total_most (low + 1) n g h (λ c above below. each c (omega arith) (omega arith)) in
     omega arith
 
+pub next_above : (b low : ℕ) → low ≤ b → b ≢ low → low + 1 ≤ b
+next_above zero zero above apart = absurd (apart refl)
+next_above zero (suc low) above apart = absurd (omega arith)
+next_above (suc b) zero above apart = omega arith
+next_above (suc b) (suc low) above apart = let rest = next_above b low (omega arith) (λ e. apart (ap suc e)) in omega arith
+
+-- sums of the same numbers
+pub total_same : (low n : ℕ) (g h : ℕ → ℕ) → ((c : ℕ) → g c ≡ h c) → total low n g ≡ total low n h
+total_same low zero g h each = refl
+total_same low (suc n) g h each = let first = each low in let rest = total_same (low + 1) n g h each in omega arith
+
+-- of a smaller sum, one of the numbers is smaller
+pub smaller_found : (low n : ℕ) (g h : ℕ → ℕ) → total low n g < total low n h → (c : ℕ) × (low ≤ c) × (c < low + n) × (g c < h c)
+smaller_found low zero g h less = absurd (omega arith)
+smaller_found low (suc n) g h less =
+    ⊎_elim
+    (λ (here : g low < h low). (low, omega arith, omega arith, here))
+    (λ (no : h low ≤ g low).
+    let rest = smaller_found (low + 1) n g h (omega arith) in
+    (rest.0, (let above = rest.1 in omega arith), (let below = rest.2 in omega arith), rest.3))
+    (cases_lt (g low) (h low))
+
+-- where no number is greater and one is smaller, the sum is smaller
+pub smaller_sum : (low n : ℕ) (g h : ℕ → ℕ) (c : ℕ) → ((d : ℕ) → low ≤ d → d < low + n → g d ≤ h d) → low ≤ c → c < low + n → g c < h c → total low n g < total low n h
+smaller_sum low zero g h c each above below less = absurd (omega arith)
+smaller_sum low (suc n) g h c each above below less =
+    let first = each low (omega arith) (omega arith) in
+    let others : (d : ℕ) → low + 1 ≤ d → d < low + 1 + n → g d ≤ h d = λ d up down. each d (omega arith) (omega arith) in
+    ⊎_elim
+    (λ (same : ((c == low) ≡ true) × (c ≡ low)).
+    let here : g low < h low = subst (λ (d : ℕ). g d < h d) same.1 less in
+    let rest = total_most (low + 1) n g h others in
+    omega arith)
+    (λ (apart : ((c == low) ≡ false) × (c ≢ low)).
+    let up : low + 1 ≤ c = next_above c low above apart.1 in
+    let rest = smaller_sum (low + 1) n g h c others up (omega arith) less in
+    omega arith)
+    (eqb_tells c low)
+
 pub ones : (low n : ℕ) → total low n (λ c. 1) ≡ n
 ones low zero = refl
 ones low (suc n) = let rest = ones (low + 1) n in omega arith
@@ -27,12 +67,6 @@ ones low (suc n) = let rest = ones (low + 1) n in omega arith
 none_at_all : (low n : ℕ) (g : ℕ → ℕ) → ((c : ℕ) → g c ≡ 0) → total low n g ≡ 0
 none_at_all low zero g each = refl
 none_at_all low (suc n) g each = let first = each low in let rest = none_at_all (low + 1) n g each in omega arith
-
-next_above : (b low : ℕ) → low ≤ b → b ≢ low → low + 1 ≤ b
-next_above zero zero above apart = absurd (apart refl)
-next_above zero (suc low) above apart = absurd (omega arith)
-next_above (suc b) zero above apart = omega arith
-next_above (suc b) (suc low) above apart = let rest = next_above b low (omega arith) (λ e. apart (ap suc e)) in omega arith
 
 -- the sum grows by x if one of the numbers grows by x
 one_more : (low n b x : ℕ) (g h : ℕ → ℕ) → ((c : ℕ) → h c ≡ cond (b == c) x 0 + g c) → (b < low → total low n h ≡ total low n g) × (low ≤ b → b < low + n → total low n h ≡ x + total low n g)
@@ -55,7 +89,7 @@ one_more low (suc n) b x g h is =
     ))
     (eqb_tells b low)
 
-count_here : (p : Event → Bool) (c : ℕ) (e : Event) (es : List Event) → count_by p (events_of_change c (e ∷ es)) ≡ cond (e.change == c) (cond (p e) 1 0) 0 + count_by p (events_of_change c es)
+pub count_here : (p : Event → Bool) (c : ℕ) (e : Event) (es : List Event) → count_by p (events_of_change c (e ∷ es)) ≡ cond (e.change == c) (cond (p e) 1 0) 0 + count_by p (events_of_change c es)
 count_here p c e es = either (e.change == c)
   where
     either : (b : Bool) → count_by p (cond b (e ∷ events_of_change c es) (events_of_change c es)) ≡ cond b (cond (p e) 1 0) 0 + count_by p (events_of_change c es)
@@ -74,7 +108,7 @@ by_changes p limit (e ∷ es) within =
 
 -- a test of the change keeps all events of a change, or none
 module _ (keep : ℕ → Bool) (c : ℕ) (p : Event → Bool) where
-  verbatim_or_none : (es : List Event) → count_by (λ e. keep e.change && p e) (events_of_change c es) ≡ cond (keep c) (count_by p (events_of_change c es)) 0
+  pub verbatim_or_none : (es : List Event) → count_by (λ e. keep e.change && p e) (events_of_change c es) ≡ cond (keep c) (count_by p (events_of_change c es)) 0
   verbatim_or_none [] = none (keep c)
     where
       none : (b : Bool) → 0 ≡ cond {A = ℕ} b 0 0

@@ -23,6 +23,7 @@ use Rattle.apply_events.specs.Step.{Step, Work, kinds_applied, kinds_of, step_of
 use Rattle.apply_events.specs.StepEvents.{between, end_of, endings, event, goes_on, halts, notes, phase_after, seconds_of, start_events, step_events, emits_end}
 use Rattle.apply_events.proofs.Provisions.{all_along}
 use Rattle.apply_text_terraform.specs.Message.{is_silent}
+use Rattle.laws_run.specs.ChangesUnderWay.{is_start}
 use Rattle.laws_check.specs.ReadBack.{action_of}
 use Rattle.laws_check.specs.ReadBackInForm.{read_back_in_form, event_read_back_in_form}
 use Rattle.laws_check.specs.WholeSteps.{AreOfSteps}
@@ -30,30 +31,17 @@ use Rattle.laws_check.proofs.AppliedKinds.{applied_is_planned}
 
 -- ---- starts
 
-abbrev starts : What → Bool
-starts Start = true
-starts (Progress s) = false
-starts (Complete s) = false
-starts (Errored s) = false
-starts ErrorNote = false
-starts WarnNote = false
-starts (Halted phase hook) = false
-starts (ProvisionStart i) = false
-starts (ProvisionOutput i line) = false
-starts (ProvisionComplete i) = false
-starts (ProvisionErrored i) = false
-
 -- a step of that action starts
 abbrev pub starts_as : SavedPlan → Action → Event → Bool
-starts_as plan k e = starts e.what && option_map_or (λ does. same_action (action_of does) k) (slice_get (kinds_of plan e.change) e.step) false
+starts_as plan k e = is_start e.what && option_map_or (λ does. same_action (action_of does) k) (slice_get (kinds_of plan e.change) e.step) false
 
 -- ---- starts that are read back
 
 starts_read_back : (k : Action) (change : ResourceChange) (does : StepKind) (outcome : Outcome) (what : What)
-    → count_by (begins k) (cond (is_silent does what) [] (read_back_in_form change does outcome what ∷ [])) ≤ cond (starts what && same_action (action_of does) k) 1 0
+    → count_by (begins k) (cond (is_silent does what) [] (read_back_in_form change does outcome what ∷ [])) ≤ cond (is_start what && same_action (action_of does) k) 1 0
 starts_read_back k change does outcome what = of_test (is_silent does what) what
   where
-    of_test : (b : Bool) (what : What) → count_by (begins k) (cond b [] (read_back_in_form change does outcome what ∷ [])) ≤ cond (starts what && same_action (action_of does) k) 1 0
+    of_test : (b : Bool) (what : What) → count_by (begins k) (cond b [] (read_back_in_form change does outcome what ∷ [])) ≤ cond (is_start what && same_action (action_of does) k) 1 0
     of_test true what = omega arith
     of_test false Start = omega arith
     of_test false (Progress s) = omega arith
@@ -72,13 +60,13 @@ one_told plan script k e = of_change (slice_get plan.changes e.change)
   where
     of_step : (change : ResourceChange) (o : Option StepKind)
         → count_by (begins k) (option_map_or (λ does. cond (is_silent does e.what) [] (read_back_in_form change does (outcome_of script e.change e.step) e.what ∷ [])) o [])
-        ≤ cond (starts e.what && option_map_or (λ does. same_action (action_of does) k) o false) 1 0
+        ≤ cond (is_start e.what && option_map_or (λ does. same_action (action_of does) k) o false) 1 0
     of_step change None = omega arith
     of_step change (Some does) = starts_read_back k change does (outcome_of script e.change e.step) e.what
 
     of_change : (o : Option ResourceChange)
         → count_by (begins k) (option_map_or (λ (change : ResourceChange). option_map_or (λ does. cond (is_silent does e.what) [] (read_back_in_form change does (outcome_of script e.change e.step) e.what ∷ [])) (slice_get change.steps e.step) []) o [])
-        ≤ cond (starts e.what && option_map_or (λ does. same_action (action_of does) k) (slice_get (option_map_or (λ (change : ResourceChange). change.steps) o []) e.step) false) 1 0
+        ≤ cond (is_start e.what && option_map_or (λ does. same_action (action_of does) k) (slice_get (option_map_or (λ (change : ResourceChange). change.steps) o []) e.step) false) 1 0
     of_change None = omega arith
     of_change (Some change) = of_step change (slice_get change.steps e.step)
 
@@ -100,7 +88,7 @@ module _ (plan : SavedPlan) (k : Action) where
   quiet_both : (es fs : List Event) → quiet es → quiet fs → quiet (es ++ fs)
   quiet_both es fs one other = let both = sum_by-append (λ e. cond (starts_as plan k e) 1 0) es fs in omega arith
 
-  quiet_before : (e : Event) (es : List Event) → starts e.what ≡ false → quiet es → quiet (e ∷ es)
+  quiet_before : (e : Event) (es : List Event) → is_start e.what ≡ false → quiet es → quiet (e ∷ es)
   quiet_before e es other rest =
       let first = sum_by-cons (λ x. cond (starts_as plan k x) 1 0) e es in
       let here : cond {A = ℕ} (starts_as plan k e) 1 0 ≡ 0 = ap (λ (b : Bool). cond (b && option_map_or (λ does. same_action (action_of does) k) (slice_get (kinds_of plan e.change) e.step) false) 1 0) other in
@@ -108,12 +96,12 @@ module _ (plan : SavedPlan) (k : Action) where
 
   module _ (w : ℕ) (s : Step) where
     abbrev StartsNot : ℕ × What → Type 0
-    StartsNot x = starts x.1 ≡ false
+    StartsNot x = is_start x.1 ≡ false
 
     none_starts : All StartsNot (between s)
     none_starts =
         all_along StartsNot (seconds_of s) 0 0 s.seconds_before s.ran (λ t. refl) (λ i p since. refl) (λ i p j since. refl)
-        (λ i p since. elim (has_failed p) as (λ f. starts (cond f (ProvisionErrored i) (ProvisionComplete i)) ≡ false) [ true ↦ refl | false ↦ refl ])
+        (λ i p since. elim (has_failed p) as (λ f. is_start (cond f (ProvisionErrored i) (ProvisionComplete i)) ≡ false) [ true ↦ refl | false ↦ refl ])
 
     quiet_between : (at : ℕ) (xs : List (ℕ × What)) → All StartsNot xs → quiet (map (λ (x : ℕ × What). event w s (at + x.0) x.1) xs)
     quiet_between at [] none = refl

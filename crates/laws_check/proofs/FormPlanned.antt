@@ -149,13 +149,13 @@ change_is change word details =
     (imports_are details.importing (text_if (codes "generated_config") details.generated_config no_members))
 
 -- the message is read back as a planned change, and is not deep
-abbrev IsReadBackPlanned : (word : List ℕ) → Data → Type 0
-IsReadBackPlanned word d = ((or_refuse NotJson (of_json (outline d)) >>= tree_message false) ≡ Ok (planned (intent_named word))) × (tree.depth (outline d) ≤ 3)
+abbrev IsReadBackPlanned : (word address : List ℕ) → Data → Type 0
+IsReadBackPlanned word address d = ((or_refuse NotJson (of_json (outline d)) >>= tree_message false) ≡ Ok (planned (intent_named word) (Some address))) × (tree.depth (outline d) ≤ 3)
 
 change_read : (change : ResourceChange) (word : List ℕ) (previous : Option PreviousResource) (reason : Option (List ℕ)) (importing : Option (Option (List ℕ))) (generated : Option (List ℕ)) (level says moment : List ℕ)
     → IsSound (plain_resource change) → IfSome previous (λ p. IsSound (key_data p.key))
-    → IsReadBackPlanned word (message_object level says moment (typed (codes "change") (object (change_members change word previous reason importing generated)) (codes "planned_change")))
-unfolding message_object tree_message typed_message planned_of
+    → IsReadBackPlanned word change.address (message_object level says moment (typed (codes "change") (object (change_members change word previous reason importing generated)) (codes "planned_change")))
+unfolding message_object tree_message typed_message planned_of plain_resource
 change_read change word None None None None level says moment sound key = let r = key_of change sound in (rw r.0 refl, omega (arith, r.1))
 change_read change word None None None (Some generated) level says moment sound key = let r = key_of change sound in (rw r.0 refl, omega (arith, r.1))
 change_read change word None None (Some None) None level says moment sound key = let r = key_of change sound in (rw r.0 refl, omega (arith, r.1))
@@ -204,13 +204,13 @@ message_sound level says moment name type_name body how text at named sound type
 )
 
 line_is_read_back : (change : ResourceChange) (word : List ℕ) (details : ChangeDetails) (seconds : ℕ) → HasChangeTexts change → HasDetailTexts details → IsUtf8 word
-    → IsReadBackAs (message_line seconds (planned_message change word details)) (planned (intent_named word))
+    → IsReadBackAs (message_line seconds (planned_message change word details)) (planned (intent_named word) (Some change.address))
 line_is_read_back change word details seconds has texts is =
     let says = change.address ++ codes ": Plan to " ++ word in
-    let is_read_back = subst (λ (body : Data). IsReadBackPlanned word (message_object (codes "info") says (precise_timestamp_text seconds) (typed (codes "change") body (codes "planned_change")))) (sym (change_is change word details))
+    let is_read_back = subst (λ (body : Data). IsReadBackPlanned word change.address (message_object (codes "info") says (precise_timestamp_text seconds) (typed (codes "change") body (codes "planned_change")))) (sym (change_is change word details))
     (change_read change word details.previous (option_map reason_word details.reason) (option_map (λ (importing : Importing). importing.id) details.importing) details.generated_config (codes "info") says (precise_timestamp_text seconds)
     (resource_sound change has) (key_of_previous details.previous texts.previous)) in
-    line_reads (object_at (precise_timestamp_text seconds) (planned_message change word details)) (planned (intent_named word))
+    line_reads (object_at (precise_timestamp_text seconds) (planned_message change word details)) (planned (intent_named word) (Some change.address))
     (message_sound (codes "info") says (precise_timestamp_text seconds) (codes "change") (codes "planned_change") (change_object change word details) (IsUtf8-are_ascii (codes "info") refl)
     (three change.address (codes ": Plan to ") word has.address (IsUtf8-are_ascii (codes ": Plan to ") refl) is) (fine_utf8 seconds) (IsUtf8-are_ascii (codes "change") refl) (change_sound change word details has texts is)
     (IsUtf8-are_ascii (codes "planned_change") refl))
@@ -227,6 +227,6 @@ pub planned_line_read_back : (change : ResourceChange) (details : ChangeDetails)
 planned_line_read_back change details start has texts = of_word (planned_word change.steps details.forgets) (word_utf8 change.steps details.forgets)
   where
     of_word : (o : Option (List ℕ)) → IfSome o IsUtf8
-        → AreReadBackAs (option_map_or (λ word. message_line start (planned_message change word details)) o [] ∷ []) (option_map_or (λ word. planned (intent_named word) ∷ []) o [])
+        → AreReadBackAs (option_map_or (λ word. message_line start (planned_message change word details)) o [] ∷ []) (option_map_or (λ word. planned (intent_named word) (Some change.address) ∷ []) o [])
     of_word None h = inl (refl, refl)
-    of_word (Some word) h = inr (planned (intent_named word), [], refl, line_is_read_back change word details start has texts h, refl)
+    of_word (Some word) h = inr (planned (intent_named word) (Some change.address), [], refl, line_is_read_back change word details start has texts h, refl)

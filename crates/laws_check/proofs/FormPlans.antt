@@ -1,8 +1,9 @@
 -- The planned changes have as many creates, updates and deletes as the plan, and no more reads than
 -- may overlap.
-use Rattle.std.proofs.Common.{◌≡◌, ℕ, ◌+◌, ◌<◌, ◌≤◌, List, [], ◌∷◌, count_by, flat_map, length, Bool, true, false, Option, Some, None, refl, sym, ap, subst, slice_get, arith}
+use Rattle.std.proofs.Common.{◌≡◌, ℕ, ◌+◌, ◌<◌, ◌≤◌, List, [], ◌∷◌, cond, count_by, flat_map, length, Bool, true, false, Option, Some, None, refl, sym, ap, subst, slice_get, arith}
 use Rattle.std.specs.List.{enumerate_from}
 use Rattle.std.specs.Option.{option_map_or}
+use Rattle.std.proofs.lemmas.List.Sums.{sum_by-cons}
 use Rattle.std.proofs.lemmas.Option.{slice_get-get_or, slice_get_within}
 use Rattle.apply_model.specs.declared.details.change_details.ChangeDetails.{ChangeDetails}
 use Rattle.apply_model.specs.declared.plan.step_kind.StepKind.{StepKind}
@@ -26,92 +27,106 @@ cap_of plan k = total 0 (length plan.changes) (λ c. count_by (does_so k) (kinds
 
 -- ---- one change
 
-abbrev word_read_back : List StepKind → Bool → List Message
-word_read_back steps forgets = option_map_or (λ word. planned (intent_named word) ∷ []) (planned_word steps forgets) []
+abbrev word_read_back : Option (List ℕ) → List StepKind → Bool → List Message
+word_read_back address steps forgets = option_map_or (λ word. planned (intent_named word) address ∷ []) (planned_word steps forgets) []
 
 pub record ArePlanned (steps : List StepKind) (ms : List Message) : Type 0 where
   pub creates : count_by plans_create ms ≡ count_by (does_so action.Create) steps
   pub updates : count_by plans_update ms ≡ count_by (does_so action.Update) steps
   pub deletes : count_by plans_delete ms ≡ count_by (does_so action.Delete) steps
 
-plans_are : (steps : List StepKind) (forgets : Bool) → AreStepsOfOne steps → ArePlanned steps (word_read_back steps forgets)
-plans_are [] true h = record { creates = refl; updates = refl; deletes = refl }
-plans_are [] false h = record { creates = refl; updates = refl; deletes = refl }
-plans_are (Create ∷ []) forgets h = record { creates = refl; updates = refl; deletes = refl }
-plans_are (Update ∷ []) forgets h = record { creates = refl; updates = refl; deletes = refl }
-plans_are (Delete ∷ []) forgets h = record { creates = refl; updates = refl; deletes = refl }
-plans_are (Read ∷ []) forgets h = record { creates = refl; updates = refl; deletes = refl }
-plans_are (Create ∷ Create ∷ []) forgets h = absurd h
-plans_are (Create ∷ Create ∷ kind ∷ kinds) forgets h = absurd h
-plans_are (Create ∷ Update ∷ []) forgets h = absurd h
-plans_are (Create ∷ Update ∷ kind ∷ kinds) forgets h = absurd h
-plans_are (Create ∷ Delete ∷ []) forgets h = record { creates = refl; updates = refl; deletes = refl }
-plans_are (Create ∷ Delete ∷ kind ∷ kinds) forgets h = absurd h
-plans_are (Create ∷ Read ∷ []) forgets h = absurd h
-plans_are (Create ∷ Read ∷ kind ∷ kinds) forgets h = absurd h
-plans_are (Update ∷ Create ∷ []) forgets h = absurd h
-plans_are (Update ∷ Create ∷ kind ∷ kinds) forgets h = absurd h
-plans_are (Update ∷ Update ∷ []) forgets h = absurd h
-plans_are (Update ∷ Update ∷ kind ∷ kinds) forgets h = absurd h
-plans_are (Update ∷ Delete ∷ []) forgets h = absurd h
-plans_are (Update ∷ Delete ∷ kind ∷ kinds) forgets h = absurd h
-plans_are (Update ∷ Read ∷ []) forgets h = absurd h
-plans_are (Update ∷ Read ∷ kind ∷ kinds) forgets h = absurd h
-plans_are (Delete ∷ Create ∷ []) forgets h = record { creates = refl; updates = refl; deletes = refl }
-plans_are (Delete ∷ Create ∷ kind ∷ kinds) forgets h = absurd h
-plans_are (Delete ∷ Update ∷ []) forgets h = absurd h
-plans_are (Delete ∷ Update ∷ kind ∷ kinds) forgets h = absurd h
-plans_are (Delete ∷ Delete ∷ []) forgets h = absurd h
-plans_are (Delete ∷ Delete ∷ kind ∷ kinds) forgets h = absurd h
-plans_are (Delete ∷ Read ∷ []) forgets h = absurd h
-plans_are (Delete ∷ Read ∷ kind ∷ kinds) forgets h = absurd h
-plans_are (Read ∷ Create ∷ []) forgets h = absurd h
-plans_are (Read ∷ Create ∷ kind ∷ kinds) forgets h = absurd h
-plans_are (Read ∷ Update ∷ []) forgets h = absurd h
-plans_are (Read ∷ Update ∷ kind ∷ kinds) forgets h = absurd h
-plans_are (Read ∷ Delete ∷ []) forgets h = absurd h
-plans_are (Read ∷ Delete ∷ kind ∷ kinds) forgets h = absurd h
-plans_are (Read ∷ Read ∷ []) forgets h = absurd h
-plans_are (Read ∷ Read ∷ kind ∷ kinds) forgets h = absurd h
+plans_are : (o : Option (List ℕ)) (steps : List StepKind) (forgets : Bool) → AreStepsOfOne steps → ArePlanned steps (word_read_back o steps forgets)
+plans_are o [] true h = record { creates = refl; updates = refl; deletes = refl }
+plans_are o [] false h = record { creates = refl; updates = refl; deletes = refl }
+plans_are o (Create ∷ []) forgets h = record { creates = refl; updates = refl; deletes = refl }
+plans_are o (Update ∷ []) forgets h = record { creates = refl; updates = refl; deletes = refl }
+plans_are o (Delete ∷ []) forgets h = record { creates = refl; updates = refl; deletes = refl }
+plans_are o (Read ∷ []) forgets h = record { creates = refl; updates = refl; deletes = refl }
+plans_are o (Create ∷ Create ∷ []) forgets h = absurd h
+plans_are o (Create ∷ Create ∷ kind ∷ kinds) forgets h = absurd h
+plans_are o (Create ∷ Update ∷ []) forgets h = absurd h
+plans_are o (Create ∷ Update ∷ kind ∷ kinds) forgets h = absurd h
+plans_are o (Create ∷ Delete ∷ []) forgets h = record { creates = refl; updates = refl; deletes = refl }
+plans_are o (Create ∷ Delete ∷ kind ∷ kinds) forgets h = absurd h
+plans_are o (Create ∷ Read ∷ []) forgets h = absurd h
+plans_are o (Create ∷ Read ∷ kind ∷ kinds) forgets h = absurd h
+plans_are o (Update ∷ Create ∷ []) forgets h = absurd h
+plans_are o (Update ∷ Create ∷ kind ∷ kinds) forgets h = absurd h
+plans_are o (Update ∷ Update ∷ []) forgets h = absurd h
+plans_are o (Update ∷ Update ∷ kind ∷ kinds) forgets h = absurd h
+plans_are o (Update ∷ Delete ∷ []) forgets h = absurd h
+plans_are o (Update ∷ Delete ∷ kind ∷ kinds) forgets h = absurd h
+plans_are o (Update ∷ Read ∷ []) forgets h = absurd h
+plans_are o (Update ∷ Read ∷ kind ∷ kinds) forgets h = absurd h
+plans_are o (Delete ∷ Create ∷ []) forgets h = record { creates = refl; updates = refl; deletes = refl }
+plans_are o (Delete ∷ Create ∷ kind ∷ kinds) forgets h = absurd h
+plans_are o (Delete ∷ Update ∷ []) forgets h = absurd h
+plans_are o (Delete ∷ Update ∷ kind ∷ kinds) forgets h = absurd h
+plans_are o (Delete ∷ Delete ∷ []) forgets h = absurd h
+plans_are o (Delete ∷ Delete ∷ kind ∷ kinds) forgets h = absurd h
+plans_are o (Delete ∷ Read ∷ []) forgets h = absurd h
+plans_are o (Delete ∷ Read ∷ kind ∷ kinds) forgets h = absurd h
+plans_are o (Read ∷ Create ∷ []) forgets h = absurd h
+plans_are o (Read ∷ Create ∷ kind ∷ kinds) forgets h = absurd h
+plans_are o (Read ∷ Update ∷ []) forgets h = absurd h
+plans_are o (Read ∷ Update ∷ kind ∷ kinds) forgets h = absurd h
+plans_are o (Read ∷ Delete ∷ []) forgets h = absurd h
+plans_are o (Read ∷ Delete ∷ kind ∷ kinds) forgets h = absurd h
+plans_are o (Read ∷ Read ∷ []) forgets h = absurd h
+plans_are o (Read ∷ Read ∷ kind ∷ kinds) forgets h = absurd h
 
-one_read : (steps : List StepKind) → AreStepsOfOne steps → count_by (does_so action.Read) steps ≤ 1
-one_read [] h = omega arith
-one_read (Create ∷ []) h = omega arith
-one_read (Update ∷ []) h = omega arith
-one_read (Delete ∷ []) h = omega arith
-one_read (Read ∷ []) h = omega arith
-one_read (Create ∷ Create ∷ []) h = absurd h
-one_read (Create ∷ Create ∷ kind ∷ kinds) h = absurd h
-one_read (Create ∷ Update ∷ []) h = absurd h
-one_read (Create ∷ Update ∷ kind ∷ kinds) h = absurd h
-one_read (Create ∷ Delete ∷ []) h = omega arith
-one_read (Create ∷ Delete ∷ kind ∷ kinds) h = absurd h
-one_read (Create ∷ Read ∷ []) h = absurd h
-one_read (Create ∷ Read ∷ kind ∷ kinds) h = absurd h
-one_read (Update ∷ Create ∷ []) h = absurd h
-one_read (Update ∷ Create ∷ kind ∷ kinds) h = absurd h
-one_read (Update ∷ Update ∷ []) h = absurd h
-one_read (Update ∷ Update ∷ kind ∷ kinds) h = absurd h
-one_read (Update ∷ Delete ∷ []) h = absurd h
-one_read (Update ∷ Delete ∷ kind ∷ kinds) h = absurd h
-one_read (Update ∷ Read ∷ []) h = absurd h
-one_read (Update ∷ Read ∷ kind ∷ kinds) h = absurd h
-one_read (Delete ∷ Create ∷ []) h = omega arith
-one_read (Delete ∷ Create ∷ kind ∷ kinds) h = absurd h
-one_read (Delete ∷ Update ∷ []) h = absurd h
-one_read (Delete ∷ Update ∷ kind ∷ kinds) h = absurd h
-one_read (Delete ∷ Delete ∷ []) h = absurd h
-one_read (Delete ∷ Delete ∷ kind ∷ kinds) h = absurd h
-one_read (Delete ∷ Read ∷ []) h = absurd h
-one_read (Delete ∷ Read ∷ kind ∷ kinds) h = absurd h
-one_read (Read ∷ Create ∷ []) h = absurd h
-one_read (Read ∷ Create ∷ kind ∷ kinds) h = absurd h
-one_read (Read ∷ Update ∷ []) h = absurd h
-one_read (Read ∷ Update ∷ kind ∷ kinds) h = absurd h
-one_read (Read ∷ Delete ∷ []) h = absurd h
-one_read (Read ∷ Delete ∷ kind ∷ kinds) h = absurd h
-one_read (Read ∷ Read ∷ []) h = absurd h
-one_read (Read ∷ Read ∷ kind ∷ kinds) h = absurd h
+one_alone : (k : Action) (x : StepKind) → count_by (does_so k) (x ∷ []) ≤ 1
+one_alone k x = let all = sum_by-cons (λ x. cond (does_so k x) 1 0) x [] in let bit = at_most (does_so k x) in omega arith
+  where
+    at_most : (b : Bool) → cond {A = ℕ} b 1 0 ≤ 1
+    at_most true = omega arith
+    at_most false = omega arith
+
+one_of_two : (k : Action) → cond {A = ℕ} (does_so k Create) 1 0 + cond (does_so k Delete) 1 0 ≤ 1
+one_of_two action.Create = omega arith
+one_of_two action.Update = omega arith
+one_of_two action.Delete = omega arith
+one_of_two action.Read = omega arith
+one_of_two action.Refresh = omega arith
+
+pub one_at_most : (k : Action) (steps : List StepKind) → AreStepsOfOne steps → count_by (does_so k) steps ≤ 1
+one_at_most k [] h = omega arith
+one_at_most k (Create ∷ []) h = one_alone k Create
+one_at_most k (Update ∷ []) h = one_alone k Update
+one_at_most k (Delete ∷ []) h = one_alone k Delete
+one_at_most k (Read ∷ []) h = one_alone k Read
+one_at_most k (Create ∷ Create ∷ []) h = absurd h
+one_at_most k (Create ∷ Create ∷ kind ∷ kinds) h = absurd h
+one_at_most k (Create ∷ Update ∷ []) h = absurd h
+one_at_most k (Create ∷ Update ∷ kind ∷ kinds) h = absurd h
+one_at_most k (Create ∷ Delete ∷ []) h = let all = sum_by-cons (λ x. cond (does_so k x) 1 0) Create (Delete ∷ []) in let rest = sum_by-cons (λ x. cond (does_so k x) 1 0) Delete [] in let one = one_of_two k in omega arith
+one_at_most k (Create ∷ Delete ∷ kind ∷ kinds) h = absurd h
+one_at_most k (Create ∷ Read ∷ []) h = absurd h
+one_at_most k (Create ∷ Read ∷ kind ∷ kinds) h = absurd h
+one_at_most k (Update ∷ Create ∷ []) h = absurd h
+one_at_most k (Update ∷ Create ∷ kind ∷ kinds) h = absurd h
+one_at_most k (Update ∷ Update ∷ []) h = absurd h
+one_at_most k (Update ∷ Update ∷ kind ∷ kinds) h = absurd h
+one_at_most k (Update ∷ Delete ∷ []) h = absurd h
+one_at_most k (Update ∷ Delete ∷ kind ∷ kinds) h = absurd h
+one_at_most k (Update ∷ Read ∷ []) h = absurd h
+one_at_most k (Update ∷ Read ∷ kind ∷ kinds) h = absurd h
+one_at_most k (Delete ∷ Create ∷ []) h = let all = sum_by-cons (λ x. cond (does_so k x) 1 0) Delete (Create ∷ []) in let rest = sum_by-cons (λ x. cond (does_so k x) 1 0) Create [] in let one = one_of_two k in omega arith
+one_at_most k (Delete ∷ Create ∷ kind ∷ kinds) h = absurd h
+one_at_most k (Delete ∷ Update ∷ []) h = absurd h
+one_at_most k (Delete ∷ Update ∷ kind ∷ kinds) h = absurd h
+one_at_most k (Delete ∷ Delete ∷ []) h = absurd h
+one_at_most k (Delete ∷ Delete ∷ kind ∷ kinds) h = absurd h
+one_at_most k (Delete ∷ Read ∷ []) h = absurd h
+one_at_most k (Delete ∷ Read ∷ kind ∷ kinds) h = absurd h
+one_at_most k (Read ∷ Create ∷ []) h = absurd h
+one_at_most k (Read ∷ Create ∷ kind ∷ kinds) h = absurd h
+one_at_most k (Read ∷ Update ∷ []) h = absurd h
+one_at_most k (Read ∷ Update ∷ kind ∷ kinds) h = absurd h
+one_at_most k (Read ∷ Delete ∷ []) h = absurd h
+one_at_most k (Read ∷ Delete ∷ kind ∷ kinds) h = absurd h
+one_at_most k (Read ∷ Read ∷ []) h = absurd h
+one_at_most k (Read ∷ Read ∷ kind ∷ kinds) h = absurd h
 
 -- ---- all changes
 
@@ -119,21 +134,21 @@ no_details : ChangeDetails
 no_details = record { forgets = false; reason = None; importing = None; generated_config = None; planned_id = None; previous = None }
 
 module _ (plan : SavedPlan) (details : List ChangeDetails) (whole : ChangesAreWhole plan) (as_many : length details ≡ length plan.changes) where
-  kinds_are : (c : ℕ) (change : ResourceChange) → IsChange plan c change → kinds_of plan c ≡ change.steps
+  pub kinds_are : (c : ℕ) (change : ResourceChange) → IsChange plan c change → kinds_of plan c ≡ change.steps
   kinds_are c change is = ap (λ (o : Option ResourceChange). option_map_or (λ (change : ResourceChange). change.steps) o []) is
 
-  of_change : (c : ℕ) (change : ResourceChange) → IsChange plan c change → ArePlanned (kinds_of plan c) (planned_read_back_at details (c, change))
-  of_change c change is =
+  pub planned_of_change : (c : ℕ) (change : ResourceChange) → IsChange plan c change → ArePlanned (kinds_of plan c) (planned_read_back_at details (c, change))
+  planned_of_change c change is =
       let within : c < length plan.changes = slice_get_within plan.changes c change is in
       let located = slice_get-get_or details c no_details (omega (arith, within, as_many)) in
       subst (λ (steps : List StepKind). ArePlanned steps (planned_read_back_at details (c, change))) (sym (kinds_are c change is))
-      (subst (λ (o : Option ChangeDetails). ArePlanned change.steps (option_map_or (planned_read_back change) o [])) (sym located) (plans_are change.steps _ (whole c change is)))
+      (subst (λ (o : Option ChangeDetails). ArePlanned change.steps (option_map_or (planned_read_back change) o [])) (sym located) (plans_are (Some change.address) change.steps _ (whole c change is)))
 
   module _ (p : Message → Bool) (k : Action) (each : (steps : List StepKind) (ms : List Message) → ArePlanned steps ms → count_by p ms ≡ count_by (does_so k) steps) where
     pub planned_share : count_by p (flat_map (planned_read_back_at details) (enumerate_from 0 plan.changes)) ≡ cap_of plan k
     planned_share =
         by_elements p (planned_read_back_at details) (λ c. count_by (does_so k) (kinds_of plan c)) 0 plan.changes
-        (λ i change is. let same : i ≡ 0 + i = omega arith in each (kinds_of plan (0 + i)) (planned_read_back_at details (0 + i, change)) (of_change (0 + i) change (subst (λ (c : ℕ). IsChange plan c change) same is)))
+        (λ i change is. let same : i ≡ 0 + i = omega arith in each (kinds_of plan (0 + i)) (planned_read_back_at details (0 + i, change)) (planned_of_change (0 + i) change (subst (λ (c : ℕ). IsChange plan c change) same is)))
 
   pub creates_planned : count_by plans_create (flat_map (planned_read_back_at details) (enumerate_from 0 plan.changes)) ≡ cap_of plan action.Create
   creates_planned = planned_share plans_create action.Create (λ steps ms are. are.creates)
@@ -155,5 +170,5 @@ few_reads plan whole =
     of_change c (Some change) is =
         let same : count_by (does_so action.Read) (option_map_or (λ (change : ResourceChange). change.steps) (slice_get plan.changes c) []) ≡ count_by (does_so action.Read) change.steps =
         ap (λ (o : Option ResourceChange). count_by (does_so action.Read) (option_map_or (λ (change : ResourceChange). change.steps) o [])) is in
-        let one = one_read change.steps (whole c change is) in
+        let one = one_at_most action.Read change.steps (whole c change is) in
         omega arith

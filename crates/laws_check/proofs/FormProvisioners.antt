@@ -1,5 +1,5 @@
 -- Provisioners in two streams that are alike: what one checker accepts of them, the other does.
-use Rattle.std.proofs.Common.{◌≡◌, ℕ, ◌+◌, ◌-◌, ◌≤◌, ◌∙◌, List, ◌∷◌, length, Bool, true, false, cond, Option, Some, None, Result, Ok, Err, refl, sym, ap, subst, is_some, count_by, arith}
+use Rattle.std.proofs.Common.{◌≡◌, ℕ, ◌+◌, ◌≤◌, ◌∙◌, List, ◌∷◌, length, Bool, true, false, cond, Option, Some, None, Result, Ok, Err, refl, sym, ap, subst, is_some, count_by, arith}
 use Rattle.std.specs.Option.{option_map_or}
 use Rattle.std.proofs.lemmas.List.Sums.{sum_by-cons}
 use Rattle.stream_check.specs.declared.messages.action.Action.TheVariants.{Read}
@@ -9,7 +9,6 @@ use Rattle.stream_check.specs.declared.rules.fault.Fault.{Fault}
 use Rattle.stream_check.specs.declared.rules.fault.Fault.TheVariants.{AfterSummary, NoStep, NoVersion}
 use Rattle.stream_check.specs.declared.rules.pending.Pending.{Pending}
 use Rattle.stream_check.specs.declared.rules.address_state.AddressState.{AddressState}
-use Rattle.stream_check.specs.Course.{begun}
 use Rattle.stream_check.specs.Lines.{after_version, next}
 use Rattle.stream_check.specs.Message.{Message, provision}
 use Rattle.stream_check.specs.Results.{◌>>=◌}

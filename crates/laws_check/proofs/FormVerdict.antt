@@ -1,26 +1,26 @@
 -- The verdict on a whole stream in Terraform's form.
-use Rattle.std.proofs.Common.{◌≡◌, ◌≢◌, ℕ, ◌<◌, ◌≤◌, List, [], ◌∷◌, ◌++◌, append_assoc, cond, count_by, filter, flat_map, length, length-append, map, suc, Bool, true, false, Option, Some, None, Result, Ok, is_some, refl, sym, ap, ap₂, ◌∙◌, subst, arith, le-ltb}
-use Rattle.std.specs.Prelude.{◌&&◌, ◌||◌, nat_lt, not}
+use Rattle.std.proofs.Common.{◌≡◌, ◌≢◌, ℕ, ◌+◌, ◌<◌, ◌≤◌, List, [], ◌∷◌, ◌++◌, append_assoc, cond, count_by, flat_map, length, length-append, map, suc, Bool, true, false, Option, None, Result, Ok, is_some, refl, sym, ap, ap₂, ◌∙◌, subst, ⊎_elim, ◌-◌, arith, le-ltb}
+use Rattle.std.specs.Prelude.{◌&&◌, ◌||◌, ◌⊎◌, nat_lt, not}
 use Rattle.std.specs.List.{enumerate_from, list_any}
 use Rattle.std.proofs.Math.Bool.{and-false, or-true}
-use Rattle.std.proofs.lemmas.Bool.{or_parts}
+use Rattle.std.proofs.lemmas.Bool.{cases_Bool, lt-ltb, ltb-true, or_parts}
 use Rattle.std.proofs.lemmas.Grind.{flat_map-append}
 use Rattle.std.proofs.lemmas.List.Sums.{sum_by-append, sum_by-cons}
-use Rattle.apply_model.specs.declared.details.note.Note.{Note}
 use Rattle.stream_check.specs.declared.messages.action.Action.{Action}
 use Rattle.stream_check.specs.declared.messages.action.Action.TheVariants.{Create, Update, Delete, Read, Refresh}
 use Rattle.stream_check.specs.declared.messages.totals.Totals.{Totals}
 use Rattle.stream_check.specs.declared.rules.fault.Fault.{Fault}
-use Rattle.stream_check.specs.declared.rules.pending.Pending.{Pending}
 use Rattle.stream_check.specs.declared.verdict.whole.Whole.{Whole}
-use Rattle.stream_check.specs.Lines.{end_of, is_plan_stream, next}
+use Rattle.stream_check.specs.Lines.{is_plan_stream, leaves_planned, next}
 use Rattle.stream_check.specs.Message.{Message, diagnostic, outputs, summary, version}
 use Rattle.stream_check.specs.Open.{any_open, refreshes_matter, stands_open}
 use Rattle.stream_check.specs.Results.{◌>>=◌}
 use Rattle.stream_check.specs.AddressState.{pending_at, state_of}
 use Rattle.stream_check.specs.Tally.{begun_totals, completed_totals, completes, failures_left, failures_stand, is_error, is_error_without_address, is_plan_summary, is_summary, is_version, line_of, no_totals, same_totals}
 use Rattle.stream_check.proofs.Counting.{same_counts, uncounted}
+use Rattle.stream_check.specs.Unbegun.{any_unbegun, unbegun_at}
 use Rattle.stream_check.proofs.OpenSteps.{not_any_open}
+use Rattle.stream_check.proofs.Unbegun.{none_waits, some_waits}
 use Rattle.apply_events.specs.declared.event.Event.{Event}
 use Rattle.apply_events.specs.Diagnostics.{is_note}
 use Rattle.apply_events.specs.Step.{Work, address_of}
@@ -29,25 +29,29 @@ use Rattle.apply_text.specs.declared.operation.Operation.{Operation}
 use Rattle.apply_text.specs.declared.operation.Operation.TheVariants.{Apply, Destroy}
 use Rattle.apply_text.specs.Order.{as_written, hook_messages_of, notes_of}
 use Rattle.apply_writer.specs.Stream.Terraform.{StreamExtras, contains_error}
-use Rattle.apply_writer.specs.Stream.Terraform as form
 use Rattle.laws_check.specs.Accepted.{totals_of_counts}
-use Rattle.laws_check.specs.Passing.{plain, verdict_on, with_all}
+use Rattle.laws_check.specs.AcceptedInForm.{IsTakenInForm}
+use Rattle.laws_check.specs.Passing.{with_all}
 use Rattle.laws_check.specs.Plans.{ChangesAreWhole, IsOrdinary, ProvisionsCreates, WarnsOfReads}
 use Rattle.laws_check.specs.ReadBack.{events_read_back}
-use Rattle.laws_check.specs.ReadBackInForm.{stream_read_back_in_form, outputs_read_back, planned_read_back_at, end_read_back, read_back_before_end, event_read_back_in_form, diagnostic_read_back, whole_in_form}
+use Rattle.laws_check.specs.ReadBackInForm.{stream_read_back_in_form, outputs_read_back, planned_read_back_at, end_read_back, read_back_before_end, event_read_back_in_form, diagnostic_read_back}
+use Rattle.laws_check.specs.Unstarted.{EachStarts, FindsUnstarted}
 use Rattle.laws_check.specs.WholeSteps.{IsOfWholeSteps}
-use Rattle.laws_check.proofs.Errors.{IsPlanned, any_both, any_counted, as_many_noted, errors_read_back, few_fail, is_error_note}
+use Rattle.laws_check.proofs.Errors.{IsPlanned, any_both, as_many_noted, errors_read_back, few_fail, is_error_note}
 use Rattle.laws_check.proofs.FormFailures.{AllStand, AreDiagnostics, all_named, all_stand, anywhere, at_version, diagnostics_both, diagnostics_keep, fails_where, first_accepted, left_at_end, lines_keep, names, no_error_names, none_told, not_named, nowhere}
 use Rattle.laws_check.proofs.FormMatches.{AreAlike}
-use Rattle.laws_check.proofs.FormPendings.{Matches}
 use Rattle.laws_check.proofs.FormMessages.{all_alone, all_fail, completed_as_read_back, errors_as_read_back, hooks_are_fine, notes_are_diagnostics}
+use Rattle.laws_check.proofs.FormNothingPlanned.{happened_nothing, planned_few}
+use Rattle.laws_check.proofs.FormUnbegun.{IsWaiting, PlanNothing, all_begin, all_wait, at_version_waits, diagnostics_nothing, diagnostics_start_none, plans_here, starts_here}
+use Rattle.laws_check.proofs.FormUnstarted.{unstarted_waits, waits_unstarted}
 use Rattle.laws_check.proofs.FormWhole.{AreIntents, all_intents, none_planned, taken}
 use Rattle.laws_check.proofs.Ordinary.{Anywhere, Does, Provides}
 use Rattle.laws_check.proofs.Parts.{Each, each_weaker, each_written}
 use Rattle.laws_check.proofs.Standings.{next_after}
 use Rattle.laws_check.proofs.Tallies.{are_planned, count_written, is_within, same_whole, totals_written, whole_steps_run}
 use Rattle.laws_check.proofs.Turning.{Runs, followed_by, followed_by_both, joined}
-use Rattle.laws_check.proofs.Whole.{any_followed_by, closed_but, counts_followed_by, length_followed_by, next_summary, none_stands, summed_up, whole_end}
+use Rattle.laws_check.proofs.Whole.{any_followed_by, closed_but, counts_followed_by, length_followed_by, next_summary, none_stands, planned_end, summed_up, whole_end}
+use Rattle.laws_check.proofs.FormParts.{each_verbatim, hooks_filtered, none_counted, none_too, not_true, notes_are_errors, notes_err}
 
 -- ---- the end
 
@@ -122,44 +126,6 @@ summed operation t ms sound same = of_operation operation
       errors = refl;
     }
 
--- ---- parts of the messages
-
-notes_are_errors : (notes : List Note) → AreDiagnostics (map diagnostic_read_back notes)
-notes_are_errors [] = tt
-notes_are_errors (note ∷ notes) = ((form.is_error note, note.address, refl), notes_are_errors notes)
-
-notes_err : (notes : List Note) → list_any is_error (map diagnostic_read_back notes) ≡ list_any form.is_error notes
-notes_err [] = refl
-notes_err (note ∷ notes) = ap (λ (b : Bool). form.is_error note || b) (notes_err notes)
-
-none_counted : {X : Type 0} (q : X → Bool) (xs : List X) → count_by q xs ≡ 0 → list_any q xs ≡ false
-none_counted q xs none = any_counted q xs ∙ ap (nat_lt 0) none
-
-none_too : (k : Action) → k ≢ Read → (p q : Option Pending) → Matches k p q → p ≡ None → q ≡ None
-none_too k other (Some p) q h e = absurd cc
-none_too k other None None h e = refl
-none_too Create other None (Some q) h e = absurd h
-none_too Update other None (Some q) h e = absurd h
-none_too Delete other None (Some q) h e = absurd h
-none_too Refresh other None (Some q) h e = absurd h
-none_too Read other None (Some q) h e = absurd (other refl)
-
-not_true : (b : Bool) → not b ≡ true → b ≡ false
-not_true true e = absurd cc
-not_true false e = refl
-
--- what a test keeps passes it
-each_verbatim : (t : Event → Bool) (es : List Event) → Each (λ e. t e ≡ true) (filter t es)
-each_verbatim t [] = tt
-each_verbatim t (e ∷ es) = at (each_verbatim t es) (t e) refl
-  where
-    at : Each (λ e. t e ≡ true) (filter t es) → (b : Bool) → t e ≡ b → Each (λ e. t e ≡ true) (cond b (e ∷ filter t es) (filter t es))
-    at rest true is = (is, rest)
-    at rest false is = rest
-
-hooks_filtered : (es : List Event) → Each (λ e. is_note e.what ≡ false) (hook_messages_of es)
-hooks_filtered es = each_weaker (λ e. not (is_note e.what) ≡ true) (λ e. is_note e.what ≡ false) (λ e is. not_true (is_note e.what) is) (hook_messages_of es) (each_verbatim (λ e. not (is_note e.what)) es)
-
 -- ---- all of it
 
 module _ (work : Work) (extras : StreamExtras) (events : List Event) (ordinary : IsOrdinary work.plan) (whole : ChangesAreWhole work.plan) (as_many : length extras.details ≡ length work.plan.changes)
@@ -219,7 +185,7 @@ module _ (work : Work) (extras : StreamExtras) (events : List Event) (ordinary :
     read_back_fail : count_by (fails_where p) (ps ++ hooks) ≤ count_by (λ (e : Event). p (address_of work.plan e.change) && is_errored e.what) events
     read_back_fail =
         let both = sum_by-append (λ m. cond (fails_where p m) 1 0) ps hooks in
-        let none = none_planned (fails_where p) (λ intent. refl) ps intents in
+        let none = none_planned (fails_where p) (λ intent address. refl) ps intents in
         let most = all_fail work.plan work.script p (hook_messages_of events) in
         let preserved = sum_by-append (λ (e : Event). cond (p (address_of work.plan e.change) && is_errored e.what) 1 0) (hook_messages_of events) (notes_of events) in
         let same = count_written (λ (e : Event). p (address_of work.plan e.change) && is_errored e.what) events in
@@ -232,7 +198,7 @@ module _ (work : Work) (extras : StreamExtras) (events : List Event) (ordinary :
       let few = few_fail work (length work.plan.changes) events within steps.whole in
       let none : count_by (fails_where anywhere) (version ∷ []) ≡ 0 = refl in
       all_stand (ps ++ hooks) (version ∷ []) accepted.0 accepted.1
-      (any_both is_error ps hooks ∙ ap₂ (λ (a b : Bool). a || b) (none_counted is_error ps (none_planned is_error (λ intent. refl) ps intents)) fine_hooks)
+      (any_both is_error ps hooks ∙ ap₂ (λ (a b : Bool). a || b) (none_counted is_error ps (none_planned is_error (λ intent address. refl) ps intents)) fine_hooks)
       (omega (arith, ordinary.few)) at_version
 
   abbrev unnamed : List ℕ → Bool
@@ -295,7 +261,7 @@ module _ (work : Work) (extras : StreamExtras) (events : List Event) (ordinary :
           let other = counts_followed_by (completes k) (version ∷ []) (events_read_back work.plan (as_written events)) in
           let parts = sum_by-append (λ m. cond (completes k m) 1 0) ps (happened ++ loose) in
           let more = sum_by-append (λ m. cond (completes k m) 1 0) happened loose in
-          let none = none_planned (completes k) (λ intent. refl) ps intents in
+          let none = none_planned (completes k) (λ intent address. refl) ps intents in
           let no_more = none_told (completes k) (λ severe o. refl) loose (notes_are_errors extras.notes) in
           let same = completed_as_read_back work.plan work.script k (as_written events) in
           omega arith
@@ -304,7 +270,7 @@ module _ (work : Work) (extras : StreamExtras) (events : List Event) (ordinary :
   errors_are =
       any_followed_by is_error (version ∷ []) front
       ∙ any_both is_error ps (happened ++ loose)
-      ∙ ap (λ (b : Bool). b || list_any is_error (happened ++ loose)) (none_counted is_error ps (none_planned is_error (λ intent. refl) ps intents))
+      ∙ ap (λ (b : Bool). b || list_any is_error (happened ++ loose)) (none_counted is_error ps (none_planned is_error (λ intent address. refl) ps intents))
       ∙ any_both is_error happened loose
       ∙ ap₂ (λ (a b : Bool). a || b)
       (errors_as_read_back work.plan work.script (as_written events) ∙ errors_read_back work (length work.plan.changes) events (each_written (IsPlanned work.plan) events planned_events) within steps.whole) (notes_err extras.notes)
@@ -318,8 +284,56 @@ module _ (work : Work) (extras : StreamExtras) (events : List Event) (ordinary :
       at true is = with_error (followed_by (version ∷ []) front) sound (errors_are ∙ is)
       at false is = summed operation (totals_of_counts (totals_of work.plan events)) (followed_by (version ∷ []) front) sound (sym totals_are)
 
-  pub accepted_in_form : (plans : Bool) (operation : Operation) → verdict_on (plain plans) (stream_read_back_in_form work.plan work.script extras operation events) ≡ Ok (whole_in_form work.plan work.script extras operation events)
-  accepted_in_form plans operation =
+  -- ---- planned creates that never begin
+
+  end_nothing : (a : List ℕ) (operation : Operation) → PlanNothing a (end_read_back extras operation (totals_of work.plan events))
+  end_nothing a operation = of_error (contains_error extras.notes (totals_of work.plan events)) operation
+    where
+      of_error : (b : Bool) (operation : Operation) → PlanNothing a (cond b [] (summary (totals_of_counts (totals_of work.plan events)) ∷ outputs_read_back operation))
+      of_error true operation = tt
+      of_error false Apply = (λ line begun w. refl, (λ line begun w. refl, tt))
+      of_error false Destroy = (λ line begun w. refl, tt)
+
+  -- so many creates of an address wait in the end
+  left_waiting : (a : List ℕ) (operation : Operation)
+      → IsWaiting a (followed_by (followed_by (version ∷ []) front) (end_read_back extras operation (totals_of work.plan events))) (count_by (plans_here a) ps - count_by (starts_here a) happened)
+  left_waiting a operation =
+      let end = end_read_back extras operation (totals_of work.plan events) in
+      let planned =
+      subst (λ (n : ℕ). IsWaiting a (followed_by (version ∷ []) ps) n) (let e : 0 + count_by (plans_here a) ps ≡ count_by (plans_here a) ps = omega arith in e)
+      (all_wait a ps (version ∷ []) 0 intents refl (omega (arith, few_planned)) (at_version_waits a)) in
+      let begun = all_begin a happened (followed_by (version ∷ []) ps) (count_by (plans_here a) ps) (happened_nothing a work.plan work.script (as_written events)) planned in
+      let noted = all_begin a loose (followed_by (followed_by (version ∷ []) ps) happened) (count_by (plans_here a) ps - count_by (starts_here a) happened) (diagnostics_nothing a loose (notes_are_errors extras.notes)) begun in
+      let so = subst (λ (ms : List Message). IsWaiting a ms ((count_by (plans_here a) ps - count_by (starts_here a) happened) - count_by (starts_here a) loose)) after_all noted in
+      let last = all_begin a end (followed_by (version ∷ []) front) ((count_by (plans_here a) ps - count_by (starts_here a) happened) - count_by (starts_here a) loose) (end_nothing a operation) so in
+      let quiet = diagnostics_start_none a loose (notes_are_errors extras.notes) in
+      let done = end_starts_none a operation in
+      (last.0 ∙ (let e : ((count_by (plans_here a) ps - count_by (starts_here a) happened) - count_by (starts_here a) loose) - count_by (starts_here a) end ≡ count_by (plans_here a) ps - count_by (starts_here a) happened = omega arith in e), last.1)
+    where
+      few_planned : length ps ≤ length work.plan.changes
+      few_planned = planned_few extras.details 0 work.plan.changes
+
+      end_starts_none : (a : List ℕ) (operation : Operation) → count_by (starts_here a) (end_read_back extras operation (totals_of work.plan events)) ≡ 0
+      end_starts_none a operation = of_error (contains_error extras.notes (totals_of work.plan events)) operation
+        where
+          of_error : (b : Bool) (operation : Operation) → count_by (starts_here a) (cond b [] (summary (totals_of_counts (totals_of work.plan events)) ∷ outputs_read_back operation)) ≡ 0
+          of_error true operation = refl
+          of_error false Apply = refl
+          of_error false Destroy = refl
+
+  finds : (operation : Operation) → FindsUnstarted work.plan events (followed_by (followed_by (version ∷ []) front) (end_read_back extras operation (totals_of work.plan events)))
+  finds operation a =
+      let waiting = left_waiting a operation in
+      let counts = unstarted_waits work extras.details events whole as_many within steps.whole a in
+      let none = waits_unstarted work extras.details events whole as_many within steps.whole a in (
+        λ some. none (let more : 0 < count_by (plans_here a) ps - count_by (starts_here a) happened = ltb-true 0 _ (ap (nat_lt 0) (sym waiting.0) ∙ sym waiting.1 ∙ some) in omega arith),
+        λ never. let less = counts never in waiting.1 ∙ ap (nat_lt 0) waiting.0 ∙ lt-ltb 0 (count_by (plans_here a) ps - count_by (starts_here a) happened) (omega arith),
+      )
+
+  -- ---- all of it
+
+  pub taken_in_form : (plans : Bool) (operation : Operation) → IsTakenInForm plans work.plan work.script extras operation events
+  taken_in_form plans operation =
       let end = end_read_back extras operation (totals_of work.plan events) in
       let so = ended operation in
       let later = followed_by (version ∷ []) front in
@@ -328,9 +342,39 @@ module _ (work : Work) (extras : StreamExtras) (events : List Event) (ordinary :
       let lines : length all ≡ length (stream_read_back_in_form work.plan work.script extras operation events) =
       (let one = length_followed_by later end in let other = length_followed_by (version ∷ []) front in let both = length-append front end in let same = ap length is in
       let more : length all ≡ suc (length (ps ++ (happened ++ (loose ++ end)))) = omega arith in more) in
-      ap (λ (r : Result (List Message) Fault). r >>= end_of (plain plans)) (ap (with_all (version ∷ [])) (sym is) ∙ joined (version ∷ []) later front end all_taken.0 ∙ so.accepted)
-      ∙ whole_end plans all so.closed so.no_plan so.ends
-      ∙ ap (λ (w : Whole). fine w) (same_whole (so.totals ∙ totals_are) (so.errors ∙ errors_are) lines)
+      let error : list_any is_error all ≡ contains_error extras.notes (totals_of work.plan events) = so.errors ∙ errors_are in
+      let found = finds operation in
+      record {
+        messages = all;
+        accepted = ap (with_all (version ∷ [])) (sym is) ∙ joined (version ∷ []) later front end all_taken.0 ∙ so.accepted;
+        finds = found;
+        answer = record {
+          is_whole = λ told.
+              whole_end plans all so.closed so.no_plan (none_left all (contains_error extras.notes (totals_of work.plan events)) error told found) so.ends
+              ∙ ap (λ (w : Whole). fine w) (same_whole (so.totals ∙ totals_are) error lines);
+          leaves = λ none a never. planned_end plans all so.closed so.no_plan (some_left all so.ends (error ∙ none) a ((found a).1 never));
+        };
+        as_many = lines;
+      }
     where
       fine : Whole → Result Whole Fault
       fine w = Ok w
+
+      -- without a planned create that is left, or with an error
+      none_left : (all : List Message) (b : Bool) → list_any is_error all ≡ b → (b ≡ true) ⊎ EachStarts work.plan events → FindsUnstarted work.plan events all → leaves_planned all ≡ false
+      none_left all b error told found =
+          ⊎_elim
+          (λ (yes : b ≡ true). ap (λ (e : Bool). (list_any is_summary all && not e) && any_unbegun all) (error ∙ yes) ∙ ap (λ (e : Bool). e && any_unbegun all) (and-false (list_any is_summary all)))
+          (λ (each : EachStarts work.plan events).
+          let none : any_unbegun all ≡ false = none_waits all (λ a. ⊎_elim (λ (yes : is_some (unbegun_at a all) ≡ true). absurd (each a ((found a).0 yes))) (λ (no : is_some (unbegun_at a all) ≡ false). no) (cases_Bool (is_some (unbegun_at a all)))) in
+          ap (λ (e : Bool). (list_any is_summary all && not (list_any is_error all)) && e) none ∙ and-false (list_any is_summary all && not (list_any is_error all)))
+          told
+
+      or_false : (b : Bool) → (b || false) ≡ b
+      or_false true = refl
+      or_false false = refl
+
+      some_left : (all : List Message) → (list_any is_summary all || list_any is_error all) ≡ true → list_any is_error all ≡ false → (a : List ℕ) → is_some (unbegun_at a all) ≡ true → leaves_planned all ≡ true
+      some_left all ends none a some =
+          let summed_up : list_any is_summary all ≡ true = sym (or_false (list_any is_summary all)) ∙ ap (λ (e : Bool). list_any is_summary all || e) (sym none) ∙ ends in
+          rw (summed_up, none, some_waits all a some) refl

@@ -62,7 +62,7 @@ at_first = record { begun = refl; unsummed = refl; unforeseen = refl; state = λ
 
 abbrev pub AreIntents : List Message → Type 0
 AreIntents [] = Unit {0}
-AreIntents (m ∷ ms) = ((intent : Intent) × (m ≡ planned intent)) × AreIntents ms
+AreIntents (m ∷ ms) = ((intent : Intent) × (address : Option (List ℕ)) × (m ≡ planned intent address)) × AreIntents ms
 
 intents_both : (xs ys : List Message) → AreIntents xs → AreIntents ys → AreIntents (xs ++ ys)
 intents_both [] ys h k = k
@@ -72,39 +72,39 @@ planned_intents : (change : ResourceChange) (details : Option ChangeDetails) →
 planned_intents change None = tt
 planned_intents change (Some details) = of_word (planned_word change.steps details.forgets)
   where
-    of_word : (word : Option (List ℕ)) → AreIntents (option_map_or (λ word. planned (intent_named word) ∷ []) word [])
+    of_word : (word : Option (List ℕ)) → AreIntents (option_map_or (λ word. planned (intent_named word) (Some change.address) ∷ []) word [])
     of_word None = tt
-    of_word (Some word) = ((intent_named word, refl), tt)
+    of_word (Some word) = ((intent_named word, Some change.address, refl), tt)
 
 pub all_intents : (details : List ChangeDetails) (ps : List (ℕ × ResourceChange)) → AreIntents (flat_map (planned_read_back_at details) ps)
 all_intents details [] = tt
 all_intents details (p ∷ ps) = intents_both (planned_read_back_at details p) (flat_map (planned_read_back_at details) ps) (planned_intents p.1 (slice_get details p.0)) (all_intents details ps)
 
-one_planned : (intent : Intent) (ms ns : List Message) → AreAlike ms ns → (next ns (planned intent) ≡ Ok (planned intent ∷ ns)) × AreAlike ms (planned intent ∷ ns)
+one_planned : (intent : Intent) (address : Option (List ℕ)) (ms ns : List Message) → AreAlike ms ns → (next ns (planned intent address) ≡ Ok (planned intent address ∷ ns)) × AreAlike ms (planned intent address ∷ ns)
 unfolding state_of
-one_planned intent ms ns alike = (
-  next_after ns (planned intent) alike.begun (λ first. ap (λ (o : Option ℕ). option_map_or (λ line. Err (AfterSummary line)) o (fine (planned intent ∷ ns))) alike.unsummed),
+one_planned intent address ms ns alike = (
+  next_after ns (planned intent address) alike.begun (λ first. ap (λ (o : Option ℕ). option_map_or (λ line. Err (AfterSummary line)) o (fine (planned intent address ∷ ns))) alike.unsummed),
   record {
     begun = alike.begun;
     unsummed = alike.unsummed;
     unforeseen = alike.unforeseen;
     state = alike.state;
-    reads = λ a. let before = alike.reads a in let all = sum_by-cons (λ m. cond (begins Read m) 1 0) (planned intent) ns in omega arith;
+    reads = λ a. let before = alike.reads a in let all = sum_by-cons (λ m. cond (begins Read m) 1 0) (planned intent address) ns in omega arith;
   },
 )
 
 all_planned : (ps ms ns : List Message) → AreIntents ps → AreAlike ms ns → (with_all ns ps ≡ Ok (followed_by ns ps)) × AreAlike ms (followed_by ns ps)
 all_planned [] ms ns intents alike = (refl, alike)
 all_planned (p ∷ ps) ms ns intents alike =
-    let here : (next ns p ≡ Ok (p ∷ ns)) × AreAlike ms (p ∷ ns) = subst (λ (m : Message). (next ns m ≡ Ok (m ∷ ns)) × AreAlike ms (m ∷ ns)) (sym intents.0.1) (one_planned intents.0.0 ms ns alike) in
+    let here : (next ns p ≡ Ok (p ∷ ns)) × AreAlike ms (p ∷ ns) = subst (λ (m : Message). (next ns m ≡ Ok (m ∷ ns)) × AreAlike ms (m ∷ ns)) (sym intents.0.2) (one_planned intents.0.0 intents.0.1 ms ns alike) in
     let rest = all_planned ps ms (p ∷ ns) intents.1 here.1 in
     (ap (λ (r : Result (List Message) Fault). r >>= λ later. with_all later ps) here.0 ∙ rest.0, rest.1)
 
-pub none_planned : (q : Message → Bool) → ((intent : Intent) → q (planned intent) ≡ false) → (ps : List Message) → AreIntents ps → count_by q ps ≡ 0
+pub none_planned : (q : Message → Bool) → ((intent : Intent) (address : Option (List ℕ)) → q (planned intent address) ≡ false) → (ps : List Message) → AreIntents ps → count_by q ps ≡ 0
 none_planned q none [] h = refl
 none_planned q none (p ∷ ps) h =
     let first = sum_by-cons (λ m. cond (q m) 1 0) p ps in
-    let here : cond {A = ℕ} (q p) 1 0 ≡ 0 = ap (λ (b : Bool). cond b 1 0) (ap q h.0.1 ∙ none h.0.0) in
+    let here : cond {A = ℕ} (q p) 1 0 ≡ 0 = ap (λ (b : Bool). cond b 1 0) (ap q h.0.2 ∙ none h.0.0 h.0.1) in
     let rest = none_planned q none ps h.1 in
     omega arith
 
@@ -137,7 +137,7 @@ module _ (work : Work) (extras : StreamExtras) (events : List Event) (few : leng
         begun = λ k.
             let most = begun_most k in
             let now = counts_followed_by (begins k) (version ∷ []) ps in
-            let none = none_planned (begins k) (λ intent. refl) ps (all_intents extras.details (enumerate_from 0 work.plan.changes)) in
+            let none = none_planned (begins k) (λ intent address. refl) ps (all_intents extras.details (enumerate_from 0 work.plan.changes)) in
             let first : count_by (begins k) (version ∷ []) ≡ 0 = refl in
             omega arith;
         creates = let now = counts_followed_by plans_create (version ∷ []) ps in let first : count_by plans_create (version ∷ []) ≡ 0 = refl in let share = creates_planned work.plan extras.details whole as_many in omega arith;

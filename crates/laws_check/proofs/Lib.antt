@@ -24,7 +24,9 @@ pub mod FormFeeds
 pub mod FormReadBack
 pub mod FormLines
 pub mod FormMatches
+pub mod FormParts
 pub mod FormNotes
+mod FormNothingPlanned
 pub mod FormObjects
 mod FormOutputs
 pub mod FormPendings
@@ -35,6 +37,8 @@ mod FormRead
 mod FormRuns
 mod FormStream
 mod FormMessages
+mod FormUnbegun
+mod FormUnstarted
 mod FormVerdict
 mod FormWhole
 pub mod Given
@@ -42,6 +46,7 @@ pub mod ReadBackEvents
 pub mod JsonTexts
 mod VerbatimDiagnostics
 mod VerbatimValues
+mod LeftOut
 pub mod Legible
 pub mod LinesAccepted
 pub mod LookUps

@@ -35,7 +35,7 @@ pub located : (o : Option ResourceChange) (n : ℕ) (step : StepKind) → slice_
 located None n step e = absurd cc
 located (Some change) n step e = (change, refl, e)
 
-address_is : (plan : SavedPlan) (c : ℕ) (change : ResourceChange) → IsChange plan c change → address_of plan c ≡ change.address
+pub address_is : (plan : SavedPlan) (c : ℕ) (change : ResourceChange) → IsChange plan c change → address_of plan c ≡ change.address
 address_is plan c change e = ap (λ (o : Option ResourceChange). option_map_or (λ (change : ResourceChange). change.address) o []) e
 
 not_some : {X : Type 0} (o : Option X) → is_some o ≡ false → o ≡ None

@@ -1,6 +1,6 @@
 -- What is read back from the messages of events counts what the events are.
-use Rattle.std.proofs.Common.{All, ◌≡◌, ℕ, suc, ◌+◌, ◌<◌, List, [], ◌∷◌, ◌++◌, length, map, get_or, Bool, true, false, cond, Option, Some, None, Result, Ok, refl, sym, ap, ◌∙◌, subst, slice_get, count_by, arith}
-use Rattle.std.specs.Prelude.{nat_lt, not, ◌&&◌}
+use Rattle.std.proofs.Common.{All, ◌≡◌, ℕ, suc, ◌+◌, ◌<◌, List, [], ◌∷◌, ◌++◌, length, map, get_or, Bool, true, false, cond, Option, Some, None, Result, Ok, refl, sym, ap, ap₂, ◌∙◌, subst, slice_get, count_by, arith}
+use Rattle.std.specs.Prelude.{nat_lt, not, ◌&&◌, ◌||◌}
 use Rattle.std.specs.List.{list_any}
 use Rattle.std.specs.Option.{option_map_or}
 use Rattle.std.proofs.lemmas.List.{length-append}
@@ -11,6 +11,7 @@ use Rattle.apply_model.specs.declared.plan.step_kind.StepKind.{StepKind}
 use Rattle.apply_model.specs.declared.plan.step_kind.StepKind.TheVariants.{Create, Update, Delete, Read}
 use Rattle.apply_plan.specs.Plan.SavedPlan.{SavedPlan}
 use Rattle.apply_plan.specs.Plan.StepKind.{is_kind}
+use Rattle.stream_check.specs.declared.messages.action.Action.{Action}
 use Rattle.stream_check.specs.declared.rules.fault.Fault.{Fault}
 use Rattle.stream_check.specs.declared.messages.totals.Totals.{Totals}
 use Rattle.stream_check.specs.declared.verdict.whole.Whole.{Whole}
@@ -30,16 +31,16 @@ use Rattle.apply_text.specs.Order.{as_written, hook_messages_of, notes_of}
 use Rattle.laws_check.specs.Accepted.{stream_read_back, totals_of_counts, whole_stream}
 use Rattle.laws_check.specs.Passing.{plain, verdict_on}
 use Rattle.laws_check.specs.Plans.{IsOrdinary, ProvisionsCreates, WarnsOfReads}
-use Rattle.laws_check.specs.ReadBack.{action_of, events_read_back, read_back}
+use Rattle.laws_check.specs.ReadBack.{action_of, event_read_back, events_read_back, read_back}
 use Rattle.laws_check.specs.WholeSteps.{IsOfWholeSteps, events_of_change}
 use Rattle.laws_check.proofs.ChangeDeeds.{change_written}
 use Rattle.laws_check.proofs.Deeds.{all_deeds, all_read_back_append, follows, of_change_is, told_is}
-use Rattle.laws_check.proofs.Errors.{IsPlanned, errors_read_back}
+use Rattle.laws_check.proofs.Errors.{IsPlanned, any_both, errors_read_back}
 use Rattle.laws_check.proofs.Ordinary.{Anywhere, Does, Provides, apart, located, known, only}
 use Rattle.laws_check.proofs.Parts.{Each, each_of_all, each_weaker, each_written, part_of_verbatim}
 use Rattle.laws_check.proofs.Phases.{Deed, Follows, between, of_change}
 use Rattle.laws_check.proofs.Turning.{Runs, followed_by, both_run, message_of_deed}
-use Rattle.laws_check.proofs.Whole.{accepted, any_followed_by, at_begin, counts_followed_by, length_followed_by}
+use Rattle.laws_check.proofs.Whole.{accepted, any_followed_by, plans_somewhere, at_begin, counts_followed_by, length_followed_by}
 
 -- ---- totals
 
@@ -157,6 +158,30 @@ whole_is plans plan es lines errors =
     same_whole (sym (totals_written plan es)) (any_followed_by is_error (version ∷ []) (events_read_back plan (as_written es)) ∙ errors)
     (let all = length_followed_by (version ∷ []) (events_read_back plan (as_written es)) in let same = length_written es in let more : suc (length (followed_by (version ∷ []) (events_read_back plan (as_written es)))) ≡ length es + 2 = omega arith in more)
 
+-- no event plans a change
+one_unplanned : (a : List ℕ) (k : Action) (what : What) → plans_somewhere (read_back a k what) ≡ false
+one_unplanned a k Start = refl
+one_unplanned a k (Progress seconds) = refl
+one_unplanned a k (Complete seconds) = refl
+one_unplanned a k (Errored seconds) = refl
+one_unplanned a k ErrorNote = refl
+one_unplanned a k WarnNote = refl
+one_unplanned a k (Halted phase hook) = refl
+one_unplanned a k (ProvisionStart i) = refl
+one_unplanned a k (ProvisionOutput i line) = refl
+one_unplanned a k (ProvisionComplete i) = refl
+one_unplanned a k (ProvisionErrored i) = refl
+
+unplanned : (plan : SavedPlan) (es : List Event) → list_any plans_somewhere (events_read_back plan es) ≡ false
+unplanned plan [] = refl
+unplanned plan (e ∷ es) =
+    any_both plans_somewhere (event_read_back plan e) (events_read_back plan es)
+    ∙ ap₂ (λ (a b : Bool). a || b) (of_step (slice_get (kinds_of plan e.change) e.step)) (unplanned plan es)
+  where
+    of_step : (o : Option StepKind) → list_any plans_somewhere (option_map_or (λ kind. read_back (address_of plan e.change) (action_of kind) e.what ∷ []) o []) ≡ false
+    of_step None = refl
+    of_step (Some kind) = ap (λ (b : Bool). b || false) (one_unplanned (address_of plan e.change) (action_of kind) e.what)
+
 -- an event whose step the plan has is of one of its changes
 pub is_within : (plan : SavedPlan) (e : Event) → IsPlanned plan e → e.change < length plan.changes
 is_within plan e is = let change = located (slice_get plan.changes e.change) e.step is.0 is.1 in slice_get_within plan.changes e.change change.0 change.1
@@ -210,7 +235,7 @@ whole_steps_accepted plans work events ordinary provisioned reads steps =
     let planned = are_planned plan events steps.planned in
     let lines = all_lines plan (as_written events) (each_written (IsPlanned plan) events planned) in
     let errors = errors_read_back work limit events (each_written (IsPlanned plan) events planned) (each_weaker (IsPlanned plan) (λ e. e.change < limit) (is_within plan) events planned) steps.whole in
-    accepted plans limit addresses (Does plan) (Provides plan) (events_read_back plan (as_written events)) (totals_of_counts (events_are.totals_of plan events)) ran_so (totals_written plan events)
+    accepted plans limit addresses (Does plan) (Provides plan) (events_read_back plan (as_written events)) (totals_of_counts (events_are.totals_of plan events)) ran_so (unplanned plan (as_written events)) (totals_written plan events)
     ∙ ap (λ (w : Whole). fine w) (whole_is plans plan events lines errors)
   where
     fine : Whole → Result Whole Fault

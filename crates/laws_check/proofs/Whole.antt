@@ -1,22 +1,24 @@
 -- The whole stream in the default form: version, events, and summary.
-use Rattle.std.proofs.Common.{◌≡◌, ◌≢◌, ℕ, ◌+◌, ◌<◌, List, [], ◌∷◌, ◌++◌, length, Bool, true, false, cond, Option, Some, None, Result, Ok, Err, refl, sym, ap, ◌∙◌, subst, ⊎_elim, is_some, count_by, arith, eq-eqb}
-use Rattle.std.specs.Prelude.{◌||◌}
+use Rattle.std.proofs.Common.{◌≡◌, ◌≢◌, ℕ, ◌+◌, ◌<◌, List, [], ◌∷◌, ◌++◌, length, Bool, true, false, cond, Option, Some, None, Result, Ok, Err, refl, sym, ap, ap₂, ◌∙◌, subst, ⊎_elim, is_some, count_by, arith, eq-eqb}
+use Rattle.std.specs.Prelude.{◌&&◌, ◌||◌, not}
 use Rattle.std.specs.List.{list_any}
 use Rattle.std.specs.Option.{option_map_or}
 use Rattle.std.proofs.Math.Bool.{and-false}
+use Rattle.std.proofs.lemmas.Bool.{or_parts}
 use Rattle.std.proofs.lemmas.List.Sums.{sum_by-cons}
 use Rattle.stream_check.specs.declared.messages.action.Action.{Action}
 use Rattle.stream_check.specs.declared.messages.action.Action.TheVariants.{Create, Update, Delete, Read, Refresh}
 use Rattle.stream_check.specs.declared.messages.totals.Totals.{Totals}
 use Rattle.stream_check.specs.declared.rules.fault.Fault.{Fault}
-use Rattle.stream_check.specs.declared.rules.fault.Fault.TheVariants.{AfterSummary}
+use Rattle.stream_check.specs.declared.rules.fault.Fault.TheVariants.{AfterSummary, Planned}
 use Rattle.stream_check.specs.declared.rules.address_state.AddressState.{AddressState}
-use Rattle.stream_check.specs.Lines.{end_of, is_plan_stream, next, summed, whole_of}
+use Rattle.stream_check.specs.Lines.{end_of, is_plan_stream, leaves_planned, next, summed, whole_of}
 use Rattle.stream_check.specs.Message.{Message, version, summary}
 use Rattle.stream_check.specs.Open.{any_open, stands_open}
 use Rattle.stream_check.specs.Results.{◌>>=◌}
 use Rattle.stream_check.specs.AddressState.{pending_at, state_of}
 use Rattle.stream_check.specs.Tally.{completed_totals, is_error, is_plan_summary, is_summary, is_version, line_of, same_totals}
+use Rattle.stream_check.specs.Unbegun.{any_unbegun, is_unbegun, planned_address, unbegun_at}
 use Rattle.stream_check.proofs.OpenSteps.{not_any_open}
 use Rattle.laws_check.specs.Passing.{plain, verdict_on, with_all}
 use Rattle.laws_check.proofs.Counting.{counted, none_or_some}
@@ -106,43 +108,40 @@ still_closed : (t : Totals) (ms : List Message) (a : List ℕ) → state_of a (s
 unfolding state_of
 still_closed t ms a = refl
 
+-- the message is about a planned change with an address
+abbrev pub plans_somewhere : Message → Bool
+plans_somewhere m = is_some (planned_address m)
+
 -- a stream that is no plan's, and has a summary or an error
-pub whole_end : (plans : Bool) (ms : List Message) → any_open ms ≡ false → is_plan_stream ms ≡ false → (list_any is_summary ms || list_any is_error ms) ≡ true → end_of (plain plans) ms ≡ Ok (whole_of (plain plans) ms)
+pub whole_end : (plans : Bool) (ms : List Message) → any_open ms ≡ false → is_plan_stream ms ≡ false → leaves_planned ms ≡ false → (list_any is_summary ms || list_any is_error ms) ≡ true → end_of (plain plans) ms ≡ Ok (whole_of (plain plans) ms)
 unfolding end_of
-whole_end true ms closed no_plan ends = rw (closed, no_plan, ends) refl
-whole_end false ms closed no_plan ends = rw (closed, ends) refl
+whole_end true ms closed no_plan begun ends = rw (closed, no_plan, begun, ends) refl
+whole_end false ms closed no_plan begun ends = rw (closed, begun, ends) refl
+
+-- a stream that is no plan's, and leaves a planned create
+pub planned_end : (plans : Bool) (ms : List Message) → any_open ms ≡ false → is_plan_stream ms ≡ false → leaves_planned ms ≡ true → end_of (plain plans) ms ≡ Err Planned
+unfolding end_of
+planned_end true ms closed no_plan left = rw (closed, no_plan, left) refl
+planned_end false ms closed no_plan left = rw (closed, left) refl
+
+-- where nothing is planned, nothing planned is left
+none_planned : (all ms : List Message) → list_any plans_somewhere ms ≡ false → list_any (is_unbegun all) ms ≡ false
+none_planned all [] none = refl
+none_planned all (m ∷ ms) none = let both = or_parts (plans_somewhere m) (list_any plans_somewhere ms) none in ap₂ (λ (a b : Bool). a || b) (unplanned (planned_address m) both.0) (none_planned all ms both.1)
+  where
+    unplanned : (o : Option (List ℕ)) → is_some o ≡ false → option_map_or (λ a. is_some (unbegun_at a all)) o false ≡ false
+    unplanned None is = refl
+    unplanned (Some a) is = absurd cc
+
+leaves_none : (ms : List Message) → list_any plans_somewhere ms ≡ false → leaves_planned ms ≡ false
+unfolding any_unbegun
+leaves_none ms none = ap (λ (b : Bool). (list_any is_summary ms && not (list_any is_error ms)) && b) (none_planned ms ms none) ∙ and-false (list_any is_summary ms && not (list_any is_error ms))
 
 -- where an apply is summed up, the stream is no plan's
 pub summed_up : (t : Totals) (ms : List Message) → is_plan_stream (summary t ∷ ms) ≡ false
 summed_up t ms = and-false (is_some (line_of is_plan_summary ms))
 
--- ---- all messages
-
-pub accepted : (plans : Bool) (limit : ℕ) (addresses : ℕ → List ℕ) (Does : ℕ → Action → Type 0) (Provides : ℕ → Type 0) (ms : List Message) (t : Totals) → Runs limit addresses Anywhere Does Provides (version ∷ []) ms → t ≡ completed_totals (followed_by (version ∷ []) ms)
-    → verdict_on (plain plans) (version ∷ (ms ++ summary t ∷ [])) ≡ Ok (whole_of (plain plans) (summary t ∷ followed_by (version ∷ []) ms))
-accepted plans limit addresses Does Provides ms t runs totals =
-    let later = followed_by (version ∷ []) ms in
-    let agrees = runs.1.1 in
-    let closed = closed_at_end limit addresses Does Provides runs.1.0 later agrees runs.1.2 in
-    let last : next later (summary t) ≡ Ok (summary t ∷ later) = next_summary t later agrees.amid.0 agrees.amid.1 (not_any_open later (closed _ _)) totals in
-    let all = summary t ∷ later in
-    let none : any_open all ≡ false = not_any_open all (λ a. ap (stands_open _ _) (still_closed t later a) ∙ closed _ _ a) in
-    ap (λ (r : Result (List Message) Fault). r >>= end_of (plain plans)) (joined (version ∷ []) later ms (summary t ∷ []) runs.0 ∙ ap (λ (r : Result (List Message) Fault). r >>= λ all. with_all all []) last)
-    ∙ whole_end plans all none (summed_up t later) refl
-
--- ---- the messages
-
-pub counts_followed_by : (p : Message → Bool) (earlier ms : List Message) → count_by p (followed_by earlier ms) ≡ count_by p earlier + count_by p ms
-counts_followed_by p earlier [] = let none : count_by p [] ≡ 0 = refl in omega arith
-counts_followed_by p earlier (m ∷ ms) =
-    let rest = counts_followed_by p (m ∷ earlier) ms in
-    let here = sum_by-cons (λ x. cond (p x) 1 0) m earlier in
-    let there = sum_by-cons (λ x. cond (p x) 1 0) m ms in
-    omega arith
-
-pub length_followed_by : (earlier ms : List Message) → length (followed_by earlier ms) ≡ length earlier + length ms
-length_followed_by earlier [] = omega arith
-length_followed_by earlier (m ∷ ms) = let rest = length_followed_by (m ∷ earlier) ms in omega arith
+-- ---- some message
 
 or_swapped : (a b c : Bool) → ((b || a) || c) ≡ (a || (b || c))
 or_swapped true true c = refl
@@ -157,3 +156,31 @@ any_followed_by p earlier [] = or_false (list_any p earlier)
     or_false true = refl
     or_false false = refl
 any_followed_by p earlier (m ∷ ms) = any_followed_by p (m ∷ earlier) ms ∙ or_swapped (list_any p earlier) (p m) (list_any p ms)
+
+-- ---- all messages
+
+pub accepted : (takes_plans : Bool) (limit : ℕ) (addresses : ℕ → List ℕ) (Does : ℕ → Action → Type 0) (Provides : ℕ → Type 0) (ms : List Message) (t : Totals) → Runs limit addresses Anywhere Does Provides (version ∷ []) ms → list_any plans_somewhere ms ≡ false → t ≡ completed_totals (followed_by (version ∷ []) ms)
+    → verdict_on (plain takes_plans) (version ∷ (ms ++ summary t ∷ [])) ≡ Ok (whole_of (plain takes_plans) (summary t ∷ followed_by (version ∷ []) ms))
+accepted takes_plans limit addresses Does Provides ms t runs none_plans totals =
+    let later = followed_by (version ∷ []) ms in
+    let agrees = runs.1.1 in
+    let closed = closed_at_end limit addresses Does Provides runs.1.0 later agrees runs.1.2 in
+    let last : next later (summary t) ≡ Ok (summary t ∷ later) = next_summary t later agrees.amid.0 agrees.amid.1 (not_any_open later (closed _ _)) totals in
+    let all = summary t ∷ later in
+    let none : any_open all ≡ false = not_any_open all (λ a. ap (stands_open _ _) (still_closed t later a) ∙ closed _ _ a) in
+    ap (λ (r : Result (List Message) Fault). r >>= end_of (plain takes_plans)) (joined (version ∷ []) later ms (summary t ∷ []) runs.0 ∙ ap (λ (r : Result (List Message) Fault). r >>= λ all. with_all all []) last)
+    ∙ whole_end takes_plans all none (summed_up t later) (leaves_none all (any_followed_by plans_somewhere (version ∷ []) ms ∙ none_plans)) refl
+
+-- ---- the messages
+
+pub counts_followed_by : (p : Message → Bool) (earlier ms : List Message) → count_by p (followed_by earlier ms) ≡ count_by p earlier + count_by p ms
+counts_followed_by p earlier [] = let none : count_by p [] ≡ 0 = refl in omega arith
+counts_followed_by p earlier (m ∷ ms) =
+    let rest = counts_followed_by p (m ∷ earlier) ms in
+    let here = sum_by-cons (λ x. cond (p x) 1 0) m earlier in
+    let there = sum_by-cons (λ x. cond (p x) 1 0) m ms in
+    omega arith
+
+pub length_followed_by : (earlier ms : List Message) → length (followed_by earlier ms) ≡ length earlier + length ms
+length_followed_by earlier [] = omega arith
+length_followed_by earlier (m ∷ ms) = let rest = length_followed_by (m ∷ earlier) ms in omega arith

@@ -12,3 +12,4 @@ pub mod Texts
 pub mod ReadBack
 pub mod ReadBackInForm
 pub mod WholeSteps
+pub mod Unstarted

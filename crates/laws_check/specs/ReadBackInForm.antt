@@ -1,6 +1,6 @@
 -- The messages that a checker reads back from a stream in Terraform's form, and its verdict on the
 -- stream.
-use Rattle.std.specs.Prelude.{◌≡◌, ◌⊎◌, ℕ, List, [], ◌∷◌, ◌++◌, true, false, flat_map, IfSome, IsUtf8, if◌then◌else◌, length, map, slice_get, Option, None, Ok}
+use Rattle.std.specs.Prelude.{◌≡◌, ◌⊎◌, ℕ, List, [], ◌∷◌, ◌++◌, true, false, flat_map, IfSome, IsUtf8, if◌then◌else◌, length, map, slice_get, Option, None, Some, Ok}
 use Rattle.std.specs.List.{enumerate_from}
 use Rattle.std.specs.Option.{option_map_or}
 use Rattle.serde_json.specs.Data.{Data}
@@ -57,7 +57,7 @@ AreReadBackAs (line ∷ lines) messages =
 -- the message of a planned change, by its details; none if nothing is planned
 abbrev pub planned_read_back : ResourceChange → ChangeDetails → List Message
 planned_read_back change details =
-    option_map_or (λ word. planned (intent_named word) ∷ []) (planned_word change.steps details.forgets) []
+    option_map_or (λ word. planned (intent_named word) (Some change.address) ∷ []) (planned_word change.steps details.forgets) []
 
 -- the message of a change with its number, by the details with that number
 abbrev pub planned_read_back_at : List ChangeDetails → ℕ × ResourceChange → List Message

@@ -5,13 +5,14 @@
 //! the checker takes each line for a message. `plans` states whether the checker also takes the
 //! stream of a plan for whole.
 
-ghost use Rattle.std.specs.Prelude.{◌≡◌, ◌≤◌, ℕ, Bool, List, [], Some, length, Ok};
+ghost use Rattle.std.specs.Prelude.{◌≡◌, ◌≤◌, ◌↔◌, ℕ, Bool, List, [], Some, length};
 ghost use Rattle.apply_hooks.specs.Hooks.{max_hooks};
 ghost use Rattle.stream_lines.specs.Cut.{cut_lines};
 ghost use Rattle.stream_check.specs.Lines.{verdict_of};
 ghost use Rattle.apply_events.specs.declared.event.Event.{Event};
 ghost use Rattle.apply_events.specs.Lanes.ToCome.{max_events};
 ghost use Rattle.apply_events.specs.Laws.{AllFit};
+ghost use Rattle.apply_events.specs.Totals.{totals_of};
 ghost use Rattle.apply_text.specs.declared.operation.Operation.{Operation};
 ghost use Rattle.apply_run.specs.declared.form_report.FormReport.{FormReport};
 ghost use Rattle.apply_run.specs.declared.options.Options.{Options};
@@ -26,6 +27,7 @@ ghost use Rattle.laws_check.specs.FormTexts.{HasFormTexts};
 ghost use Rattle.laws_check.specs.Passing.{plain};
 ghost use Rattle.laws_check.specs.Plans.{DeletesDeposed};
 ghost use Rattle.laws_check.specs.ReadBackInForm.{whole_reported_in_form};
+ghost use Rattle.laws_check.specs.Unstarted.{IsJudged, IsLeftOut, NeverStarts};
 ghost use Rattle.laws_check.specs.WholeSteps.{IsOfWholeSteps};
 
 use crate::applied::{a_run_has_few_events, every_event_of_a_run_can_happen};
@@ -38,7 +40,8 @@ use crate::laws::{
 };
 use laws_run::{
     a_time_line_has_few_events, all_but_no_ops_are_planned, each_object_is_named_once,
-    every_event_of_a_time_line_can_happen, relative_addresses_join_their_module,
+    every_event_of_a_time_line_can_happen, lanes_leave_out_what_waits_in_vain,
+    relative_addresses_join_their_module, steps_are_whole,
 };
 
 /// What was read for Terraform's form can be written in it and read back.
@@ -68,7 +71,11 @@ pub fn what_was_read_for_terraforms_form_may_be_applied()
 }
 
 /// `check` accepts the stream in Terraform's form of whole steps of a plan and a script that were
-/// read.
+/// read, but where the stream tells no error and a create of the plan never starts.
+///
+/// Then the fault is `planned`, and `check` finds just these creates. In a run that waits no step
+/// fails to start but one that the script skips, or that waits for such a step, for a failure or for
+/// a halt.
 ///
 /// Each event can happen, and there are few events. The plan only deletes deposed objects, and no
 /// line is longer than 64 MiB. The stream has a line for each message.
@@ -88,7 +95,7 @@ pub fn every_stream_of_whole_steps_in_terraforms_form_is_accepted()
 }
 
 /// `check` accepts the stream in Terraform's form of each run of what was read, by workers and in
-/// lanes. There are at most as many hooks as a registry holds.
+/// lanes, but where it tells no error and a create of the plan never starts. There are at most as many hooks as a registry holds.
 pub fn every_run_in_terraforms_form_is_accepted()
     ensures workers { (plans : Bool) (given : Inputs) (options : Options) (report : FormReport) (before after : SinkState)
         (applied : WasAppliedAsTerraform given options report before after)
@@ -112,7 +119,8 @@ pub fn every_run_in_terraforms_form_is_accepted()
 }
 
 /// `check` accepts what `apply_bytes_in_form` of `apply_run` writes in Terraform's form, and its
-/// verdict agrees with the report.
+/// verdict agrees with the report. Where the report has no error and a create of the plan never
+/// starts, the verdict is the fault `planned` of the last line.
 ///
 /// The verdict has the same totals, an error if and only if the report has one, and the number of
 /// lines. The plan only deletes deposed objects, there are at most as many hooks as a registry
@@ -123,15 +131,17 @@ pub fn every_stream_in_terraforms_form_is_accepted()
         (applied : WasAppliedAsTerraform given options report before after)
         → DeletesDeposed (applied_plan applied.stated) → length given.hooks ≤ max_hooks
         → HasShortLines (stream_in (form_of applied.stated options.start options.operation) applied.streamed.events)
-        → verdict_of (plain plans)
-        (cut_lines (stream_in (form_of applied.stated options.start options.operation) applied.streamed.events))
-        ≡ Ok (whole_reported_in_form report
-        (length (cut_lines (stream_in (form_of applied.stated options.start options.operation) applied.streamed.events)))) }
+        → IsJudged (applied_plan applied.stated) applied.streamed.events
+        (whole_reported_in_form report
+        (length (cut_lines (stream_in (form_of applied.stated options.start options.operation) applied.streamed.events))))
+        (verdict_of (plain plans)
+        (cut_lines (stream_in (form_of applied.stated options.start options.operation) applied.streamed.events))) }
     ensures bytes { (plans : Bool) (given : Inputs) (options : Options) (report : FormReport) (before after : SinkState)
         (bytes : List ℕ) (applied : WasAppliedAsTerraform given options report before after)
         → DeletesDeposed (applied_plan applied.stated) → length given.hooks ≤ max_hooks
         → before.bytes ≡ Some [] → after.bytes ≡ Some bytes → HasShortLines bytes
-        → verdict_of (plain plans) (cut_lines bytes) ≡ Ok (whole_reported_in_form report (length (cut_lines bytes))) }
+        → IsJudged (applied_plan applied.stated) applied.streamed.events (whole_reported_in_form report (length (cut_lines bytes)))
+        (verdict_of (plain plans) (cut_lines bytes)) }
 {
     every_run_in_terraforms_form_is_accepted();
 }
@@ -145,14 +155,32 @@ pub fn every_stream_in_terraforms_form_in_lanes_is_accepted()
         (before after : SinkState) (applied : WasAppliedAsTerraformInLanes given lanes start operation report before after)
         → DeletesDeposed (applied_plan applied.stated) → length given.hooks ≤ max_hooks
         → HasShortLines (stream_in (form_of applied.stated start operation) applied.streamed.events)
-        → verdict_of (plain plans) (cut_lines (stream_in (form_of applied.stated start operation) applied.streamed.events))
-        ≡ Ok (whole_reported_in_form report
-        (length (cut_lines (stream_in (form_of applied.stated start operation) applied.streamed.events)))) }
+        → IsJudged (applied_plan applied.stated) applied.streamed.events
+        (whole_reported_in_form report
+        (length (cut_lines (stream_in (form_of applied.stated start operation) applied.streamed.events))))
+        (verdict_of (plain plans) (cut_lines (stream_in (form_of applied.stated start operation) applied.streamed.events))) }
     ensures bytes { (plans : Bool) (given : Inputs) (lanes start : ℕ) (operation : Operation) (report : FormReport)
         (before after : SinkState) (bytes : List ℕ) (applied : WasAppliedAsTerraformInLanes given lanes start operation report before after)
         → DeletesDeposed (applied_plan applied.stated) → length given.hooks ≤ max_hooks
         → before.bytes ≡ Some [] → after.bytes ≡ Some bytes → HasShortLines bytes
-        → verdict_of (plain plans) (cut_lines bytes) ≡ Ok (whole_reported_in_form report (length (cut_lines bytes))) }
+        → IsJudged (applied_plan applied.stated) applied.streamed.events (whole_reported_in_form report (length (cut_lines bytes)))
+        (verdict_of (plain plans) (cut_lines bytes)) }
 {
     every_run_in_terraforms_form_is_accepted();
+}
+
+/// In a stream that lanes wrote in Terraform's form, and in which no step was halted, a create never
+/// starts if and only if it is skipped or waits in vain.
+///
+/// If no step failed, it waits for a skipped step. So where `check` finds a stream without an error
+/// `planned`, it names just the creates that are skipped or wait for a skipped step.
+pub fn creates_that_never_start_are_skipped_or_wait_in_vain()
+    ensures { (given : Inputs) (lanes start : ℕ) (operation : Operation) (report : FormReport) (before after : SinkState)
+        (applied : WasAppliedAsTerraformInLanes given lanes start operation report before after)
+        → (totals_of (applied_plan applied.stated) applied.streamed.events).halted ≡ 0 → (address : List ℕ)
+        → NeverStarts (applied_plan applied.stated) applied.streamed.events address
+        ↔ IsLeftOut (work_of given applied.stated) applied.streamed.events address }
+{
+    lanes_leave_out_what_waits_in_vain();
+    steps_are_whole();
 }

@@ -17,8 +17,8 @@ ghost use Rattle.apply_model.specs.declared.script.outcome.Outcome.{Outcome};
 ghost use Rattle.apply_model.specs.Plan.ResourceChange.{ResourceChange};
 ghost use Rattle.apply_model.specs.Plan.SavedPlan.{SavedPlan};
 ghost use Rattle.stream_lines.specs.Cut.{cut_lines};
-ghost use Rattle.stream_check.specs.declared.verdict.whole.Whole.{Whole};
-ghost use Rattle.stream_check.specs.Lines.{verdict_of};
+ghost use Rattle.stream_check.specs.Judged.{judged};
+ghost use Rattle.stream_check.specs.Lines.{at_line, end_of, verdict_of};
 ghost use Rattle.stream_check.specs.Message.{Message, summary, version};
 ghost use Rattle.apply_events.specs.declared.counts.Counts.{Counts};
 ghost use Rattle.apply_events.specs.declared.event.Event.{Event};
@@ -33,10 +33,11 @@ ghost use Rattle.apply_text_terraform.specs.Lines.{event_line, note_text, planne
 ghost use Rattle.apply_text_terraform.specs.UtcTimestamp.{precise_timestamp_text};
 ghost use Rattle.apply_writer.specs.Stream.Terraform.{StreamExtras};
 ghost use Rattle.laws_check.specs.Accepted.{totals_of_counts};
+ghost use Rattle.laws_check.specs.AcceptedInForm.{IsTakenInForm};
 ghost use Rattle.laws_check.specs.Applied.{HasShortLines};
 ghost use Rattle.laws_check.specs.Forms.{AreVerbatim, IsParsedAs, IsSameInBothForms, message_in_form, event_diagnostic};
 ghost use Rattle.laws_check.specs.Objects.{object_at};
-ghost use Rattle.laws_check.specs.Passing.{plain, verdict_on, with_all};
+ghost use Rattle.laws_check.specs.Passing.{plain, with_all};
 ghost use Rattle.laws_check.specs.Plans.{ChangesAreWhole, IsOrdinary, ProvisionsCreates, WarnsOfReads};
 ghost use Rattle.laws_check.specs.Texts.{AreSmall, HasChangeTexts, HasOutcomeTexts, IsSmall};
 ghost use Rattle.laws_check.specs.ReadBackInForm.{
@@ -44,12 +45,10 @@ ghost use Rattle.laws_check.specs.ReadBackInForm.{
   HasDetailTexts,
   HasNoteTexts,
   IsReadBackAs,
-  stream_read_back_in_form,
   read_back_in_form,
   planned_read_back,
   read_back_before_end,
   diagnostic_read_back,
-  whole_in_form,
 };
 ghost use Rattle.laws_check.specs.WholeSteps.{IsOfWholeSteps};
 
@@ -117,11 +116,15 @@ pub fn every_line_of_no_event_is_read_back()
 
 /// The checker's verdict on lines is its verdict on their messages.
 ///
-/// Each line is read back as one message, and no line is longer than 64 MiB.
+/// Each line is read back as one message that is accepted, and no line is longer than 64 MiB. `all`:
+/// the messages, the latest first.
 pub fn lines_are_judged_by_their_messages()
-    ensures { (plans : Bool) (lines : List (List ℕ)) (messages : List Message) (whole : Whole) → AreReadBackAs lines messages
-        → HasShortLines (concat lines) → verdict_on (plain plans) messages ≡ Ok whole
-        → verdict_of (plain plans) (cut_lines (concat lines)) ≡ Ok whole }
+    ensures verdict { (plans : Bool) (lines : List (List ℕ)) (messages all : List Message) → AreReadBackAs lines messages
+        → HasShortLines (concat lines) → with_all [] messages ≡ Ok all
+        → verdict_of (plain plans) (cut_lines (concat lines)) ≡ at_line (plain plans) all (length all) (end_of (plain plans) all) }
+    ensures messages { (plans : Bool) (lines : List (List ℕ)) (messages all : List Message) → AreReadBackAs lines messages
+        → HasShortLines (concat lines) → with_all [] messages ≡ Ok all
+        → judged (plain plans) (cut_lines (concat lines)) ≡ all }
 {}
 
 /// In Terraform's form the checker accepts each message of whole steps before the end of the
@@ -142,13 +145,13 @@ pub fn every_message_before_the_end_is_accepted()
 /// In Terraform's form the checker accepts the messages of whole steps to the end of the stream,
 /// with their totals.
 ///
-/// The verdict has an error if and only if a step failed, a step was halted, or a diagnostic of no
+/// The stream is not whole where it tells no error and a create of the plan never starts. The checker
+/// finds just these creates. The verdict has an error if and only if a step failed, a step was halted, or a diagnostic of no
 /// step is an error. The error of a failed delete may name no address. At least as many errors name
 /// no address as steps failed at addresses that no error names. So each failure has an error.
 pub fn whole_steps_are_accepted_in_terraforms_form()
     ensures { (plans : Bool) (work : Work) (extras : StreamExtras) (operation : Operation) (events : List Event)
         → IsOrdinary work.plan → ChangesAreWhole work.plan → length extras.details ≡ length work.plan.changes
         → ProvisionsCreates work.plan work.script → WarnsOfReads work.plan work.script → IsOfWholeSteps work events
-        → verdict_on (plain plans) (stream_read_back_in_form work.plan work.script extras operation events)
-        ≡ Ok (whole_in_form work.plan work.script extras operation events) }
+        → IsTakenInForm plans work.plan work.script extras operation events }
 {}

@@ -19,7 +19,8 @@ pub use applied::{
     what_was_read_is_within_limits,
 };
 pub use applied_in_form::{
-    every_run_in_terraforms_form_is_accepted, every_stream_in_terraforms_form_in_lanes_is_accepted,
+    creates_that_never_start_are_skipped_or_wait_in_vain, every_run_in_terraforms_form_is_accepted,
+    every_stream_in_terraforms_form_in_lanes_is_accepted,
     every_stream_in_terraforms_form_is_accepted,
     every_stream_of_whole_steps_in_terraforms_form_is_accepted,
     what_was_read_for_terraforms_form_can_be_read_back,

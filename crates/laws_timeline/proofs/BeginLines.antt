@@ -6,7 +6,7 @@ use Rattle.std.proofs.lemmas.List.{append-nil, append_assoc, map_push}
 use Rattle.laws_timeline.specs.Messages.{begin_lines, starts_step, is_begin}
 use Rattle.stream_timeline.specs.Messages.{Message, Content, begins, ends, begins_provisioner, ends_provisioner, error, warning, version, plan_summary, summary, other, unusable, message_of}
 use Rattle.stream_timeline.specs.Steps.{StepRead, at_place, begun_step, ended, first_of, is_open_at, is_open_with, last_of, marked_by_error, passes_at, places, places_from, has_open_provisioner, with_provisioner, with_provisioner_ended}
-use Rattle.stream_timeline.specs.TimelineRead.{TimelineRead, is_blank_line, empty_timeline, timeline_of, with_line, with_message_or_passed_over, with_passed_over, with_provisioner_end_at, with_content}
+use Rattle.stream_timeline.specs.TimelineRead.{TimelineRead, counted_line, is_blank_line, empty_timeline, timeline_of, with_line, with_message_or_passed_over, with_passed_over, with_provisioner_end_at, with_content}
 use Rattle.stream_timeline.proofs.Counted.{one_counted}
 
 abbrev lines_of : List StepRead → List ℕ
@@ -77,7 +77,7 @@ line_lines : (line : List ℕ) (t : TimelineRead) → lines_of (with_line line t
 line_lines line t =
     ⊎_elim
     (λ (yes : is_blank_line line ≡ true). rw yes (sym (append-nil (lines_of t.steps))))
-    (λ (no : is_blank_line line ≡ false). rw no (message_lines (message_of line) (record t { lines = t.lines + 1 })))
+    (λ (no : is_blank_line line ≡ false). rw no (message_lines (message_of line) (counted_line line t)))
     (cases_Bool (is_blank_line line))
 
 one_on : (b : Bool) (n : ℕ) (ns : List ℕ) → one_where b n ++ ns ≡ cond b (n ∷ ns) ns

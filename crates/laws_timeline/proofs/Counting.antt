@@ -310,7 +310,7 @@ agrees_more ms (check.step a k stage) time content t is order h =
     (λ (no : is_change k ≡ false). silent ms _ t.steps _ (step_nothing a k stage no) (harmless_preserves time content t (other_harmless a k stage content no is)) h)
     (cases_Bool (is_change k))
 agrees_more ms (check.provision a stage) time content t is order h = silent ms _ t.steps _ (nothing (check.provision a stage) (λ b k. refl) (λ b k. refl) (λ k. refl)) (harmless_preserves time content t is) h
-agrees_more ms (check.planned intent) time content t is order h = silent ms _ t.steps _ (nothing (check.planned intent) (λ b k. refl) (λ b k. refl) (λ k. refl)) (harmless_preserves time content t is) h
+agrees_more ms (check.planned intent address) time content t is order h = silent ms _ t.steps _ (nothing (check.planned intent address) (λ b k. refl) (λ b k. refl) (λ k. refl)) (harmless_preserves time content t is) h
 agrees_more ms (check.plan_summary totals) time content t is order h = silent ms _ t.steps _ (nothing (check.plan_summary totals) (λ b k. refl) (λ b k. refl) (λ k. refl)) (harmless_preserves time content t is) h
 agrees_more ms (check.summary totals) time content t is order h = silent ms _ t.steps _ (nothing (check.summary totals) (λ b k. refl) (λ b k. refl) (λ k. refl)) (harmless_preserves time content t is) h
 agrees_more ms (check.diagnostic b a) time content t is order h = silent ms _ t.steps _ (nothing (check.diagnostic b a) (λ c k. refl) (λ c k. refl) (λ k. refl)) (harmless_preserves time content t is) h

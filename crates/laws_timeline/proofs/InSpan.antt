@@ -13,7 +13,7 @@ use Rattle.stream_timeline.specs.TimeRange.{with_time}
 use Rattle.stream_timeline.specs.Numbers.{busy_in}
 use Rattle.stream_timeline.specs.Steps.{StepRead, at_place, begun_step, ended, first_of, is_open_at, is_open_with, last_of, marked_by_error, passes_at, places, has_open_provisioner, with_provisioner, with_provisioner_ended}
 use Rattle.stream_timeline.specs.Stretches.{stretches_of}
-use Rattle.stream_timeline.specs.TimelineRead.{TimelineRead, is_blank_line, empty_timeline, timeline_of, with_line, with_message_or_passed_over, with_passed_over, with_provisioner_end_at, with_content}
+use Rattle.stream_timeline.specs.TimelineRead.{TimelineRead, counted_line, is_blank_line, empty_timeline, timeline_of, with_line, with_message_or_passed_over, with_passed_over, with_provisioner_end_at, with_content}
 use Rattle.stream_timeline.proofs.Bounds.{EndsBy, busy_le_lengths, gap_rises, intervals_ordered, lengths_within}
 
 -- it begins and ends between these
@@ -130,7 +130,7 @@ line_spans : (line : List ℕ) (t : TimelineRead) → Spans t.time_range t.steps
 line_spans line t h =
     ⊎_elim
     (λ (yes : is_blank_line line ≡ true). rw yes h)
-    (λ (no : is_blank_line line ≡ false). rw no (message_spans (message_of line) (record t { lines = t.lines + 1 }) h))
+    (λ (no : is_blank_line line ≡ false). rw no (message_spans (message_of line) (counted_line line t) h))
     (cases_Bool (is_blank_line line))
 
 all_spans : (lines : List (List ℕ)) (t : TimelineRead) → Spans t.time_range t.steps → (let u : TimelineRead = fold (λ t line. with_line line t) t lines in Spans u.time_range u.steps)

@@ -11,7 +11,7 @@ use Rattle.std.proofs.lemmas.Slice.Eq.{bytes_eq-Decides}
 use Rattle.laws_timeline.specs.Messages.{IsOfItsLines, message_at, message_in, says}
 use Rattle.stream_timeline.specs.Messages.{Message, Content, begins, ends, begins_provisioner, ends_provisioner, error, warning, version, plan_summary, summary, other, unusable, message_of}
 use Rattle.stream_timeline.specs.Steps.{StepRead, at_place, begun_step, ended, first_of, is_open_at, is_open_with, last_of, marked_by_error, passes_at, places, has_open_provisioner, with_provisioner, with_provisioner_ended}
-use Rattle.stream_timeline.specs.TimelineRead.{TimelineRead, is_blank_line, timeline_of, with_line, with_message_or_passed_over, with_passed_over, with_provisioner_end_at, with_content}
+use Rattle.stream_timeline.specs.TimelineRead.{TimelineRead, counted_line, is_blank_line, timeline_of, with_line, with_message_or_passed_over, with_passed_over, with_provisioner_end_at, with_content}
 use Rattle.stream_timeline.proofs.Counted.{lines_read, read_more}
 use Rattle.stream_timeline.proofs.Holding.{first_passes}
 
@@ -143,7 +143,7 @@ line_known lines n line t is count h =
     (λ (yes : is_blank_line line ≡ true). rw yes (later lines n t.steps h))
     (λ (no : is_blank_line line ≡ false).
     let timeline : message_at lines (n + 1) ≡ message_of line = rw no at is in
-    rw no (message_known lines n (message_of line) (record t { lines = t.lines + 1 }) timeline (omega (arith, count)) h))
+    rw no (message_known lines n (message_of line) (counted_line line t) timeline (omega (arith, count)) h))
     (cases_Bool (is_blank_line line))
 
 all_known : (lines : List (List ℕ)) (n : ℕ) → n ≤ length lines → AllKnown lines n (timeline_of (take n lines)).steps

@@ -16,7 +16,7 @@ use Rattle.stream_check.specs.declared.messages.totals.Totals.{Totals}
 use Rattle.stream_check.specs.Members.{count_at, object_at, text_at}
 use Rattle.stream_check.specs.Message as check
 use Rattle.stream_check.specs.Words.{action_named, action_word}
-use Rattle.stream_message.specs.Members.{address_of, hook_text, text_or_empty}
+use Rattle.stream_message.specs.Members.{address_of, hook_text, resource_address, text_or_empty}
 use Rattle.stream_timeline.specs.Messages as view
 use Rattle.laws_timeline.proofs.Looking.{Subject, bind_ok, hook_address_located, same_ok, subject_located}
 
@@ -89,7 +89,7 @@ abbrev pub Matches : check.Message → view.Content → Type 0
 Matches check.version content = Harmless content
 Matches (check.step a k stage) content = StepMatches a k stage content
 Matches (check.provision a stage) content = Harmless content
-Matches (check.planned intent) content = Harmless content
+Matches (check.planned intent address) content = Harmless content
 Matches (check.plan_summary totals) content = Harmless content
 Matches (check.summary totals) content = Harmless content
 Matches (check.diagnostic b a) content = Harmless content
@@ -190,7 +190,7 @@ unfolding check.planned_of
 planned_plain d m e =
     let b1 = bind_ok (object_at path.ChangeAction (codes "change") path.Change d) _ m e in
     let b2 = bind_ok (text_at path.ChangeAction (codes "action") b1.0) _ m b1.2 in
-    subst IsPlain (same_ok (check.planned (check.intent_named b2.0)) m b2.2) (λ content h. h)
+    subst IsPlain (same_ok (check.planned (check.intent_named b2.0) (resource_address b1.0)) m b2.2) (λ content h. h)
 
 named_plain : (a b : Bool) (t : Totals) → IsPlain (cond a (check.summary t) (cond b (check.plan_summary t) check.other))
 named_plain true b t = λ content h. h

@@ -25,6 +25,7 @@ use Rattle.laws_validate.specs.IgnoredMembers.{IsRead, IsIgnored}
 use Rattle.laws_validate.proofs.ViolationPlaces.{leads}
 use Rattle.laws_validate.proofs.Placing.{AreRight, Right, both}
 use Rattle.laws_validate.proofs.PlansPlaced.{plan_right}
+use Rattle.laws_validate.proofs.PlansRefuse.{plan_refuses}
 use Rattle.laws_validate.proofs.ScriptsPlaced.{script_right}
 
 -- ---- along a path
@@ -102,20 +103,11 @@ plan_placed bytes =
     reported_placed Nothing (tree_of bytes) (plan_findings bytes)
     (bytes_reported Nothing in_plan (nat_lt max_bytes (length bytes)) (tree_of bytes) (plan_right Nothing))
 
-unwarned : (problem : Problem) (d : Data) (path : List Segment) → Right Nothing problem d path → is_refusal (record { path = path; problem = problem }) ≡ true
-unfolding Nothing
-unwarned NotRead d path h = absurd h.reads
-unwarned problem d path h = refl
-
-each_unwarned : (d : Data) (all : List Finding) → AreRight Nothing d all → AllByRecursion (λ (finding : Finding). is_refusal finding ≡ true) all
-each_unwarned d [] h = tt
-each_unwarned d (x ∷ xs) h = (unwarned x.problem d x.path h.0, each_unwarned d xs h.1)
-
 bytes_unwarned : (large : Bool) (o : Option Data)
     → AllByRecursion (λ (finding : Finding). is_refusal finding ≡ true) (if large then finding_here TooManyBytes ∷ [] else option_map_or in_plan o (finding_here NotJson ∷ []))
 bytes_unwarned true o = (refl, tt)
 bytes_unwarned false None = (refl, tt)
-bytes_unwarned false (Some d) = each_unwarned d (in_plan d) (plan_right Nothing d)
+bytes_unwarned false (Some d) = plan_refuses d
 
 -- no finding of a plan is a warning
 pub plan_unwarned : (bytes : List ℕ) → All (λ (finding : Finding). is_refusal finding ≡ true) (plan_findings bytes)

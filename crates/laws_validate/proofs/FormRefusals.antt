@@ -42,7 +42,7 @@ use Rattle.input_validate.specs.declared.findings.expected.Expected.TheVariants 
 use Rattle.input_validate.specs.declared.form.Form.TheVariants.{Terraform}
 use Rattle.input_validate.specs.Extras.{extras_findings, in_extras, in_note, in_plan_output, in_plan_outputs, members_from, outputs_unless}
 use Rattle.input_validate.specs.Findings.{finding_at, is_refusal, under}
-use Rattle.input_validate.specs.InForm.{findings_in}
+use Rattle.input_validate.specs.InForm.{doubts_unless, findings_before_doubts, findings_in, is_refused}
 use Rattle.laws_validate.specs.Laws.{goes_to, has_refusal, has_refusal_to}
 use Rattle.input_validate.specs.Rules.{in_items, items_from, mismatch}
 use Rattle.input_validate.specs.Expectations.{is_met}
@@ -274,7 +274,8 @@ pub refusal_in_form : (lanes : Bool) (plan bytes : List ℕ) (saved : SavedPlan)
     → details_of plan ≡ Some details → extras_of_bytes details.outputs bytes ≡ Err refusal → has_refusal_to refusal (findings_in Terraform lanes plan (Some bytes)) ≡ true
 refusal_in_form lanes plan bytes saved script details refusal planned accepted reported e =
     let fine : has_refusal (plan_findings plan) ≡ false = refusals_of_plan plan ∙ ap (λ (r : Result SavedPlan PlanError). is_err r) planned in
-    any_right (is_to refusal) (given_findings lanes (plan_of plan) (Some bytes)) (extras_findings (outputs_unless (has_refusal (plan_findings plan)) plan) bytes)
+    any_left (is_to refusal) (findings_before_doubts Terraform lanes plan (Some bytes)) (doubts_unless (is_refused Terraform lanes plan (Some bytes)) Terraform lanes plan (Some bytes))
+    (any_right (is_to refusal) (given_findings lanes (plan_of plan) (Some bytes)) (extras_findings (outputs_unless (has_refusal (plan_findings plan)) plan) bytes)
     (ap (λ (b : Bool). has_refusal_to refusal (extras_findings (outputs_unless b plan) bytes)) fine
     ∙ ap (λ (o : Option DetailsOfPlan). has_refusal_to refusal (extras_findings (option_map (λ it. it.outputs) o) bytes)) reported
-    ∙ (in_bytes saved details.outputs bytes refusal (ap (λ (r : Result OutcomeMap ScriptError). is_ok r) accepted) e))
+    ∙ (in_bytes saved details.outputs bytes refusal (ap (λ (r : Result OutcomeMap ScriptError). is_ok r) accepted) e)))

@@ -1,8 +1,9 @@
 -- In Terraform's form too, there is an error if and only if a run refuses.
-use Rattle.std.proofs.Common.{◌≡◌, ◌≤◌, ℕ, List, [], length, Bool, true, false, cond, not, ◌||◌, if◌then◌else◌, is_err, is_ok, is_some, Option, Some, None, Result, Ok, Err, refl, sym, ap, subst, ◌∙◌}
+use Rattle.std.proofs.Common.{◌≡◌, ◌≤◌, ℕ, List, [], ◌++◌, length, Bool, true, false, cond, not, ◌||◌, if◌then◌else◌, is_err, is_ok, is_some, Option, Some, None, Result, Ok, Err, refl, sym, ap, subst, ◌∙◌}
 use Rattle.std.specs.Prelude.{nat_lt, option_map}
 use Rattle.std.specs.Option.{option_map_or}
 use Rattle.std.specs.Str.{is_utf8}
+use Rattle.std.proofs.lemmas.List.{append-nil}
 use Rattle.std.proofs.lemmas.List.Folds.{list_any-append}
 use Rattle.json.specs.Json as json
 use Rattle.json.specs.Json.{Json}
@@ -30,12 +31,14 @@ use Rattle.apply_plan_terraform.specs.ReadDetails.{DetailsOfPlan, details_of}
 use Rattle.input_validate.specs.declared.findings.finding.Finding.{Finding}
 use Rattle.input_validate.specs.declared.form.Form.{Form}
 use Rattle.input_validate.specs.declared.form.Form.TheVariants.{Applystream, Terraform}
+use Rattle.input_validate.specs.Doubts.{doubts}
 use Rattle.input_validate.specs.Extras.{extras_findings, in_extras, outputs_unless}
 use Rattle.input_validate.specs.Findings.{is_refusal}
-use Rattle.input_validate.specs.InForm.{extras_for, findings_in}
+use Rattle.input_validate.specs.InForm.{doubts_unless, extras_for, findings_before_doubts, findings_in, is_refused}
 use Rattle.laws_validate.specs.Laws.{has_refusal, refuses_extras, refuses_given, refuses_read, run_refuses, run_refuses_in}
 use Rattle.input_validate.specs.Whole.{given_findings, plan_findings}
 use Rattle.laws_validate.proofs.Alike.{both_trees, has_numbers, last_is}
+use Rattle.laws_validate.proofs.DoubtsWarn.{doubts_refuse_nothing}
 use Rattle.laws_validate.proofs.ExtrasRead.{clean_extras}
 use Rattle.laws_validate.proofs.VerbatimTrees.{behind}
 use Rattle.input_validate.proofs.Options.{not_not}
@@ -163,11 +166,41 @@ in_form Applystream lanes plan script = refl
 in_form Terraform lanes plan None = refl
 in_form Terraform lanes plan (Some bytes) = either (run_refuses lanes plan (Some bytes)) _ _ (with_extras lanes plan bytes)
 
-pub refusals_in_form : (form : Form) (lanes : Bool) (plan : List ℕ) (script : Option (List ℕ))
-    → (has_refusal (plan_findings plan) || has_refusal (findings_in form lanes plan script)) ≡ run_refuses_in form lanes plan script
-refusals_in_form form lanes plan script =
+or_false : (b : Bool) → (b || false) ≡ b
+or_false true = refl
+or_false false = refl
+
+-- doubts refuse nothing
+before_doubts : (form : Form) (lanes : Bool) (plan : List ℕ) (script : Option (List ℕ)) → has_refusal (findings_in form lanes plan script) ≡ has_refusal (findings_before_doubts form lanes plan script)
+before_doubts form lanes plan script =
+    let before : List Finding = findings_before_doubts form lanes plan script in
+    list_any-append is_refusal before (doubts_unless (is_refused form lanes plan script) form lanes plan script)
+    ∙ ap (λ (b : Bool). has_refusal before || b) (doubts_refuse_nothing (is_refused form lanes plan script) form lanes plan script)
+    ∙ or_false (has_refusal before)
+
+-- a run refuses for one of the findings before the doubts
+refused_by_run : (form : Form) (lanes : Bool) (plan : List ℕ) (script : Option (List ℕ)) → is_refused form lanes plan script ≡ run_refuses_in form lanes plan script
+refused_by_run form lanes plan script =
     let extras : List Finding = extras_for form (has_refusal (plan_findings plan)) plan script in
     ap (λ (b : Bool). has_refusal (plan_findings plan) || b) (list_any-append is_refusal (given_findings lanes (plan_of plan) script) extras)
     ∙ or_assoc (has_refusal (plan_findings plan)) (has_refusal (given_findings lanes (plan_of plan) script)) (has_refusal extras)
     ∙ ap (λ (b : Bool). b || has_refusal extras) (refusals_of_run lanes plan script)
     ∙ in_form form lanes plan script
+
+pub refusals_in_form : (form : Form) (lanes : Bool) (plan : List ℕ) (script : Option (List ℕ))
+    → (has_refusal (plan_findings plan) || has_refusal (findings_in form lanes plan script)) ≡ run_refuses_in form lanes plan script
+refusals_in_form form lanes plan script =
+    ap (λ (b : Bool). has_refusal (plan_findings plan) || b) (before_doubts form lanes plan script) ∙ refused_by_run form lanes plan script
+
+-- where a run refuses, there are no doubts
+pub none_where_refused : (form : Form) (lanes : Bool) (plan : List ℕ) (script : Option (List ℕ)) → run_refuses_in form lanes plan script ≡ true
+    → findings_in form lanes plan script ≡ findings_before_doubts form lanes plan script
+none_where_refused form lanes plan script refuses =
+    let before : List Finding = findings_before_doubts form lanes plan script in
+    ap (λ (refused : Bool). before ++ doubts_unless refused form lanes plan script) (refused_by_run form lanes plan script ∙ refuses) ∙ append-nil before
+
+pub all_where_accepted : (form : Form) (lanes : Bool) (plan : List ℕ) (script : Option (List ℕ)) → run_refuses_in form lanes plan script ≡ false
+    → findings_in form lanes plan script ≡ findings_before_doubts form lanes plan script ++ doubts form lanes plan script
+all_where_accepted form lanes plan script accepts =
+    let before : List Finding = findings_before_doubts form lanes plan script in
+    ap (λ (refused : Bool). before ++ doubts_unless refused form lanes plan script) (refused_by_run form lanes plan script ∙ accepts)

@@ -1,9 +1,12 @@
 pub mod Alike
+pub mod AllRefuse
 pub mod CleanAgainstPlan
 pub mod BytesPlaced
 pub mod Clean
 pub mod CleanSteps
 pub mod Diagnostics
+pub mod DoubtsPlaced
+pub mod DoubtsWarn
 pub mod EachCounts
 pub mod ElementRefusals
 pub mod Elements
@@ -27,6 +30,7 @@ pub mod Placing
 pub mod PlanRefusals
 pub mod Plans
 pub mod PlansPlaced
+pub mod PlansRefuse
 pub mod Provisioners
 pub mod ReadAlone
 pub mod Refusals

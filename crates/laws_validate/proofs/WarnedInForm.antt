@@ -22,13 +22,14 @@ use Rattle.input_validate.specs.declared.form.Form.{Form}
 use Rattle.input_validate.specs.declared.form.Form.TheVariants.{Applystream, Terraform}
 use Rattle.input_validate.specs.Extras.{extras_findings, in_extras, note_names, outputs_unless, plan_output_names}
 use Rattle.input_validate.specs.Findings.{is_refusal}
-use Rattle.input_validate.specs.InForm.{extras_for, findings_in}
+use Rattle.input_validate.specs.InForm.{doubts_unless, extras_for, findings_before_doubts, findings_in, is_refused}
 use Rattle.input_validate.specs.Rules.{is_known, texts_in}
 use Rattle.input_validate.specs.Whole.{given_findings, plan_findings}
 use Rattle.laws_validate.specs.Paths.{ArePlaced, value_at}
 use Rattle.laws_validate.specs.IgnoredMembers.{IsRead, IsIgnored, warning_at}
 use Rattle.laws_validate.specs.IgnoredInForm.{IsReadIn, always, note, plan_output}
 use Rattle.laws_validate.proofs.BytesPlaced.{AreReported, both_reported, none_reported, reported_placed}
+use Rattle.laws_validate.proofs.DoubtsPlaced.{doubts_reported}
 use Rattle.laws_validate.proofs.ExtrasPlaced.{extras_reported}
 use Rattle.laws_validate.proofs.ExtrasWarn.{notes_warn, outputs_warn}
 use Rattle.laws_validate.proofs.Placing.{AreRight, IsRight, Right}
@@ -66,12 +67,18 @@ form_extras_reported : (form : Form) (refused : Bool) (plan script : List ℕ) �
 form_extras_reported Applystream refused plan script = none_reported (IsReadIn Applystream) (tree_of script)
 form_extras_reported Terraform refused plan script = extras_reported (IsReadIn Terraform) plan_output note (outputs_unless refused plan) script
 
-findings_reported : (form : Form) (lanes : Bool) (plan script : List ℕ) → AreReported (IsReadIn form) (tree_of script) (findings_in form lanes plan (Some script))
-findings_reported form lanes plan script =
+before_reported : (form : Form) (lanes : Bool) (plan script : List ℕ) → AreReported (IsReadIn form) (tree_of script) (findings_before_doubts form lanes plan (Some script))
+before_reported form lanes plan script =
     let refused : Bool = list_any is_refusal (plan_findings plan) in
     both_reported (IsReadIn form) (tree_of script) (given_findings lanes (plan_of plan) (Some script)) (extras_for form refused plan (Some script))
     (reported_more form (tree_of script) (given_findings lanes (plan_of plan) (Some script)) (given_reported lanes (plan_of plan) script))
     (form_extras_reported form refused plan script)
+
+findings_reported : (form : Form) (lanes : Bool) (plan script : List ℕ) → AreReported (IsReadIn form) (tree_of script) (findings_in form lanes plan (Some script))
+findings_reported form lanes plan script =
+    let refused : Bool = is_refused form lanes plan (Some script) in
+    both_reported (IsReadIn form) (tree_of script) (findings_before_doubts form lanes plan (Some script)) (doubts_unless refused form lanes plan (Some script))
+    (before_reported form lanes plan script) (doubts_reported (IsReadIn form) refused form lanes plan script)
 
 pub placed_in_form : (form : Form) (lanes : Bool) (plan script : List ℕ) → ArePlaced (tree_of script) (findings_in form lanes plan (Some script))
 placed_in_form form lanes plan script = reported_placed (IsReadIn form) (tree_of script) (findings_in form lanes plan (Some script)) (findings_reported form lanes plan script)
@@ -87,20 +94,26 @@ in_extras_findings : (front : List Segment) (names : List Name) (plan : Option O
 in_extras_findings front names plan script tree small is h value n text at has unknown =
     extras_in_tree (nat_lt max_bytes (length script)) (tree_of script) tree (in_extras plan) (warning_at (front ++ Other n ∷ [])) small is (h value n text at has unknown)
 
-findings_warn : {form : Form} {front : List Segment} {names : List Name} → IsReadIn form front names → (lanes : Bool) (plan script : List ℕ) (tree : Data)
-    → nat_lt max_bytes (length script) ≡ false → tree_of script ≡ Some tree → Warns front names tree (findings_in form lanes plan (Some script))
-findings_warn {form} {front} {names} (always reads) lanes plan script tree small is value n text at has unknown =
+before_warn : {form : Form} {front : List Segment} {names : List Name} → IsReadIn form front names → (lanes : Bool) (plan script : List ℕ) (tree : Data)
+    → nat_lt max_bytes (length script) ≡ false → tree_of script ≡ Some tree → Warns front names tree (findings_before_doubts form lanes plan (Some script))
+before_warn {form} {front} {names} (always reads) lanes plan script tree small is value n text at has unknown =
     has_left (warning_at (front ++ Other n ∷ [])) (given_findings lanes (plan_of plan) (Some script)) (extras_for form (list_any is_refusal (plan_findings plan)) plan (Some script))
     (in_given lanes (plan_of plan) script tree (front ++ Other n ∷ []) small is
     (record { front = front; number = n; names = names; value = value; text = text; reads = reads; path_is = refl; value_is = at; text_is = has; unknown = unknown }))
-findings_warn (plan_output k) lanes plan script tree small is value n text at has unknown =
+before_warn (plan_output k) lanes plan script tree small is value n text at has unknown =
     let outputs : Option OutputsOfPlan = outputs_unless (list_any is_refusal (plan_findings plan)) plan in
     has_right (warning_at (Member name.Outputs ∷ Other k ∷ Other n ∷ [])) (given_findings lanes (plan_of plan) (Some script)) (extras_findings outputs script)
     (in_extras_findings (Member name.Outputs ∷ Other k ∷ []) plan_output_names outputs script tree small is (outputs_warn outputs tree k) value n text at has unknown)
-findings_warn (note k) lanes plan script tree small is value n text at has unknown =
+before_warn (note k) lanes plan script tree small is value n text at has unknown =
     let outputs : Option OutputsOfPlan = outputs_unless (list_any is_refusal (plan_findings plan)) plan in
     has_right (warning_at (Member name.Diagnostics ∷ Item k ∷ Other n ∷ [])) (given_findings lanes (plan_of plan) (Some script)) (extras_findings outputs script)
     (in_extras_findings (Member name.Diagnostics ∷ Item k ∷ []) note_names outputs script tree small is (notes_warn outputs tree k) value n text at has unknown)
+
+findings_warn : {form : Form} {front : List Segment} {names : List Name} → IsReadIn form front names → (lanes : Bool) (plan script : List ℕ) (tree : Data)
+    → nat_lt max_bytes (length script) ≡ false → tree_of script ≡ Some tree → Warns front names tree (findings_in form lanes plan (Some script))
+findings_warn {form} {front} {names} reads lanes plan script tree small is value n text at has unknown =
+    has_left (warning_at (front ++ Other n ∷ [])) (findings_before_doubts form lanes plan (Some script)) (doubts_unless (is_refused form lanes plan (Some script)) form lanes plan (Some script))
+    (before_warn {form = form} {front = front} {names = names} reads lanes plan script tree small is value n text at has unknown)
 
 ignored_reported : (form : Form) (lanes : Bool) (plan script : List ℕ) (tree : Data) (path : List Segment) → nat_lt max_bytes (length script) ≡ false → tree_of script ≡ Some tree → IsIgnored (IsReadIn form) tree path
     → Contains (findings_in form lanes plan (Some script)) (warning_at path)

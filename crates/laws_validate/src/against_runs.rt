@@ -12,7 +12,8 @@ ghost use Rattle.apply_plan_terraform.specs.Extras.{extras_of_bytes};
 ghost use Rattle.apply_plan_terraform.specs.ReadDetails.{DetailsOfPlan, details_of};
 ghost use Rattle.input_validate.specs.declared.form.Form.{Form};
 ghost use Rattle.input_validate.specs.declared.form.Form.TheVariants.{Terraform};
-ghost use Rattle.input_validate.specs.InForm.{findings_in};
+ghost use Rattle.input_validate.specs.Doubts.{doubts};
+ghost use Rattle.input_validate.specs.InForm.{findings_before_doubts, findings_in};
 ghost use Rattle.laws_validate.specs.Laws.{are_script, has_refusal, has_refusal_in, has_refusal_of, has_refusal_to, has_script_refusal, run_refuses, run_refuses_in};
 ghost use Rattle.input_validate.specs.Whole.{after_first, entry_of_refusal, given_findings, plan_findings, refused_for, script_findings, stuck_entries, waits_without_lanes};
 
@@ -40,6 +41,16 @@ pub fn findings_are_refusals_of_a_run()
 pub fn findings_are_refusals_of_a_run_in_its_form()
     ensures { (form : Form) (lanes : Bool) (plan : List ℕ) (script : Option (List ℕ))
         → (has_refusal (plan_findings plan) || has_refusal (findings_in form lanes plan script)) ≡ run_refuses_in form lanes plan script }
+{}
+
+/// Doubts follow all other findings of a script. There are none if a run in this form refuses the
+/// plan or the script.
+pub fn doubts_are_of_accepted_scripts()
+    ensures refused { (form : Form) (lanes : Bool) (plan : List ℕ) (script : Option (List ℕ))
+        → run_refuses_in form lanes plan script ≡ true → findings_in form lanes plan script ≡ findings_before_doubts form lanes plan script }
+    ensures accepted { (form : Form) (lanes : Bool) (plan : List ℕ) (script : Option (List ℕ))
+        → run_refuses_in form lanes plan script ≡ false → findings_in form lanes plan script
+        ≡ findings_before_doubts form lanes plan script ++ doubts form lanes plan script }
 {}
 
 /// If a run refuses a script for a plan, an error is reported in the entry that the refusal names.

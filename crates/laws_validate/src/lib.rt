@@ -33,11 +33,12 @@ ghost use Rattle.laws_validate.specs.IgnoredInForm.{IsReadIn};
 mod against_runs;
 
 pub use against_runs::{
-    each_entry_that_never_begins_is_reported, findings_are_refusals_of_a_run,
-    findings_are_refusals_of_a_run_in_its_form, findings_of_plans_are_refusals,
-    findings_of_scripts_are_refusals, the_refusal_of_a_plan_is_reported,
-    the_refusal_of_a_run_in_terraforms_form_is_reported, the_refusal_of_a_run_is_reported,
-    the_refusal_of_a_run_is_reported_in_its_entry, the_refusal_of_a_script_is_reported,
+    doubts_are_of_accepted_scripts, each_entry_that_never_begins_is_reported,
+    findings_are_refusals_of_a_run, findings_are_refusals_of_a_run_in_its_form,
+    findings_of_plans_are_refusals, findings_of_scripts_are_refusals,
+    the_refusal_of_a_plan_is_reported, the_refusal_of_a_run_in_terraforms_form_is_reported,
+    the_refusal_of_a_run_is_reported, the_refusal_of_a_run_is_reported_in_its_entry,
+    the_refusal_of_a_script_is_reported,
 };
 
 /// The path of each finding of a plan leads to a value of its tree. If a member is missing, the
@@ -54,9 +55,9 @@ pub fn findings_in_scripts_are_placed()
         → ArePlaced (tree_of script) (given_findings lanes plan (Some script)) }
 {}
 
-/// A warning is reported for a member of a script if and only if no run reads that member
-/// (`exactly`). So each member of an object that a run reads has a warning, unless the run knows
-/// its name (`each`). The script has to be no larger than a run reads.
+/// The warning that a member is not read is reported for a member of a script if and only if no run
+/// reads that member (`exactly`). So each member of an object that a run reads has this warning,
+/// unless the run knows its name (`each`). The script has to be no larger than a run reads.
 pub fn warnings_report_what_no_run_reads()
     ensures exactly { (lanes : Bool) (plan : Result SavedPlan PlanError) (script : List ℕ) (tree : Data) (path : List Segment)
         → nat_lt max_bytes (length script) ≡ false → tree_of script ≡ Some tree
@@ -74,8 +75,8 @@ pub fn findings_in_scripts_are_placed_in_each_form()
         → ArePlaced (tree_of script) (findings_in form lanes plan (Some script)) }
 {}
 
-/// The law of warnings holds in either form. A run in Terraform's form also reads the members of
-/// `outputs` and of `diagnostics` at the top of a script.
+/// The law of these warnings holds in either form. A run in Terraform's form also reads the members
+/// of `outputs` and of `diagnostics` at the top of a script.
 pub fn warnings_report_what_no_run_in_a_form_reads()
     ensures exactly { (form : Form) (lanes : Bool) (plan script : List ℕ) (tree : Data) (path : List Segment)
         → nat_lt max_bytes (length script) ≡ false → tree_of script ≡ Some tree
@@ -87,10 +88,11 @@ pub fn warnings_report_what_no_run_in_a_form_reads()
         → Contains (findings_in form lanes plan (Some script)) (warning_at (front ++ Other n ∷ [])) ↔ (is_known names text ≡ false) }
 {}
 
-/// What `validate` warns of does not matter to a run, and every other member does.
+/// A member that `validate` reports as not read does not matter to a run, and every other member
+/// does.
 ///
-/// A run reads the same from a script without the members that have a warning (`same`), and what is
-/// left has no warning (`none`). Each other member counts: there are an object and a value with
+/// A run reads the same from a script without these members (`same`), and what is left has none of
+/// them (`none`). Each other member counts: there are an object and a value with
 /// which the run reads another thing than without (`each`). In Terraform's form a run keeps exactly
 /// the known members of an output and of a diagnostic (`outputs`, `diagnostics`).
 pub fn what_is_warned_of_is_what_no_run_reads()

@@ -3,12 +3,12 @@ use Rattle.std.proofs.Common.{◌≡◌, ℕ, ◌+◌, List, [], ◌∷◌, leng
 use Rattle.std.specs.Prelude.{◌&&◌, ◌||◌}
 use Rattle.std.specs.List.{list_any}
 use Rattle.stream_check.specs.declared.rules.fault.Fault.{Fault}
-use Rattle.stream_check.specs.declared.rules.fault.Fault.TheVariants.{Unended}
+use Rattle.stream_check.specs.declared.rules.fault.Fault.TheVariants.{Planned, Unended}
 use Rattle.stream_check.specs.declared.rules.mode.Mode.{Mode}
 use Rattle.stream_check.specs.declared.verdict.finding.Finding.{Finding}
 use Rattle.stream_check.specs.declared.verdict.whole.Whole.{Whole}
 use Rattle.stream_check.specs.Laws.{IsWhole, StateMessages}
-use Rattle.stream_check.specs.Lines.{at_line, end_of, is_plan_stream, line_message, next, no_end_of, read_line, verdict_after, verdict_of, whole_of, whole_plan_of}
+use Rattle.stream_check.specs.Lines.{apply_end, at_line, end_of, is_plan_stream, leaves_planned, line_message, next, no_end_of, read_line, verdict_after, verdict_of, whole_of, whole_plan_of}
 use Rattle.stream_check.specs.Message.{Message}
 use Rattle.stream_check.specs.Open.{any_open}
 use Rattle.stream_check.specs.Tally.{completed_totals, is_error, is_summary, planned_totals}
@@ -46,6 +46,7 @@ record Ends (mode : Mode) (ms : List Message) (t : Whole) : Type 0 where
   pub closed : any_open ms ≡ false
   pub plan : t.is_plan ≡ true → (t.totals ≡ planned_totals ms) × (mode.plan ≡ true)
   pub apply : t.is_plan ≡ false → (t.totals ≡ completed_totals ms) × ((list_any is_summary ms || list_any is_error ms) ≡ true)
+  pub begun : t.is_plan ≡ false → leaves_planned ms ≡ false
   pub errors : t.has_errors ≡ list_any is_error ms
 
 and_left : (a b : Bool) → (a && b) ≡ true → a ≡ true
@@ -57,14 +58,16 @@ as_plan mode ms t closed asked is = subst (Ends mode ms) is (record {
   closed = closed;
   plan = λ yes. (refl, asked);
   apply = λ no. absurd cc;
+  begun = λ no. absurd cc;
   errors = refl;
 })
 
-as_apply : (mode : Mode) (ms : List Message) (t : Whole) → any_open ms ≡ false → (list_any is_summary ms || list_any is_error ms) ≡ true → whole_of mode ms ≡ t → Ends mode ms t
-as_apply mode ms t closed last is = subst (Ends mode ms) is (record {
+as_apply : (mode : Mode) (ms : List Message) (t : Whole) → any_open ms ≡ false → leaves_planned ms ≡ false → (list_any is_summary ms || list_any is_error ms) ≡ true → whole_of mode ms ≡ t → Ends mode ms t
+as_apply mode ms t closed all_begun last is = subst (Ends mode ms) is (record {
   closed = closed;
   plan = λ yes. absurd cc;
   apply = λ no. (refl, last);
+  begun = λ no. all_begun;
   errors = refl;
 })
 
@@ -74,15 +77,19 @@ same_whole x t e = cc
 at_end : (mode : Mode) (ms : List Message) (t : Whole) → end_of mode ms ≡ Ok t → Ends mode ms t
 unfolding end_of
 at_end mode ms t e = by_open (any_open ms) refl e where
-  by_last : any_open ms ≡ false → (c : Bool) → (list_any is_summary ms || list_any is_error ms) ≡ c → cond c (all_of (whole_of mode ms)) (Err (no_end_of ms)) ≡ Ok t → Ends mode ms t
-  by_last closed true is f = as_apply mode ms t closed is (same_whole (whole_of mode ms) t f)
-  by_last closed false is f = absurd cc
+  by_last : any_open ms ≡ false → leaves_planned ms ≡ false → (c : Bool) → (list_any is_summary ms || list_any is_error ms) ≡ c → cond c (all_of (whole_of mode ms)) (Err (no_end_of ms)) ≡ Ok t → Ends mode ms t
+  by_last closed all_begun true is f = as_apply mode ms t closed all_begun is (same_whole (whole_of mode ms) t f)
+  by_last closed all_begun false is f = absurd cc
 
-  by_plan : any_open ms ≡ false → (b : Bool) → (mode.plan && is_plan_stream ms) ≡ b → cond b (all_of (whole_plan_of mode ms)) (cond (list_any is_summary ms || list_any is_error ms) (all_of (whole_of mode ms)) (Err (no_end_of ms))) ≡ Ok t → Ends mode ms t
+  by_planned : any_open ms ≡ false → (b : Bool) → leaves_planned ms ≡ b → cond b (Err Planned) (cond (list_any is_summary ms || list_any is_error ms) (all_of (whole_of mode ms)) (Err (no_end_of ms))) ≡ Ok t → Ends mode ms t
+  by_planned closed true is f = absurd cc
+  by_planned closed false is f = by_last closed is (list_any is_summary ms || list_any is_error ms) refl f
+
+  by_plan : any_open ms ≡ false → (b : Bool) → (mode.plan && is_plan_stream ms) ≡ b → cond b (all_of (whole_plan_of mode ms)) (apply_end mode ms) ≡ Ok t → Ends mode ms t
   by_plan closed true is f = as_plan mode ms t closed (and_left mode.plan (is_plan_stream ms) is) (same_whole (whole_plan_of mode ms) t f)
-  by_plan closed false is f = by_last closed (list_any is_summary ms || list_any is_error ms) refl f
+  by_plan closed false is f = by_planned closed (leaves_planned ms) refl f
 
-  by_open : (b : Bool) → any_open ms ≡ b → cond b (Err Unended) (cond (mode.plan && is_plan_stream ms) (all_of (whole_plan_of mode ms)) (cond (list_any is_summary ms || list_any is_error ms) (all_of (whole_of mode ms)) (Err (no_end_of ms)))) ≡ Ok t → Ends mode ms t
+  by_open : (b : Bool) → any_open ms ≡ b → cond b (Err Unended) (cond (mode.plan && is_plan_stream ms) (all_of (whole_plan_of mode ms)) (apply_end mode ms)) ≡ Ok t → Ends mode ms t
   by_open true is f = absurd cc
   by_open false is f = by_plan is (mode.plan && is_plan_stream ms) refl f
 
@@ -99,6 +106,7 @@ is_whole mode texts t e =
         summed = all_sum_up all.0 all.2;
         errors = last.errors;
         closed = λ no. (last.apply no).1;
+        begun = last.begun;
         asked = λ yes. (last.plan yes).1;
       },
     )

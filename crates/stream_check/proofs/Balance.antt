@@ -224,7 +224,7 @@ moves a k ms (provision b stage) later e h =
     (sym (kept_by_cond k (state_of a ms) (or_as_before (state_of a ms) (provision_on stage (length ms + 1) (state_of a ms))) (bytes_eq b a)
     (kept_by_guard k (state_of a ms) (may_provision (state_of a ms)) (provisioned stage (length ms + 1) (state_of a ms).provisioner >>= λ running. done (record (state_of a ms) { provisioner = running }))
     (kept_by_provision k (state_of a ms) (provisioned stage (length ms + 1) (state_of a ms).provisioner)))))
-moves a k ms (planned intent) later e h = (omega arith, h)
+moves a k ms (planned intent address) later e h = (omega arith, h)
 moves a k ms (plan_summary totals) later e h = (omega arith, h)
 moves a k ms (summary totals) later e h = (omega arith, h)
 moves a k ms (diagnostic x None) later e h = (omega arith, h)

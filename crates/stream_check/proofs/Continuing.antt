@@ -21,9 +21,11 @@ use Rattle.stream_check.specs.Checking.{Continues, HasRead}
 use Rattle.stream_check.specs.Lines.{as_first, before_summary, after_version, next}
 use Rattle.stream_check.specs.Message.{Message, version, step, provision, planned, plan_summary, summary, diagnostic, outputs, other, foreign}
 use Rattle.stream_check.specs.AddressState.{failures_cleared, idle, is_idle, provision_on, state_of, step_on, unless_idle}
-use Rattle.stream_check.specs.Tallied.{tally_of, with_error_at, with_line, with_step}
+use Rattle.stream_check.specs.Tallied.{awaits_create, tally_of, with_error_at, with_line, with_planned, with_step}
 use Rattle.stream_check.specs.Tally.{failure_count, is_plan_summary, is_summary, is_version, line_of}
-use Rattle.stream_check.proofs.Counting.{error_at_tallied, provision_tallied, step_tallied}
+use Rattle.stream_check.specs.Unbegun.{awaiting, begun_state, planned_state, starts_create, unbegun_at}
+use Rattle.stream_check.proofs.Counting.{error_at_tallied, planned_tallied, provision_tallied, step_tallied}
+use Rattle.stream_check.proofs.Unbegun.{diagnostic_waits, planned_waits, provision_waits, stepped}
 
 -- ---- the stored state of an address
 
@@ -102,82 +104,112 @@ diagnostic_elsewhere a e ms b apart = rw apart refl
 
 -- ---- a checker with one message more
 
+-- nothing changes of the planned creates that have not begun
+abbrev pub KeepsUnbegun : (old new : Checker) → Type 0
+KeepsUnbegun old new = (b : List ℕ) → get_by_text new.unbegun.waiting.states b ≡ get_by_text old.unbegun.waiting.states b
+
+-- the start of a create begins one of them
+abbrev pub Begins : (old new : Checker) → (a : List ℕ) → Action → TimedStage → Type 0
+Begins old new a k stage =
+    (b : List ℕ) → get_by_text new.unbegun.waiting.states b
+    ≡ cond (starts_create stage k && bytes_eq a b) (begun_state (get_by_text old.unbegun.waiting.states a)) (get_by_text old.unbegun.waiting.states b)
+
 -- what the map has, where that of one address is set
 abbrev pub Sets : (old new : Checker) → (a : List ℕ) → AddressState → Type 0
 Sets old new a s = (b : List ℕ) → get_by_text new.pending.states b ≡ cond (bytes_eq a b) (unless_idle s) (get_by_text old.pending.states b)
 
-pub step_read : (old new : Checker) (ms : List Message) (a : List ℕ) (k : Action) (stage : TimedStage) (s : AddressState) → HasRead old ms → Sets old new a s
+pub step_read : (old new : Checker) (ms : List Message) (a : List ℕ) (k : Action) (stage : TimedStage) (s : AddressState) → HasRead old ms → Sets old new a s → Begins old new a k stage
     → new.tally ≡ with_step k stage old.tally → step_on k stage (length ms + 1) (state_of a ms) ≡ Ok s → HasRead new (step a k stage ∷ ms)
-step_read old new ms a k stage s read set tally e = record {
+step_read old new ms a k stage s read set begins tally e = record {
   tally = tally ∙ ap (with_step k stage) read.tally ∙ step_tallied a k stage ms;
   state = set_at (λ b. get_by_text old.pending.states b) (λ b. get_by_text new.pending.states b) a s (step a k stage) ms read.state set (step_there a k stage s ms e) (step_elsewhere a k stage ms);
+  unbegun = stepped (λ b. get_by_text old.unbegun.waiting.states b) (λ b. get_by_text new.unbegun.waiting.states b) a k stage ms read.unbegun begins;
 }
 
-pub provision_read : (old new : Checker) (ms : List Message) (a : List ℕ) (stage : Stage) (s : AddressState) → HasRead old ms → Sets old new a s
+pub provision_read : (old new : Checker) (ms : List Message) (a : List ℕ) (stage : Stage) (s : AddressState) → HasRead old ms → Sets old new a s → KeepsUnbegun old new
     → new.tally ≡ with_line old.tally → provision_on stage (length ms + 1) (state_of a ms) ≡ Ok s → HasRead new (provision a stage ∷ ms)
-provision_read old new ms a stage s read set tally e = record {
+provision_read old new ms a stage s read set keeps tally e = record {
   tally = tally ∙ ap with_line read.tally ∙ provision_tallied a stage ms;
   state = set_at (λ b. get_by_text old.pending.states b) (λ b. get_by_text new.pending.states b) a s (provision a stage) ms read.state set (provision_there a stage s ms e) (provision_elsewhere a stage ms);
+  unbegun = λ b. keeps b ∙ read.unbegun b ∙ ap (λ o. unless_idle (awaiting o)) (sym (provision_waits a stage ms b));
 }
 
-pub error_read : (old new : Checker) (ms : List Message) (a : List ℕ) → HasRead old ms → Sets old new a (failures_cleared true (state_of a ms))
+pub error_read : (old new : Checker) (ms : List Message) (a : List ℕ) → HasRead old ms → Sets old new a (failures_cleared true (state_of a ms)) → KeepsUnbegun old new
     → new.tally ≡ with_error_at (failure_count (state_of a ms).failures) old.tally → HasRead new (diagnostic true (Some a) ∷ ms)
-error_read old new ms a read set tally = record {
+error_read old new ms a read set keeps tally = record {
   tally = tally ∙ ap (with_error_at (failure_count (state_of a ms).failures)) read.tally ∙ error_at_tallied a ms;
   state = set_at (λ b. get_by_text old.pending.states b) (λ b. get_by_text new.pending.states b) a (failures_cleared true (state_of a ms)) (diagnostic true (Some a)) ms read.state set (diagnostic_there a true ms) (diagnostic_elsewhere a true ms);
+  unbegun = λ b. keeps b ∙ read.unbegun b ∙ ap (λ o. unless_idle (awaiting o)) (sym (diagnostic_waits true (Some a) ms b));
 }
 
 -- a message that changes nothing at any address
-abbrev pub IsStill : Message → List Message → Type 0
-IsStill m ms = (b : List ℕ) → state_of b (m ∷ ms) ≡ state_of b ms
+pub record IsStill (m : Message) (ms : List Message) : Type 0 where
+  pub state : (b : List ℕ) → state_of b (m ∷ ms) ≡ state_of b ms
+  pub unbegun : (b : List ℕ) → unbegun_at b (m ∷ ms) ≡ unbegun_at b ms
 
 pub plain_read : (old new : Checker) (m : Message) (ms : List Message) (more : Tally → Tally) → HasRead old ms → ((b : List ℕ) → get_by_text new.pending.states b ≡ get_by_text old.pending.states b)
-    → new.tally ≡ more old.tally → more (tally_of ms) ≡ tally_of (m ∷ ms) → IsStill m ms → HasRead new (m ∷ ms)
-plain_read old new m ms more read kept_all tally is still = record {
+    → KeepsUnbegun old new → new.tally ≡ more old.tally → more (tally_of ms) ≡ tally_of (m ∷ ms) → IsStill m ms → HasRead new (m ∷ ms)
+plain_read old new m ms more read kept_all keeps tally is still = record {
   tally = tally ∙ ap more read.tally ∙ is;
-  state = λ b. kept_all b ∙ read.state b ∙ ap unless_idle (sym (still b));
+  state = λ b. kept_all b ∙ read.state b ∙ ap unless_idle (sym (still.state b));
+  unbegun = λ b. keeps b ∙ read.unbegun b ∙ ap (λ o. unless_idle (awaiting o)) (sym (still.unbegun b));
 }
 
-pub still_planned : (i : Intent) (ms : List Message) → IsStill (planned i) ms
+planned_state_still : (i : Intent) (o : Option (List ℕ)) (ms : List Message) (b : List ℕ) → state_of b (planned i o ∷ ms) ≡ state_of b ms
 unfolding state_of
-still_planned i ms b = refl
+planned_state_still i o ms b = refl
+
+pub planned_read : (old new : Checker) (ms : List Message) (i : Intent) (o : Option (List ℕ)) → HasRead old ms → ((b : List ℕ) → get_by_text new.pending.states b ≡ get_by_text old.pending.states b)
+    → ((b : List ℕ) → get_by_text new.unbegun.waiting.states b ≡ planned_state (awaits_create i old.tally) (old.tally.lines + 1) o (λ a. get_by_text old.unbegun.waiting.states a) b)
+    → new.tally ≡ with_planned i old.tally → HasRead new (planned i o ∷ ms)
+planned_read old new ms i o read kept_all adds tally = record {
+  tally = tally ∙ ap (with_planned i) read.tally ∙ planned_tallied i o ms;
+  state = λ b. kept_all b ∙ read.state b ∙ ap unless_idle (sym (planned_state_still i o ms b));
+  unbegun = λ b.
+      adds b
+      ∙ ap (λ (t : Tally). planned_state (awaits_create i t) (t.lines + 1) o (λ a. get_by_text old.unbegun.waiting.states a) b) read.tally
+      ∙ planned_waits (λ a. get_by_text old.unbegun.waiting.states a) i o ms read.unbegun b;
+}
 
 pub still_plan_summary : (t : Totals) (ms : List Message) → IsStill (plan_summary t) ms
-unfolding state_of
-still_plan_summary t ms b = refl
+unfolding state_of unbegun_at
+still_plan_summary t ms = record { state = λ b. refl; unbegun = λ b. refl }
 
 pub still_summary : (t : Totals) (ms : List Message) → IsStill (summary t) ms
-unfolding state_of
-still_summary t ms b = refl
+unfolding state_of unbegun_at
+still_summary t ms = record { state = λ b. refl; unbegun = λ b. refl }
 
 pub still_error : (ms : List Message) → IsStill (diagnostic true None) ms
-unfolding state_of
-still_error ms b = refl
+unfolding state_of unbegun_at
+still_error ms = record { state = λ b. refl; unbegun = λ b. refl }
 
 either_way : (b : Bool) (s : AddressState) → cond b s s ≡ s
 either_way true s = refl
 either_way false s = refl
 
-pub still_warning : (o : Option (List ℕ)) (ms : List Message) → IsStill (diagnostic false o) ms
+warning_state : (o : Option (List ℕ)) (ms : List Message) (b : List ℕ) → state_of b (diagnostic false o ∷ ms) ≡ state_of b ms
 unfolding state_of
-still_warning None ms b = refl
-still_warning (Some a) ms b = either_way (bytes_eq a b) (state_of b ms)
+warning_state None ms b = refl
+warning_state (Some a) ms b = either_way (bytes_eq a b) (state_of b ms)
+
+pub still_warning : (o : Option (List ℕ)) (ms : List Message) → IsStill (diagnostic false o) ms
+still_warning o ms = record { state = warning_state o ms; unbegun = diagnostic_waits false o ms }
 
 pub still_outputs : (ms : List Message) → IsStill outputs ms
-unfolding state_of
-still_outputs ms b = refl
+unfolding state_of unbegun_at
+still_outputs ms = record { state = λ b. refl; unbegun = λ b. refl }
 
 pub still_other : (ms : List Message) → IsStill other ms
-unfolding state_of
-still_other ms b = refl
+unfolding state_of unbegun_at
+still_other ms = record { state = λ b. refl; unbegun = λ b. refl }
 
 pub still_foreign : (ms : List Message) → IsStill foreign ms
-unfolding state_of
-still_foreign ms b = refl
+unfolding state_of unbegun_at
+still_foreign ms = record { state = λ b. refl; unbegun = λ b. refl }
 
 pub still_version : (ms : List Message) → IsStill version ms
-unfolding state_of
-still_version ms b = refl
+unfolding state_of unbegun_at
+still_version ms = record { state = λ b. refl; unbegun = λ b. refl }
 
 -- ---- as the checker finds it
 

@@ -75,12 +75,12 @@ begun_is a Refresh Start ms = unbegun (step a Refresh Start) ms refl refl refl
 unplanned : (m : Message) (ms : List Message) → intent_of m ≡ Nothing → planned_totals ms ≡ planned_totals (m ∷ ms)
 unplanned m ms e = same_counts (same plans_create m ms (ap creates e)) (same plans_update m ms (ap updates e)) (same plans_delete m ms (ap deletes e))
 
-foretold_is : (i : Intent) (ms : List Message) → planned_counted i (planned_totals ms) ≡ planned_totals (planned i ∷ ms)
-foretold_is intent.Create ms = let m = planned intent.Create in same_counts (more plans_create m ms refl) (same plans_update m ms refl) (same plans_delete m ms refl)
-foretold_is intent.Update ms = let m = planned intent.Update in same_counts (same plans_create m ms refl) (more plans_update m ms refl) (same plans_delete m ms refl)
-foretold_is intent.Delete ms = let m = planned intent.Delete in same_counts (same plans_create m ms refl) (same plans_update m ms refl) (more plans_delete m ms refl)
-foretold_is intent.Replace ms = let m = planned intent.Replace in same_counts (more plans_create m ms refl) (same plans_update m ms refl) (more plans_delete m ms refl)
-foretold_is intent.Nothing ms = unplanned (planned intent.Nothing) ms refl
+foretold_is : (i : Intent) (o : Option (List ℕ)) (ms : List Message) → planned_counted i (planned_totals ms) ≡ planned_totals (planned i o ∷ ms)
+foretold_is intent.Create o ms = let m = planned intent.Create o in same_counts (more plans_create m ms refl) (same plans_update m ms refl) (same plans_delete m ms refl)
+foretold_is intent.Update o ms = let m = planned intent.Update o in same_counts (same plans_create m ms refl) (more plans_update m ms refl) (same plans_delete m ms refl)
+foretold_is intent.Delete o ms = let m = planned intent.Delete o in same_counts (same plans_create m ms refl) (same plans_update m ms refl) (more plans_delete m ms refl)
+foretold_is intent.Replace o ms = let m = planned intent.Replace o in same_counts (more plans_create m ms refl) (same plans_update m ms refl) (more plans_delete m ms refl)
+foretold_is intent.Nothing o ms = unplanned (planned intent.Nothing o) ms refl
 
 -- ---- failures
 
@@ -149,11 +149,11 @@ foreign_tallied ms =
     let m = foreign in
     same_tally (one_line m ms) (uncounted m ms refl refl refl) (unbegun m ms refl refl refl) (unplanned m ms refl) refl refl refl refl refl refl (same is_error_without_address m ms refl) refl (more is_foreign m ms refl)
 
-pub planned_tallied : (i : Intent) (ms : List Message) → with_planned i (tally_of ms) ≡ tally_of (planned i ∷ ms)
+pub planned_tallied : (i : Intent) (o : Option (List ℕ)) (ms : List Message) → with_planned i (tally_of ms) ≡ tally_of (planned i o ∷ ms)
 unfolding failures_left
-planned_tallied i ms =
-    let m = planned i in
-    same_tally (one_line m ms) (uncounted m ms refl refl refl) (unbegun m ms refl refl refl) (foretold_is i ms) refl refl refl refl refl refl (same is_error_without_address m ms refl) refl (same is_foreign m ms refl)
+planned_tallied i o ms =
+    let m = planned i o in
+    same_tally (one_line m ms) (uncounted m ms refl refl refl) (unbegun m ms refl refl refl) (foretold_is i o ms) refl refl refl refl refl refl (same is_error_without_address m ms refl) refl (same is_foreign m ms refl)
 
 pub plan_summary_tallied : (t : Totals) (ms : List Message) → with_plan_summary (tally_of ms) ≡ tally_of (plan_summary t ∷ ms)
 unfolding failures_left

@@ -103,7 +103,8 @@ none_detailed fault.NoType report rest = none_in_front report.text.now report.is
 none_detailed (fault.Malformed path member_fault) report rest = text_put (codes "member") (path_text path) rest
 none_detailed (fault.WrongTotals stated counted) report rest = none_in_both stated counted rest
 none_detailed (fault.WrongPlanTotals stated counted) report rest = none_in_both stated counted rest
-none_detailed fault.Unended report rest = one_put (codes "open") (array (items_of (map (entry_object report.lines_before) report.open.now))) (none_in_entries report.lines_before report.open.now) rest
+none_detailed fault.Unended report rest = one_put (codes "open") (array (items_of (map (entry_object report.lines_before) report.listed.now))) (none_in_entries report.lines_before report.listed.now) rest
+none_detailed fault.Planned report rest = one_put (codes "planned") (array (items_of (map (entry_object report.lines_before) report.listed.now))) (none_in_entries report.lines_before report.listed.now) rest
 none_detailed (fault.NoMessage lines) report rest = number_put (codes "lines") lines rest
 none_detailed _ report rest = rest
 

@@ -5,7 +5,7 @@ use Rattle.std.specs.List.{list_any}
 use Rattle.std.specs.Io.KnownBytes.{IsAtEnd}
 use Rattle.std.specs.Io.BufRead.{drop_through}
 use Rattle.stream_check.specs.declared.rules.fault.Fault.{Fault}
-use Rattle.stream_check.specs.declared.rules.fault.Fault.TheVariants.{Memory, NoApply, NoEnd, NoMessage, TooLong, Unended}
+use Rattle.stream_check.specs.declared.rules.fault.Fault.TheVariants.{Memory, NoApply, NoEnd, NoMessage, Planned, TooLong, Unended}
 use Rattle.stream_check.specs.declared.rules.mode.Mode.{Mode}
 use Rattle.stream_check.specs.declared.verdict.finding.Finding.{Finding}
 use Rattle.stream_lines.specs.declared.line.LineEnd.{LineEnd}
@@ -20,11 +20,10 @@ use Rattle.stream_check.specs.Checking.{HasRead}
 use Rattle.stream_lines.specs.Cut.{after_lines, first_line, has_feed, cut_lines, feed_at, line_at}
 use Rattle.stream_check.specs.Faults.{is_no_json, reports_front, reports_line, reports_object}
 use Rattle.stream_check.specs.Judged.{judged, judged_after, Stops, StopsAt}
-use Rattle.stream_check.specs.Lines.{at_line, end_of, is_plan_stream, is_without_messages, no_end_of, passed_of, read_line, verdict_after, verdict_of, whole_of, whole_plan_of}
+use Rattle.stream_check.specs.Lines.{apply_end, at_line, end_of, is_plan_stream, is_without_messages, leaves_planned, no_end_of, passed_of, read_line, verdict_after, verdict_of, whole_of, whole_plan_of}
 use Rattle.stream_check.specs.Open.{any_open}
 use Rattle.stream_check.specs.Tally.{is_error, is_summary}
-use Rattle.stream_check.specs.Reports.{IsReportOf, runs_from}
-use Rattle.stream_check.specs.Unended.{AreAllOpen}
+use Rattle.stream_check.specs.Reports.{AreListed, IsReportOf, runs_from}
 use Rattle.stream_check.specs.Message.{Message}
 use Rattle.stream_lines.specs.Reading.{Gives}
 use Rattle.stream_check.specs.Reading.{IsAnswer, IsFaultAt, IsNoAnswer}
@@ -113,6 +112,8 @@ faulty mode earlier texts line fault read.Memory is v = tt
 faulty mode earlier texts line fault read.TooMany is v = absurd is
 faulty mode earlier texts line fault (read.NoRun missing) is v = absurd is
 faulty mode earlier texts line fault (read.Unread number) is v = absurd is
+faulty mode earlier texts line fault (read.Uncreated failed) is v = absurd is
+faulty mode earlier texts line fault read.Unwritten is v = absurd is
 
 -- at a faulty line
 pub leads_wrong : (mode : Mode) (all left rest : Option (List ℕ)) (messages : List Message) (line : List ℕ) (feed : Bool) (fault : Fault) (r : ReadFault) → Leads mode all left messages → IfSome left (Gives (next.Line feed) line rest)
@@ -172,6 +173,8 @@ refused mode texts (read.Found finding) none = absurd none
 refused mode texts read.TooMany none = absurd none
 refused mode texts (read.NoRun missing) none = absurd none
 refused mode texts (read.Unread number) none = tt
+refused mode texts (read.Uncreated failed) none = absurd none
+refused mode texts read.Unwritten none = absurd none
 refused mode texts read.Memory none = tt
 
 pub says_nothing : (mode : Mode) (o : Option (List ℕ)) (r : ReadFault) → IsNoAnswer r → IfSome o (λ bytes. IsAnswer mode (cut_lines bytes) (Err r))
@@ -211,6 +214,8 @@ stops_at mode bytes earlier checker line feed left number fault read.Memory is r
 stops_at mode bytes earlier checker line feed left number fault read.TooMany is read report ends rest = tt
 stops_at mode bytes earlier checker line feed left number fault (read.NoRun missing) is read report ends rest = absurd is
 stops_at mode bytes earlier checker line feed left number fault (read.Unread n) is read report ends rest = tt
+stops_at mode bytes earlier checker line feed left number fault (read.Uncreated failed) is read report ends rest = absurd is
+stops_at mode bytes earlier checker line feed left number fault read.Unwritten is read report ends rest = absurd is
 
 -- nothing is known of the bytes
 stops_unseen : (mode : Mode) (checker : Checker) (line : List ℕ) (feed : Bool) (left : Option (List ℕ)) (r : ReadFault) → Stops mode None checker line feed left (Err r)
@@ -219,6 +224,8 @@ stops_unseen mode checker line feed left read.Memory = tt
 stops_unseen mode checker line feed left read.TooMany = tt
 stops_unseen mode checker line feed left (read.NoRun missing) = tt
 stops_unseen mode checker line feed left (read.Unread n) = tt
+stops_unseen mode checker line feed left (read.Uncreated failed) = tt
+stops_unseen mode checker line feed left read.Unwritten = tt
 
 pub stops_nowhere : (mode : Mode) (o : Option (List ℕ)) (checker : Checker) (line : List ℕ) (feed : Bool) (left : Option (List ℕ)) (r : ReadFault) → IsNoAnswer r → Stops mode o checker line feed left (Err r)
 stops_nowhere mode o checker line feed left (read.Found finding) none = absurd none
@@ -226,6 +233,8 @@ stops_nowhere mode o checker line feed left read.Memory none = tt
 stops_nowhere mode o checker line feed left read.TooMany none = tt
 stops_nowhere mode o checker line feed left (read.NoRun missing) none = absurd none
 stops_nowhere mode o checker line feed left (read.Unread n) none = tt
+stops_nowhere mode o checker line feed left (read.Uncreated failed) none = absurd none
+stops_nowhere mode o checker line feed left read.Unwritten none = absurd none
 
 -- at a faulty line
 pub stops_wrong : (mode : Mode) (all left rest : Option (List ℕ)) (messages : List Message) (checker : Checker) (line : List ℕ) (feed : Bool) (fault : Fault) (r : ReadFault) → Leads mode all left messages → IfSome left (Gives (next.Line feed) line rest)
@@ -278,11 +287,15 @@ end_tells_none mode messages fault e = by_open (any_open messages) e
     by_end true e = absurd cc
     by_end false e = ap reports_line (sym (fault_of (no_end_of messages) fault e)) ∙ by_apply (is_plan_stream messages)
 
-    by_plan : (b : Bool) → cond b (Ok (whole_plan_of mode messages)) (cond (list_any is_summary messages || list_any is_error messages) (Ok (whole_of mode messages)) (no_such (no_end_of messages))) ≡ Err fault → reports_line fault ≡ false
-    by_plan true e = absurd cc
-    by_plan false e = by_end (list_any is_summary messages || list_any is_error messages) e
+    by_planned : (b : Bool) → cond b (no_such Planned) (cond (list_any is_summary messages || list_any is_error messages) (Ok (whole_of mode messages)) (no_such (no_end_of messages))) ≡ Err fault → reports_line fault ≡ false
+    by_planned true e = ap reports_line (sym (fault_of Planned fault e))
+    by_planned false e = by_end (list_any is_summary messages || list_any is_error messages) e
 
-    by_open : (b : Bool) → cond b (no_such Unended) (cond (mode.plan && is_plan_stream messages) (Ok (whole_plan_of mode messages)) (cond (list_any is_summary messages || list_any is_error messages) (Ok (whole_of mode messages)) (no_such (no_end_of messages)))) ≡ Err fault → reports_line fault ≡ false
+    by_plan : (b : Bool) → cond b (Ok (whole_plan_of mode messages)) (apply_end mode messages) ≡ Err fault → reports_line fault ≡ false
+    by_plan true e = absurd cc
+    by_plan false e = by_planned (leaves_planned messages) e
+
+    by_open : (b : Bool) → cond b (no_such Unended) (cond (mode.plan && is_plan_stream messages) (Ok (whole_plan_of mode messages)) (apply_end mode messages)) ≡ Err fault → reports_line fault ≡ false
     by_open true e = ap reports_line (sym (fault_of Unended fault e))
     by_open false e = by_plan (mode.plan && is_plan_stream messages) e
 
@@ -329,11 +342,11 @@ about_same find false line there same = refl
 pub report_holds : (mode : Mode) (bytes : List ℕ) (finding : Finding) (checker : Checker) (line : List ℕ) (feed : Bool) (left : Option (List ℕ)) (report : FindingReport) → report.finding ≡ finding → report.text.now ≡ line
     → report.is_cut_off ≡ (is_no_json finding.fault && not feed)
     → option_map object_view report.object ≡ cond (reports_object finding.fault) (about_line mode.find line) None
-    → (finding.fault ≡ Unended → (messages : List Message) → HasRead checker messages → AreAllOpen messages report.«open».now)
+    → ((messages : List Message) → HasRead checker messages → AreListed finding.fault messages report.listed.now)
     → report.lines_before ≡ mode.lines_before
     → ((rest : List ℕ) → (reports_line finding.fault ≡ true → left ≡ Some rest) → IfSome report.runs (λ n. n ≡ runs_from mode.find rest))
     → StopsAt mode bytes finding checker line feed left → IsReportOf mode bytes report
-report_holds mode bytes finding checker line feed left report same text cut about open_there before runs stops = record {
+report_holds mode bytes finding checker line feed left report same text cut about listed before runs stops = record {
   text = λ front. text ∙ stops.is_line (shown front) ∙ number;
   cut_off = λ front.
       cut_same report.finding.fault finding.fault feed (feed_at report.finding.line bytes) report.is_cut_off (ap (λ (f : Finding). f.fault) same) cut
@@ -341,7 +354,7 @@ report_holds mode bytes finding checker line feed left report same text cut abou
   object = about
       ∙ about_same mode.find (reports_object finding.fault) line (line_at finding.line bytes) (λ tells. stops.is_line (object_is_line finding.fault tells))
       ∙ sym (ap (λ (f : Finding). cond (reports_object f.fault) (about_line mode.find (line_at f.line bytes)) None) same);
-  «open» = λ is. open_there (sym (ap (λ (f : Finding). f.fault) same) ∙ is) (judged mode (cut_lines bytes)) stops.has_read;
+  listed = subst (λ (f : Finding). AreListed f.fault (judged mode (cut_lines bytes)) report.listed.now) (sym same) (listed (judged mode (cut_lines bytes)) stops.has_read);
   before = before;
   runs = subst (λ (f : Finding). IfSome report.runs (λ n. n ≡ runs_from mode.find (after_lines f.line bytes))) (sym same) (runs (after_lines finding.line bytes) stops.is_left);
 }
@@ -355,9 +368,9 @@ report_holds mode bytes finding checker line feed left report same text cut abou
 pub report_holds_if_known : (mode : Mode) (seen : Option (List ℕ)) (finding : Finding) (checker : Checker) (line : List ℕ) (feed : Bool) (left : Option (List ℕ)) (report : FindingReport) → report.finding ≡ finding → report.text.now ≡ line
     → report.is_cut_off ≡ (is_no_json finding.fault && not feed)
     → option_map object_view report.object ≡ cond (reports_object finding.fault) (about_line mode.find line) None
-    → (finding.fault ≡ Unended → (messages : List Message) → HasRead checker messages → AreAllOpen messages report.«open».now)
+    → ((messages : List Message) → HasRead checker messages → AreListed finding.fault messages report.listed.now)
     → report.lines_before ≡ mode.lines_before
     → ((rest : List ℕ) → (reports_line finding.fault ≡ true → left ≡ Some rest) → IfSome report.runs (λ n. n ≡ runs_from mode.find rest))
     → IfSome seen (λ bytes. StopsAt mode bytes finding checker line feed left) → IfSome seen (λ bytes. IsReportOf mode bytes report)
-report_holds_if_known mode None finding checker line feed left report same text cut about open_there before runs stops = tt
-report_holds_if_known mode (Some bytes) finding checker line feed left report same text cut about open_there before runs stops = report_holds mode bytes finding checker line feed left report same text cut about open_there before runs stops
+report_holds_if_known mode None finding checker line feed left report same text cut about listed before runs stops = tt
+report_holds_if_known mode (Some bytes) finding checker line feed left report same text cut about listed before runs stops = report_holds mode bytes finding checker line feed left report same text cut about listed before runs stops

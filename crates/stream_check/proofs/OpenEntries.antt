@@ -1,5 +1,5 @@
 -- All that stands open, as a list.
-use Rattle.std.proofs.Common.{◌≡◌, ℕ, List, [], ◌∷◌, ◌++◌, map, Bool, true, false, Option, Some, None, Less, refl, sym, ap, ◌∙◌, ⊎_elim, unwrap_or, String, Global}
+use Rattle.std.proofs.Common.{◌≡◌, ℕ, List, [], ◌∷◌, ◌++◌, map, Bool, true, false, Option, Some, None, Less, refl, sym, ap, subst, ◌∙◌, ⊎_elim, unwrap_or, String, Global}
 use Rattle.std.specs.Prelude.{◌||◌, IsSome, not, nat_lt, IfOk, Result, Ok, Err}
 use Rattle.std.specs.BTreeMap.{get_by_text, is_at}
 use Rattle.std.specs.Cmp.Lexicographic.{slice_cmp}
@@ -22,9 +22,11 @@ use Rattle.stream_check.specs.Checking.{HasRead}
 use Rattle.stream_check.specs.Message.{Message}
 use Rattle.stream_check.specs.Open.{stands_open}
 use Rattle.stream_check.specs.AddressState.{idle, state_of}
+use Rattle.stream_check.specs.Unbegun.{AreAllUnbegun, unbegun_at, unbegun_entry}
 use Rattle.stream_check.specs.Unended.{AreAllOpen, Opened, opened, opens_at, opens_of}
 use Rattle.stream_check.proofs.Held.{state_found, same_matters}
 use Rattle.stream_check.proofs.OpenSteps.{idle_is_closed}
+use Rattle.stream_check.proofs.Unbegun.{entry_where, found_where}
 
 -- ---- one address after another
 
@@ -50,7 +52,7 @@ in_order_too (k ∷ ks) sorted = (below_all k ks sorted.0, in_order_too ks sorte
 -- ---- each address at which something stands open
 
 -- what is found in a map is among its addresses
-found_among : (es : List (String Global × AddressState)) (a : List ℕ) → IsSome (lookup (is_at (λ (k : String Global). slice_cmp nat_cmp a (string_bytes k))) es) → list_any (bytes_eq a) (map string_bytes (keys_of es)) ≡ true
+pub found_among : (es : List (String Global × AddressState)) (a : List ℕ) → IsSome (lookup (is_at (λ (k : String Global). slice_cmp nat_cmp a (string_bytes k))) es) → list_any (bytes_eq a) (map string_bytes (keys_of es)) ≡ true
 found_among [] a there = absurd cc
 found_among (e ∷ es) a there =
     ⊎_elim
@@ -66,7 +68,7 @@ open_is_found r f (Some s) there = refl
 
 -- ---- what the checker lists
 
-same_lists : (f g : List ℕ → List Opened) (bs : List (List ℕ)) → ((a : List ℕ) → f a ≡ g a) → flat_map f bs ≡ flat_map g bs
+pub same_lists : (f g : List ℕ → List Opened) (bs : List (List ℕ)) → ((a : List ℕ) → f a ≡ g a) → flat_map f bs ≡ flat_map g bs
 same_lists f g [] same = refl
 same_lists f g (b ∷ bs) same = ap (λ (l : List Opened). l ++ flat_map f bs) (same b) ∙ ap (λ (l : List Opened). g b ++ l) (same_lists f g bs same)
 
@@ -84,6 +86,21 @@ all_listed checker messages entries read sorted listed = record {
     same a =
         ap (opens_of (not checker.tally.has_failed) (nat_lt checker.tally.errors_without_address checker.tally.failures) a) (state_found checker messages read a)
         ∙ ap (λ (t : Tally). opens_of (not t.has_failed) (nat_lt t.errors_without_address t.failures) a (state_of a messages)) read.tally
+
+-- what the checker lists of planned creates that have not begun
+pub unbegun_listed : (checker : Checker) (messages : List Message) (entries : List OpenEntry) → HasRead checker messages → IsStrictlySortedBy (slice_cmp nat_cmp) (addresses_in checker.unbegun.waiting.states)
+    → map opened entries ≡ flat_map (λ (a : List ℕ). opens_of false false a (unwrap_or (get_by_text checker.unbegun.waiting.states a) idle)) (addresses_in checker.unbegun.waiting.states)
+    → AreAllUnbegun messages entries
+unbegun_listed checker messages entries read sorted listed = record {
+  addresses = addresses_in checker.unbegun.waiting.states;
+  in_order = sorted;
+  listed = listed ∙ same_lists _ (unbegun_entry messages) (addresses_in checker.unbegun.waiting.states) same;
+  all = λ a there. found_among checker.unbegun.waiting.states.entries a (subst (λ (o : Option AddressState). IsSome o) (sym (read.unbegun a)) (found_where (unbegun_at a messages) there));
+}
+  where
+    same : (a : List ℕ) → opens_of false false a (unwrap_or (get_by_text checker.unbegun.waiting.states a) idle) ≡ unbegun_entry messages a
+    same a =
+        ap (λ (o : Option AddressState). opens_of false false a (unwrap_or o idle)) (read.unbegun a) ∙ entry_where a (unbegun_at a messages)
 
 -- the same, where the list was made by what matters
 abbrev listed_by : Checker → Bool → Bool → List (List ℕ) → List Opened

@@ -50,7 +50,7 @@ unmoved : (a : List ℕ) (line : ℕ) (m : Message) (s : AddressState) → is_ab
 unmoved a line version s e = refl
 unmoved a line (step b k stage) s e = rw e refl
 unmoved a line (provision b stage) s e = rw e refl
-unmoved a line (planned intent) s e = refl
+unmoved a line (planned intent address) s e = refl
 unmoved a line (plan_summary totals) s e = refl
 unmoved a line (summary totals) s e = refl
 unmoved a line (diagnostic x None) s e = refl

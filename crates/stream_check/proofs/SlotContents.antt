@@ -24,7 +24,7 @@ use Rattle.stream_message.specs.Kinds.{kind_named}
 use Rattle.stream_message.specs.Slots.{HoldsChanges, HoldsDiagnostic, HoldsHook, HoldsLine, inner_of, inner_view, inside, presence_of, shallow_value}
 use Rattle.stream_message.specs.SlotValues.{provisioner_in}
 use Rattle.stream_message.proofs.TreeMembers as slots
-use Rattle.stream_message.proofs.TreeMembers.{slot_text}
+use Rattle.stream_message.proofs.TreeMembers.{slot_text, slots_address}
 use Rattle.stream_check.specs.declared.messages.line.TheConstants.{SELECTION}
 use Rattle.stream_check.specs.declared.messages.member_fault.MemberFault.TheVariants.{NoText, NoWholeNumber}
 use Rattle.stream_check.specs.declared.messages.path.Path.{Path}
@@ -132,8 +132,10 @@ module _ (line : LineSlots) (d : Data) (holds : HoldsLine SELECTION line (member
   planned_is : planned_of_slots line ≡ planned_of d
   unfolding planned_of
   planned_is =
-      rw (inner_text_is path.ChangeAction path.Change (codes "change") (codes "action") d line.change (holds.change refl))
-      (assoc (object_at path.ChangeAction (codes "change") path.Change d) (text_at path.ChangeAction (codes "action")) _)
+      inside_is path.ChangeAction (codes "change") path.Change d line.change.is _ _ (holds.change refl).0
+      (λ ms e.
+      let held = subst (λ (o : Option Data). HoldsHook line.change (inside o)) e (holds.change refl).1 in
+      rw (text_is path.ChangeAction (codes "action") (object ms) (option_map shallow_view line.change.action) held.action, slots_address line.change (Some (object ms)) held) refl)
 
   summary_is : summary_of_slots line.changes ≡ summary_of d
   unfolding summary_of
@@ -188,7 +190,7 @@ module _ (line : LineSlots) (d : Data) (holds : HoldsLine SELECTION line (member
   about_same (Ok (provision address stage)) = ap (λ (name : Option (List ℕ)). Some (of_provisioner name address)) provisioner_is
   about_same (Ok (step address action stage)) = refl
   about_same (Ok version) = refl
-  about_same (Ok (planned intent)) = refl
+  about_same (Ok (planned intent address)) = refl
   about_same (Ok (plan_summary totals)) = refl
   about_same (Ok (summary totals)) = refl
   about_same (Ok (diagnostic is_error address)) = refl

@@ -1,7 +1,8 @@
 -- Exit statuses: 0 and 1 report a whole stream. 2, 3 and 4 report a stream that is not whole,
 -- that no stream was checked, or that the report failed.
-use Rattle.std.proofs.Common.{◌≡◌, ◌≢◌, ◌≤◌, inl, inr, ℕ, List, [], ◌∷◌, ◌++◌, Bool, true, false, cond, Option, None, Some, Result, Ok, Err, refl, arith}
-use Rattle.std.specs.Prelude.{IfErr, IfSome, OnOk}
+use Rattle.std.proofs.Common.{◌≡◌, ◌≢◌, ◌≤◌, inl, inr, subst, ℕ, List, [], ◌∷◌, ◌++◌, Bool, true, false, cond, Option, None, Some, Result, Ok, Err, refl, arith}
+use Rattle.std.specs.Prelude.{IfErr, IfSome, OnOk, String, is_some}
+use Rattle.std.specs.Global.{Global}
 use Rattle.std.specs.Io.KnownBytes.{Appends, Keeps}
 use Rattle.std.proofs.KnownBytes.{Keeps-refl}
 use Rattle.serde_json.specs.Data.{no_members, object}
@@ -10,9 +11,9 @@ use Rattle.stream_lines.specs.Cut.{cut_lines}
 use Rattle.stream_runs.specs.Selected.{IsSelected}
 use Rattle.stream_runs.specs.declared.choice.RunChoice.{RunChoice}
 use Rattle.stream_runs.specs.declared.fault.RunFault.TheVariants as run
-use Rattle.stream_check.specs.CommandLine.{HasJudgedChoice, IsSilent}
+use Rattle.stream_check.specs.CommandLine.{HasJudgedChoice, HasJudgedInput, HasKeptNone, IsQuiet, IsSilent}
 use Rattle.stream_check.specs.declared.command.settings.Settings.{Settings}
-use Rattle.stream_check.specs.Reading.{IsAnswer}
+use Rattle.stream_check.specs.Reading.{IsAnswer, IsUnkept}
 use Rattle.stream_check.specs.Reports.{IsFaultReported, IsReported, IsReportOf, TakesMemory, status_of, whole_report}
 use Rattle.stream_check.specs.ReportObject.{with_report}
 use Rattle.stream_check.specs.declared.command.settings.Form.{Form}
@@ -39,6 +40,8 @@ status_most (Err (read.Found finding)) (Ok done) = omega arith
 status_most (Err read.TooMany) (Ok done) = omega arith
 status_most (Err (read.NoRun missing)) (Ok done) = omega arith
 status_most (Err (read.Unread number)) (Ok done) = omega arith
+status_most (Err (read.Uncreated failed)) (Ok done) = omega arith
+status_most (Err read.Unwritten) (Ok done) = omega arith
 status_most (Err read.Memory) (Ok done) = omega arith
 status_most (Err fault) (Err why) = omega arith
 
@@ -48,6 +51,8 @@ bad (read.Found finding) (Ok done) few = absurd (omega arith)
 bad read.TooMany (Ok done) few = absurd (omega arith)
 bad (read.NoRun missing) (Ok done) few = absurd (omega arith)
 bad (read.Unread number) (Ok done) few = absurd (omega arith)
+bad (read.Uncreated failed) (Ok done) few = absurd (omega arith)
+bad read.Unwritten (Ok done) few = absurd (omega arith)
 bad read.Memory (Ok done) few = absurd (omega arith)
 bad fault (Err why) few = absurd (omega arith)
 
@@ -59,6 +64,12 @@ pub silent_at : (verdict : Result Whole ReadFault) (reported : Result (Unit {0})
 silent_at (Ok whole) (Ok done) few = inl (whole, refl, refl)
 silent_at (Ok whole) (Err why) few = absurd (omega arith)
 silent_at (Err fault) reported few = bad fault reported few
+
+-- so the answer alone tells that nothing is reported
+pub quiet_by : {P : Type 0} (verdict : Result Whole ReadFault) (reported : Result (Unit {0}) Unreported) → (IsSilent (record { verdict = verdict; reported = reported }) → P)
+    → IsQuiet (record { verdict = verdict; reported = reported }) (status_of verdict reported) → P
+quiet_by verdict reported silent (inl few) = silent (silent_at verdict reported few)
+quiet_by verdict reported silent (inr is) = silent is
 
 not_done : {R : Type 0} (why : Unreported) → ◌≡◌ {A = Result (Unit {0}) Unreported} (Err why) (Ok tt) → R
 not_done why same = absurd cc
@@ -125,7 +136,11 @@ kept mode seen Text (read.NoRun missing) before after apart keeps = keeps
 kept mode seen Json read.TooMany before after apart keeps = keeps
 kept mode seen Json (read.NoRun missing) before after apart keeps = keeps
 kept mode seen Text (read.Unread number) before after apart keeps = keeps
+kept mode seen Text (read.Uncreated failed) before after apart keeps = keeps
+kept mode seen Text read.Unwritten before after apart keeps = keeps
 kept mode seen Json (read.Unread number) before after apart keeps = keeps
+kept mode seen Json (read.Uncreated failed) before after apart keeps = keeps
+kept mode seen Json read.Unwritten before after apart keeps = keeps
 kept mode seen Text read.Memory before after apart keeps = keeps
 kept mode seen Json read.Memory before after apart keeps = keeps
 
@@ -160,3 +175,24 @@ memory_judged (Some choice) settings given before after keeps = (
   none_selected settings.mode.find choice given,
   (refl, kept settings.mode None settings.form read.Memory before after no_finding keeps),
 )
+
+-- so there is none whether or not the messages are kept
+pub input_unread : (write : Option (String Global)) (settings : Settings) (given before after : Option (List ℕ)) → Keeps before after
+    → HasJudgedInput write settings given before after (record { verdict = Err read.Memory; reported = Ok tt })
+input_unread None settings given before after keeps = memory_judged settings.run settings given before after keeps
+input_unread (Some name) settings given before after keeps = inl (record {
+  unkept = tt;
+  reported = kept settings.mode None settings.form read.Memory before after no_finding keeps;
+})
+
+-- why messages could not be kept is no finding
+unkept_apart : (fault : ReadFault) → IsUnkept fault → (finding : Finding) → fault ≡ read.Found finding → ⊥
+unkept_apart fault unkept finding is = subst IsUnkept is unkept
+
+-- messages that could not be kept, and their report
+pub unkept_reported : (settings : Settings) (fault : ReadFault) (reported : Result (Unit {0}) Unreported) (held : Option (List ℕ)) → IsUnkept fault
+    → IfErr reported (λ why. (why ≡ unreported.Memory) × TakesMemory (is_some settings.file) (Err fault)) → HasKeptNone settings held held (record { verdict = Err fault; reported = reported })
+unkept_reported settings fault reported held unkept refused = record {
+  unkept = unkept;
+  reported = fault_reported (is_some settings.file) settings.mode None settings.form fault reported held (unkept_apart fault unkept) refused;
+}

@@ -1,5 +1,5 @@
 -- Summaries after other messages, and which message may follow which.
-use Rattle.std.proofs.Common.{◌≡◌, ℕ, ◌+◌, List, ◌∷◌, length, true, false, Some, None, Result, Ok, Err, refl}
+use Rattle.std.proofs.Common.{◌≡◌, ℕ, ◌+◌, List, ◌∷◌, length, true, false, Option, Some, None, Result, Ok, Err, refl}
 use Rattle.stream_check.specs.declared.messages.action.Action.{Action}
 use Rattle.stream_check.specs.declared.messages.intent.Intent.{Intent}
 use Rattle.stream_message.specs.declared.stage.Stage.{Stage}
@@ -41,8 +41,8 @@ provision_faulty ms a stage fault none e = rw (none, e) refl
 
 -- ---- plans
 
-pub plan_fits : (ms : List Message) (i : Intent) → line_of is_summary ms ≡ None → after_version ms 0 (planned i) ≡ Ok (planned i ∷ ms)
-plan_fits ms i none = rw none refl
+pub plan_fits : (ms : List Message) (i : Intent) (o : Option (List ℕ)) → line_of is_summary ms ≡ None → after_version ms 0 (planned i o) ≡ Ok (planned i o ∷ ms)
+plan_fits ms i o none = rw none refl
 
 pub foreseen_again : (ms : List Message) (t : Totals) (line : ℕ) → line_of is_summary ms ≡ None → line_of is_plan_summary ms ≡ Some line → after_version ms 0 (plan_summary t) ≡ Err (PlanAgain line)
 foreseen_again ms t line none is = rw (none, is) refl

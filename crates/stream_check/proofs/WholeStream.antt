@@ -47,7 +47,7 @@ one_after ms first (step a k stage) later e =
 one_after ms first (provision a stage) later e =
     let found = bind_ok (provision_on stage (length ms + 1) (state_of a ms)) (λ state. one_on (provision a stage) ms) later (past_line AfterSummary _ _ later e).1 in
     put_on (provision a stage) ms later found.2
-one_after ms first (planned intent) later e = put_on (planned intent) ms later (past_line AfterSummary (line_of is_summary ms) (one_on (planned intent) ms) later e).1
+one_after ms first (planned intent address) later e = put_on (planned intent address) ms later (past_line AfterSummary (line_of is_summary ms) (one_on (planned intent address) ms) later e).1
 one_after ms first (plan_summary t) later e =
     let right : Result (List Message) Fault = cond (same_totals t (planned_totals ms)) (one_on (plan_summary t) ms) (Err (WrongPlanTotals t (planned_totals ms))) in
     let once = (past_line AfterSummary (line_of is_summary ms) (plan_summed t ms) later e).1 in
@@ -67,7 +67,7 @@ one_first : (ms : List Message) (m : Message) (later : List Message) → as_firs
 one_first ms version later e = put_on version ms later e
 one_first ms (step a k stage) later e = absurd cc
 one_first ms (provision a stage) later e = absurd cc
-one_first ms (planned intent) later e = absurd cc
+one_first ms (planned intent address) later e = absurd cc
 one_first ms (plan_summary t) later e = absurd cc
 one_first ms (summary t) later e = absurd cc
 one_first ms (diagnostic b a) later e = absurd cc

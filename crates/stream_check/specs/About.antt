@@ -27,7 +27,7 @@ abbrev pub about_message : Data → Result Message Fault → Option About
 about_message d (Ok (step address action stage)) = Some (of_step action address)
 about_message d (Ok (provision address stage)) = Some (of_provisioner (provisioner_of d) address)
 about_message d (Ok version) = None
-about_message d (Ok (planned intent)) = None
+about_message d (Ok (planned intent address)) = None
 about_message d (Ok (plan_summary totals)) = None
 about_message d (Ok (summary totals)) = None
 about_message d (Ok (diagnostic is_error address)) = None

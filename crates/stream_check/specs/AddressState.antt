@@ -122,7 +122,7 @@ state_after address line version s = s
 state_after address line (step a action stage) s =
     if bytes_eq a address then or_as_before s (step_on action stage line s) else s
 state_after address line (provision a stage) s = if bytes_eq a address then or_as_before s (provision_on stage line s) else s
-state_after address line (planned intent) s = s
+state_after address line (planned intent place) s = s
 state_after address line (plan_summary totals) s = s
 state_after address line (summary totals) s = s
 state_after address line (diagnostic is_error None) s = s

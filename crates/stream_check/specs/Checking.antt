@@ -7,12 +7,15 @@ use Rattle.stream_check.specs.declared.rules.fault.Fault.TheVariants.{Memory}
 use Rattle.stream_check.specs.Message.{Message}
 use Rattle.stream_check.specs.AddressState.{state_of, unless_idle}
 use Rattle.stream_check.specs.Tallied.{tally_of}
+use Rattle.stream_check.specs.Unbegun.{awaiting, unbegun_at}
 
 -- the checker knows what the rules need of these messages
 pub record HasRead (checker : Checker) (messages : List Message) : Type 0 where
   pub tally : checker.tally ≡ tally_of messages
   pub state : (address : List ℕ) → get_by_text checker.pending.states address
       ≡ unless_idle (state_of address messages)
+  pub unbegun : (address : List ℕ) → get_by_text checker.unbegun.waiting.states address
+      ≡ unless_idle (awaiting (unbegun_at address messages))
 
 -- how many lines the checker has accepted
 abbrev pub lines_read : Checker → ℕ

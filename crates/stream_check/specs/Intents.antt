@@ -27,5 +27,5 @@ deletes Nothing = false
 
 -- the intent of a message
 abbrev pub intent_of : Message → Intent
-intent_of (planned intent) = intent
+intent_of (planned intent address) = intent
 intent_of _ = Nothing

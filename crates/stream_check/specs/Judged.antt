@@ -44,4 +44,6 @@ Stops mode input checker line feed left (Err (read.Found finding)) =
 Stops mode input checker line feed left (Err read.TooMany) = ⊤
 Stops mode input checker line feed left (Err (read.NoRun missing)) = ⊤
 Stops mode input checker line feed left (Err (read.Unread number)) = ⊤
+Stops mode input checker line feed left (Err (read.Uncreated failed)) = ⊤
+Stops mode input checker line feed left (Err read.Unwritten) = ⊤
 Stops mode input checker line feed left (Err read.Memory) = ⊤

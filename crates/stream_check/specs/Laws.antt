@@ -10,7 +10,7 @@ use Rattle.stream_check.specs.declared.verdict.whole.Whole.{Whole}
 use Rattle.stream_check.specs.declared.messages.timed_stage.TimedStage.{TimedStage}
 use Rattle.stream_check.specs.declared.messages.timed_stage.TimedStage.TheVariants.{Start, Progress, Complete, Errored}
 use Rattle.stream_check.specs.declared.rules.mode.Mode.{Mode}
-use Rattle.stream_check.specs.Lines.{line_message}
+use Rattle.stream_check.specs.Lines.{leaves_planned, line_message}
 use Rattle.stream_check.specs.Message.{Message, version, step, provision, planned, plan_summary, summary, diagnostic, outputs, other, foreign}
 use Rattle.stream_check.specs.Tally.{completed_totals, is_error, is_summary, planned_totals}
 use Rattle.stream_check.specs.Words.{same_action}
@@ -32,7 +32,7 @@ abbrev pub tells : (TimedStage → Bool) → List ℕ → Action → Message →
 tells test a k version = false
 tells test a k (step b l stage) = (bytes_eq b a && same_action l k) && test stage
 tells test a k (provision b stage) = false
-tells test a k (planned intent) = false
+tells test a k (planned intent address) = false
 tells test a k (plan_summary totals) = false
 tells test a k (summary totals) = false
 tells test a k (diagnostic e b) = false
@@ -54,7 +54,7 @@ abbrev pub SumsUp : Totals → Message → Type 0
 SumsUp totals version = ⊤
 SumsUp totals (step a k stage) = ⊤
 SumsUp totals (provision a stage) = ⊤
-SumsUp totals (planned intent) = ⊤
+SumsUp totals (planned intent address) = ⊤
 SumsUp totals (plan_summary stated) = ⊤
 SumsUp totals (summary stated) = stated ≡ totals
 SumsUp totals (diagnostic e a) = ⊤
@@ -78,7 +78,7 @@ says find p text = states_in p (line_message find text)
 
 -- The lines are messages in which each step ends as often as it starts. The totals count the
 -- completed steps, or the planned ones in the stream of a plan. A summary states the same totals.
--- The stream has a summary or an error.
+-- The stream has a summary or an error. Without an error each planned create began.
 pub record IsWhole (mode : Mode) (texts : List (List ℕ)) (whole : Whole) (messages : List Message) : Type 0 where
   pub lines : StateMessages mode.find [] messages texts
   pub steps : EachEnds messages
@@ -88,3 +88,4 @@ pub record IsWhole (mode : Mode) (texts : List (List ℕ)) (whole : Whole) (mess
   pub errors : whole.has_errors ≡ list_any is_error messages
   pub closed : whole.is_plan ≡ false → (list_any is_summary messages || list_any is_error messages) ≡ true
   pub asked : whole.is_plan ≡ true → mode.plan ≡ true
+  pub begun : whole.is_plan ≡ false → leaves_planned messages ≡ false

@@ -7,6 +7,8 @@ pub mod Course
 pub mod Faults
 pub mod Intents
 pub mod Judged
+pub mod Judging
+pub mod Kept
 pub mod SlotContents
 pub mod Laws
 pub mod Limits
@@ -27,6 +29,7 @@ pub mod Small
 pub mod AddressState
 pub mod Tallied
 pub mod Tally
+pub mod Unbegun
 pub mod Reports
 pub mod ReportObject
 pub mod Unended

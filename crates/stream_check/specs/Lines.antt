@@ -8,7 +8,7 @@ use Rattle.stream_check.specs.declared.messages.action.Action.{Action}
 use Rattle.stream_check.specs.declared.messages.timed_stage.TimedStage.{TimedStage}
 use Rattle.stream_check.specs.declared.messages.totals.Totals.{Totals}
 use Rattle.stream_check.specs.declared.rules.fault.Fault.{Fault}
-use Rattle.stream_check.specs.declared.rules.fault.Fault.TheVariants.{TooLong, NotJson, NoType, NoVersion, VersionAgain, AfterSummary, PlanAgain, OutputsAlone, NotPlanned, Unended, WrongTotals, WrongPlanTotals, NoEnd, NoApply, NoMessage}
+use Rattle.stream_check.specs.declared.rules.fault.Fault.TheVariants.{TooLong, NotJson, NoType, NoVersion, VersionAgain, AfterSummary, PlanAgain, OutputsAlone, NotPlanned, Planned, Unended, WrongTotals, WrongPlanTotals, NoEnd, NoApply, NoMessage}
 use Rattle.stream_check.specs.declared.rules.mode.Mode.{Mode}
 use Rattle.stream_check.specs.declared.verdict.finding.Finding.{Finding}
 use Rattle.stream_check.specs.declared.verdict.whole.Whole.{Whole}
@@ -19,6 +19,7 @@ use Rattle.stream_check.specs.Message.{Message, version, step, provision, planne
 use Rattle.stream_check.specs.Open.{any_open}
 use Rattle.stream_check.specs.Results.{◌>>=◌, or_refuse}
 use Rattle.stream_check.specs.AddressState.{provision_on, state_of, step_on}
+use Rattle.stream_check.specs.Unbegun.{any_unbegun}
 use Rattle.stream_check.specs.Tally.{awaits_outputs, begun_totals, completed_totals, is_begin, is_error, is_foreign, is_plan_summary, is_planned, is_summary, is_version, line_of, no_totals, planned_totals, same_totals, share_of}
 
 -- ---- one line by itself
@@ -86,7 +87,7 @@ after_version earlier first (step address action stage) =
 after_version earlier first (provision address stage) =
     before_summary earlier (provision_on stage (length earlier + 1) (state_of address earlier)
     >>= λ state. Ok (provision address stage ∷ earlier))
-after_version earlier first (planned intent) = before_summary earlier (Ok (planned intent ∷ earlier))
+after_version earlier first (planned intent address) = before_summary earlier (Ok (planned intent address ∷ earlier))
 after_version earlier first (plan_summary totals) = before_summary earlier (plan_summed totals earlier)
 after_version earlier first (summary totals) = before_summary earlier (summed totals earlier)
 after_version earlier first (diagnostic b address) = Ok (diagnostic b address ∷ earlier)
@@ -99,7 +100,7 @@ abbrev pub as_first : List Message → Message → Result (List Message) Fault
 as_first earlier version = Ok (version ∷ earlier)
 as_first earlier (step address action stage) = Err NoVersion
 as_first earlier (provision address stage) = Err NoVersion
-as_first earlier (planned intent) = Err NoVersion
+as_first earlier (planned intent address) = Err NoVersion
 as_first earlier (plan_summary totals) = Err NoVersion
 as_first earlier (summary totals) = Err NoVersion
 as_first earlier (diagnostic b address) = Err NoVersion
@@ -165,14 +166,26 @@ no_end_of messages =
     else if is_without_messages messages then NoMessage (length messages)
     else NoEnd
 
--- The verdict at the end, or the fault of the end. Nothing may be open. There must be a summary or
--- an error, or the summary of a plan where such a stream is accepted.
+-- an apply was summed up, no error was told, and some planned create never began
+abbrev pub leaves_planned : List Message → Bool
+leaves_planned messages =
+    (list_any is_summary messages && not (list_any is_error messages)) && any_unbegun messages
+
+-- The verdict on the stream of an apply, or the fault of its end. Without an error each planned
+-- create began. There must be a summary or an error.
+abbrev pub apply_end : Mode → List Message → Result Whole Fault
+apply_end mode messages =
+    if leaves_planned messages then Err Planned
+    else if list_any is_summary messages || list_any is_error messages then Ok (whole_of mode messages)
+    else Err (no_end_of messages)
+
+-- The verdict at the end, or the fault of the end. Nothing may be open. The stream is that of an
+-- apply, or that of a plan where such a stream is accepted.
 unfoldable pub end_of : Mode → List Message → Result Whole Fault
 end_of mode messages =
     if any_open messages then Err Unended
     else if mode.plan && is_plan_stream messages then Ok (whole_plan_of mode messages)
-    else if list_any is_summary messages || list_any is_error messages then Ok (whole_of mode messages)
-    else Err (no_end_of messages)
+    else apply_end mode messages
 
 abbrev pub at_line : {A : Type 0} → Mode → List Message → (line : ℕ) → Result A Fault → Result A Finding
 at_line mode earlier line (Ok x) = Ok x

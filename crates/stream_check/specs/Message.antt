@@ -15,6 +15,7 @@ use Rattle.stream_check.specs.declared.messages.timed_stage.TimedStage.TheVarian
 use Rattle.stream_check.specs.declared.messages.totals.Totals.{Totals}
 use Rattle.stream_check.specs.declared.rules.fault.Fault.{Fault}
 use Rattle.apply_json.specs.Tree.{text_of}
+use Rattle.stream_message.specs.Members.{resource_address}
 use Rattle.stream_check.specs.Members.{count_at, object_at, text_at}
 use Rattle.stream_check.specs.Results.{◌>>=◌}
 use Rattle.stream_check.specs.Words.{action_named}
@@ -26,8 +27,8 @@ pub data Message : Type 0 where
   step : List ℕ → Action → TimedStage → Message
   -- a stage of a provisioner of the object of an address
   provision : List ℕ → Stage → Message
-  -- a planned change
-  planned : Intent → Message
+  -- a planned change, with the address of its object
+  planned : Intent → (address : Option (List ℕ)) → Message
   -- the summary of a plan
   plan_summary : Totals → Message
   -- the summary of an apply or a destroy
@@ -46,7 +47,7 @@ abbrev pub address_of : Message → Option (List ℕ)
 address_of version = None
 address_of (step address action stage) = Some address
 address_of (provision address stage) = Some address
-address_of (planned intent) = None
+address_of (planned intent address) = None
 address_of (plan_summary totals) = None
 address_of (summary totals) = None
 address_of (diagnostic is_error address) = address
@@ -118,12 +119,12 @@ intent_named word =
     else if bytes_eq word (codes "replace") then intent.Replace
     else intent.Nothing
 
--- a planned change
+-- a planned change; an address that is no text counts as missing
 unfoldable pub planned_of : Data → Result Message Fault
 planned_of d = do
   change ← object_at path.ChangeAction (codes "change") path.Change d
   word ← text_at path.ChangeAction (codes "action") change
-  Ok (planned (intent_named word))
+  Ok (planned (intent_named word) (resource_address change))
 
 -- the totals of `changes`
 abbrev pub totals_in : Data → Result Totals Fault

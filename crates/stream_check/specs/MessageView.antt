@@ -8,7 +8,7 @@ abbrev pub message_view : in_tree.Message → Message
 message_view tree.Version = version
 message_view (tree.Step address action stage) = step address.now action stage
 message_view (tree.Provision address stage) = provision address.now stage
-message_view (tree.Planned intent) = planned intent
+message_view (tree.Planned intent address) = planned intent (option_copied address)
 message_view (tree.PlanSummary totals) = plan_summary totals
 message_view (tree.Summary totals) = summary totals
 message_view (tree.Diagnostic is_error address) = diagnostic is_error (option_copied address)

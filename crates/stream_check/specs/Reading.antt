@@ -17,7 +17,19 @@ IsNoAnswer (read.Found finding) = ⊥
 IsNoAnswer read.TooMany = ⊥
 IsNoAnswer (read.NoRun missing) = ⊥
 IsNoAnswer (read.Unread number) = ⊤
+IsNoAnswer (read.Uncreated failed) = ⊥
+IsNoAnswer read.Unwritten = ⊥
 IsNoAnswer read.Memory = ⊤
+
+-- the messages of an input could not be kept, so that it was not checked
+abbrev pub IsUnkept : ReadFault → Type 0
+IsUnkept (read.Found finding) = ⊥
+IsUnkept read.TooMany = ⊥
+IsUnkept (read.NoRun missing) = ⊥
+IsUnkept (read.Unread number) = ⊤
+IsUnkept (read.Uncreated failed) = ⊤
+IsUnkept read.Unwritten = ⊤
+IsUnkept read.Memory = ⊤
 
 -- the fault of that line, unless memory was refused
 abbrev pub IsFaultAt : Mode → (earlier : List Message) → (line : ℕ) → Fault → ReadFault → Type 0
@@ -27,6 +39,8 @@ IsFaultAt mode earlier line fault read.Memory = fault ≡ Memory
 IsFaultAt mode earlier line fault read.TooMany = ⊥
 IsFaultAt mode earlier line fault (read.NoRun missing) = ⊥
 IsFaultAt mode earlier line fault (read.Unread number) = ⊥
+IsFaultAt mode earlier line fault (read.Uncreated failed) = ⊥
+IsFaultAt mode earlier line fault read.Unwritten = ⊥
 
 -- The answer is the verdict on the lines, or there are too many lines. A failed read and refused
 -- memory give no verdict.
@@ -36,6 +50,8 @@ IsAnswer mode texts (Err (read.Found finding)) = (finding.fault ≢ Memory) × (
 IsAnswer mode texts (Err read.TooMany) = 2 ^ 32 < length texts
 IsAnswer mode texts (Err (read.NoRun missing)) = ⊥
 IsAnswer mode texts (Err (read.Unread number)) = ⊤
+IsAnswer mode texts (Err (read.Uncreated failed)) = ⊥
+IsAnswer mode texts (Err read.Unwritten) = ⊥
 IsAnswer mode texts (Err read.Memory) = ⊤
 
 -- why no run could be judged

@@ -21,11 +21,11 @@ entry_object lines_before entry =
     (with_number (codes "line") (line_after lines_before entry.line)
     (with_text (codes "kind") (kind_word entry.kind) (with_text (codes "address") entry.address.now no_members)))
 
-abbrev pub open_array : (lines_before : ℕ) → List OpenEntry → Data
-open_array lines_before entries = array (items_of (map (entry_object lines_before) entries))
+abbrev pub entries_array : (lines_before : ℕ) → List OpenEntry → Data
+entries_array lines_before entries = array (items_of (map (entry_object lines_before) entries))
 
-abbrev pub with_open : (lines_before : ℕ) → List OpenEntry → Members → Members
-with_open lines_before entries members = with_member (codes "open") (open_array lines_before entries) members
+abbrev pub with_entries : (name : List ℕ) → (lines_before : ℕ) → List OpenEntry → Members → Members
+with_entries name lines_before entries members = with_member name (entries_array lines_before entries) members
 
 -- what the faulty line is about
 abbrev pub with_object : Option Object → Members → Members
@@ -45,7 +45,8 @@ with_detail (fault.WrongTotals stated counted) report members =
     with_totals (codes "counted") counted (with_totals (codes "says") stated members)
 with_detail (fault.WrongPlanTotals stated counted) report members =
     with_totals (codes "counted") counted (with_totals (codes "says") stated members)
-with_detail fault.Unended report members = with_open report.lines_before report.open.now members
+with_detail fault.Unended report members = with_entries (codes "open") report.lines_before report.listed.now members
+with_detail fault.Planned report members = with_entries (codes "planned") report.lines_before report.listed.now members
 with_detail (fault.NoMessage lines) report members = with_number (codes "lines") lines members
 with_detail _ report members = members
 

@@ -12,8 +12,10 @@ use Rattle.stream_check.specs.declared.messages.totals.Totals.{Totals}
 use Rattle.stream_check.specs.declared.verdict.read_fault.ReadFault.{ReadFault}
 use Rattle.stream_check.specs.declared.verdict.read_fault.ReadFault.TheVariants as read
 use Rattle.stream_check.specs.declared.verdict.whole.Whole.{Whole}
-use Rattle.stream_check.specs.declared.rules.fault.Fault.TheVariants.{Unended}
+use Rattle.stream_check.specs.declared.rules.fault.Fault.{Fault}
+use Rattle.stream_check.specs.declared.rules.fault.Fault.TheVariants.{Planned, Unended}
 use Rattle.stream_check.specs.declared.rules.mode.Mode.{Mode}
+use Rattle.stream_check.specs.declared.rules.open_entry.OpenEntry.{OpenEntry}
 use Rattle.stream_check.specs.About.{about_line, object_view}
 use Rattle.stream_lines.specs.Cut.{after_lines, cut_lines, feed_at, line_at}
 use Rattle.stream_runs.specs.Counted.{runs_in}
@@ -21,6 +23,8 @@ use Rattle.stream_check.specs.Faults.{is_no_json, reports_front, reports_object}
 use Rattle.stream_check.specs.Judged.{judged}
 use Rattle.stream_check.specs.Objects.{with_whole}
 use Rattle.stream_check.specs.ReportObject.{with_report}
+use Rattle.stream_check.specs.Message.{Message}
+use Rattle.stream_check.specs.Unbegun.{AreAllUnbegun}
 use Rattle.stream_check.specs.Unended.{AreAllOpen}
 
 -- how much was done, or is planned
@@ -63,6 +67,8 @@ fault_status_of (read.Found finding) = 4
 fault_status_of read.TooMany = 2
 fault_status_of (read.NoRun missing) = 2
 fault_status_of (read.Unread number) = 2
+fault_status_of (read.Uncreated failed) = 2
+fault_status_of read.Unwritten = 3
 fault_status_of read.Memory = 3
 
 -- the exit status: 3 where the report failed, else that of the verdict
@@ -78,16 +84,22 @@ status_of (Err fault) (Ok done) = fault_status_of fault
 abbrev pub runs_from : (find : Bool) → List ℕ → ℕ
 runs_from find bytes = min (runs_in find (cut_lines bytes) + 2) 18446744073709551615
 
+-- what the report of a fault lists: what stands open, or what was planned and never began
+abbrev pub AreListed : Fault → List Message → List OpenEntry → Type 0
+AreListed Unended messages entries = AreAllOpen messages entries
+AreListed Planned messages entries = AreAllUnbegun messages entries
+AreListed _ messages entries = ⊤
+
 -- The report is true of these bytes. Its text is the line of its number. It says whether that line
--- was cut off, what its message is about, and all that stands open after the messages before the
--- fault.
+-- was cut off, what its message is about, and all that stands open, or never began, after the
+-- messages before the fault.
 pub record IsReportOf (mode : Mode) (bytes : List ℕ) (report : FindingReport) : Type 0 where
   pub text : reports_front report.finding.fault ≡ true → report.text.now ≡ line_at report.finding.line bytes
   pub cut_off : reports_front report.finding.fault ≡ true
       → report.is_cut_off ≡ (is_no_json report.finding.fault && not (feed_at report.finding.line bytes))
   pub object : option_map object_view report.object
       ≡ (if reports_object report.finding.fault then about_line mode.find (line_at report.finding.line bytes) else None)
-  pub «open» : report.finding.fault ≡ Unended → AreAllOpen (judged mode (cut_lines bytes)) report.«open».now
+  pub listed : AreListed report.finding.fault (judged mode (cut_lines bytes)) report.listed.now
   pub before : report.lines_before ≡ mode.lines_before
   pub runs : IfSome report.runs (λ n. n ≡ runs_from mode.find (after_lines report.finding.line bytes))
 
@@ -104,13 +116,15 @@ abbrev pub IsAnswerReported : Mode → (input : Option (List ℕ)) → Form → 
 IsAnswerReported mode input form (Ok whole) before after = Appends before after (whole_report form whole ++ 10 ∷ [])
 IsAnswerReported mode input form (Err fault) before after = IsFaultReported mode input form fault before after
 
--- The report needs memory: for a line, for an object, or for the name of an unreadable file.
+-- The report needs memory: for a line, for an object, or for the name of a file.
 abbrev pub TakesMemory : (is_named : Bool) → Result Whole ReadFault → Type 0
 TakesMemory is_named (Ok whole) = ⊤
 TakesMemory is_named (Err (read.Found finding)) = ⊤
 TakesMemory is_named (Err read.TooMany) = ⊥
 TakesMemory is_named (Err (read.NoRun missing)) = ⊥
 TakesMemory is_named (Err (read.Unread number)) = is_named ≡ true
+TakesMemory is_named (Err (read.Uncreated failed)) = ⊤
+TakesMemory is_named (Err read.Unwritten) = ⊤
 TakesMemory is_named (Err read.Memory) = ⊥
 
 -- the report goes to the output
@@ -121,6 +135,8 @@ GoesOut form.Text (Err (read.Found finding)) = ⊥
 GoesOut form (Err read.TooMany) = ⊥
 GoesOut form (Err (read.NoRun missing)) = ⊥
 GoesOut form (Err (read.Unread number)) = ⊥
+GoesOut form (Err (read.Uncreated failed)) = ⊥
+GoesOut form (Err read.Unwritten) = ⊥
 GoesOut form (Err read.Memory) = ⊥
 
 -- Why the report failed. Memory was refused and nothing was written, or the output could not be

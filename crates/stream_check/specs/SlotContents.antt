@@ -14,7 +14,7 @@ use Rattle.stream_message.specs.declared.presence.Presence.{Presence}
 use Rattle.stream_message.specs.declared.presence.Presence.TheVariants.{Missing, NoObject, Object}
 use Rattle.stream_message.specs.declared.stage.Stage.{Stage}
 use Rattle.stream_message.specs.declared.stage.Stage.TheVariants as stage
-use Rattle.stream_message.specs.SlotValues.{diagnostic_address_in, kind_in, provisioner_in}
+use Rattle.stream_message.specs.SlotValues.{address_in, diagnostic_address_in, kind_in, provisioner_in}
 use Rattle.stream_check.specs.declared.messages.action.Action.TheVariants.{Refresh}
 use Rattle.stream_check.specs.declared.messages.member_fault.MemberFault.TheVariants as member_fault
 use Rattle.stream_check.specs.declared.messages.path.Path.{Path}
@@ -92,8 +92,9 @@ refresh_of_slots stage hook = do
 
 abbrev pub planned_of_slots : LineSlots → Result Message Fault
 planned_of_slots line = do
-  word ← required_inner_text path.ChangeAction path.Change line.change
-  Ok (planned (intent_named word))
+  there ← required_object path.ChangeAction path.Change line.change.is
+  word ← required_text path.ChangeAction (option_map shallow_view line.change.action)
+  Ok (planned (intent_named word) (address_in line.change))
 
 abbrev pub totals_of_slots : ChangesSlots → Result Totals Fault
 totals_of_slots changes = do
@@ -138,7 +139,7 @@ abbrev pub about_result : (provisioner : Option (List ℕ)) → Result Message F
 about_result provisioner (Ok (step address action stage)) = Some (of_step action address)
 about_result provisioner (Ok (provision address stage)) = Some (of_provisioner provisioner address)
 about_result provisioner (Ok version) = None
-about_result provisioner (Ok (planned intent)) = None
+about_result provisioner (Ok (planned intent address)) = None
 about_result provisioner (Ok (plan_summary totals)) = None
 about_result provisioner (Ok (summary totals)) = None
 about_result provisioner (Ok (diagnostic is_error address)) = None

@@ -8,6 +8,7 @@ use Rattle.stream_check.specs.declared.rules.fault.Fault.{Fault}
 use Rattle.stream_check.specs.declared.rules.fault.Fault.TheVariants.{NoApply, NoEnd, NoMessage}
 use Rattle.stream_check.specs.declared.rules.tally.Tally.{Tally}
 use Rattle.stream_check.specs.Counted.{begun_counted, counted, failures_counted, planned_counted, is_used_up}
+use Rattle.stream_check.specs.Intents.{creates}
 use Rattle.stream_check.specs.Message.{Message}
 use Rattle.stream_check.specs.Tally.{awaits_outputs, begun_totals, completed_totals, failures_left, is_begin, is_error, is_error_without_address, is_foreign, is_plan_summary, is_planned, is_summary, is_version, line_of, no_totals, planned_totals, same_totals, share_of}
 
@@ -48,6 +49,10 @@ with_step action stage t = record t {
 
 abbrev pub with_planned : Intent → Tally → Tally
 with_planned intent t = record t { lines = t.lines + 1; planned = planned_counted intent t.planned; has_plan = true }
+
+-- a change of this intent is a create that waits until it begins
+abbrev pub awaits_create : Intent → Tally → Bool
+awaits_create intent t = creates intent && t.begun.added == 0
 
 abbrev pub with_plan_summary : Tally → Tally
 with_plan_summary t = record t { lines = t.lines + 1; plan_summary = Some (t.lines + 1); awaits_outputs = true }

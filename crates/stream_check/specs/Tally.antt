@@ -18,7 +18,7 @@ is_version version = true
 is_version _ = false
 
 abbrev pub is_planned : Message → Bool
-is_planned (planned intent) = true
+is_planned (planned intent address) = true
 is_planned _ = false
 
 abbrev pub is_plan_summary : Message → Bool
@@ -152,7 +152,7 @@ awaits_outputs (outputs ∷ earlier) = false
 awaits_outputs (version ∷ earlier) = awaits_outputs earlier
 awaits_outputs (step address action stage ∷ earlier) = awaits_outputs earlier
 awaits_outputs (provision address stage ∷ earlier) = awaits_outputs earlier
-awaits_outputs (planned intent ∷ earlier) = awaits_outputs earlier
+awaits_outputs (planned intent address ∷ earlier) = awaits_outputs earlier
 awaits_outputs (diagnostic is_error address ∷ earlier) = awaits_outputs earlier
 awaits_outputs (other ∷ earlier) = awaits_outputs earlier
 awaits_outputs (foreign ∷ earlier) = awaits_outputs earlier

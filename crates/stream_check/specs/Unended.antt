@@ -57,10 +57,14 @@ abbrev pub opens_at : List Message → (address : List ℕ) → List Opened
 opens_at messages address =
     opens_of (refreshes_matter messages) (failures_stand messages) address (state_of address messages)
 
--- All open entries after the messages. The addresses rise in the order of their bytes, and contain
--- each address at which something stands open.
-pub record AreAllOpen (messages : List Message) (entries : List OpenEntry) : Type 0 where
+-- All entries of addresses. The addresses rise in the order of their bytes, and contain each one
+-- that is meant.
+pub record AreAll (entries_of : (address : List ℕ) → List Opened) (is_meant : (address : List ℕ) → Bool) (entries : List OpenEntry) : Type 0 where
   pub addresses : List (List ℕ)
   pub in_order : IsStrictlySortedBy (slice_cmp nat_cmp) addresses
-  pub listed : map opened entries ≡ flat_map (opens_at messages) addresses
-  pub all : (address : List ℕ) → is_open_at messages address ≡ true → list_any (bytes_eq address) addresses ≡ true
+  pub listed : map opened entries ≡ flat_map entries_of addresses
+  pub all : (address : List ℕ) → is_meant address ≡ true → list_any (bytes_eq address) addresses ≡ true
+
+-- all open entries after the messages
+abbrev pub AreAllOpen : List Message → List OpenEntry → Type 0
+AreAllOpen messages entries = AreAll (opens_at messages) (is_open_at messages) entries

@@ -5,6 +5,7 @@ pub(crate) mod checked;
 pub(crate) mod checking;
 pub(crate) mod finding_report;
 pub(crate) mod findings;
+pub(crate) mod keeping;
 pub(crate) mod members;
 pub(crate) mod message_text;
 pub(crate) mod object;

@@ -7,7 +7,10 @@ mod rules;
 mod verdict;
 
 pub use command::checked::Checked;
+pub use command::findings::finding_words;
+pub use command::keeping::write_messages;
 pub use command::settings::{Form, Settings};
+pub use command::texts::whole_text;
 pub use command::tool::Check;
 pub use command::unreported::Unreported;
 pub use messages::action::Action;
@@ -26,8 +29,9 @@ pub use stream_lines::{FailedRead, Line, drain};
 pub use verdict::finding::Finding;
 pub use verdict::from_lines::check_lines;
 pub use verdict::from_reader::{check, check_with};
+pub use verdict::judge::{Judge, Unjudged, Verdict};
 pub use verdict::laws::{
     a_stream_without_errors_is_summed_up, each_step_ends_once, no_start_or_end_is_one_too_many,
 };
-pub use verdict::read_fault::ReadFault;
+pub use verdict::read_fault::{FailedCreation, ReadFault};
 pub use verdict::whole::Whole;

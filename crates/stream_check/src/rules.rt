@@ -12,3 +12,4 @@ pub(crate) mod open_steps;
 pub(crate) mod pending;
 pub(crate) mod piece;
 pub(crate) mod tally;
+pub(crate) mod unbegun;

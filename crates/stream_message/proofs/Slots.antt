@@ -93,7 +93,7 @@ module _ (k q : List ℕ) (d : Data) (ms : Members) (here : bytes_eq k q ≡ tru
       → shallow_view slots.head.timestamp ≡ shallow_of (located_after q d ms (codes "@timestamp"))
       → (selection.version ≡ true → shallow_view slots.terraform ≡ shallow_of (located_after q d ms (codes "terraform")))
       → (selection.hook ≡ true → IsHook slots.hook (located_after q d ms (codes "hook")))
-      → (selection.change ≡ true → inner_view slots.change ≡ inner_of (codes "action") (located_after q d ms (codes "change")))
+      → (selection.change ≡ true → IsHook slots.change (located_after q d ms (codes "change")))
       → (selection.changes ≡ true → AreChanges slots.changes (located_after q d ms (codes "changes")))
       → (selection.diagnostic ≡ true → IsDiagnostic selection.diagnostic_texts slots.diagnostic (located_after q d ms (codes "diagnostic")))
       → HoldsLine selection slots (put k d ms)
@@ -102,7 +102,7 @@ module _ (k q : List ℕ) (d : Data) (ms : Members) (here : bytes_eq k q ≡ tru
     head = head_after slots.head type_name timestamp;
     terraform = λ asked. after_member shallow_of (codes "terraform") k q d ms _ here (terraform asked);
     hook = λ asked. all_after (IsHook slots.hook) (codes "hook") k q d ms here (hook asked);
-    change = λ asked. after_member (inner_of (codes "action")) (codes "change") k q d ms _ here (change asked);
+    change = λ asked. all_after (IsHook slots.change) (codes "change") k q d ms here (change asked);
     changes = λ asked. all_after (AreChanges slots.changes) (codes "changes") k q d ms here (changes asked);
     diagnostic = λ asked. all_after (IsDiagnostic selection.diagnostic_texts slots.diagnostic) (codes "diagnostic") k q d ms here (diagnostic asked);
   }

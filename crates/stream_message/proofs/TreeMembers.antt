@@ -9,15 +9,16 @@ use Rattle.apply_json.specs.Parsed.{IsNoTree}
 use Rattle.apply_json.specs.ShallowView.{ShallowView, members_in, shallow_view, shallow_of, shallow_text, shallow_whole}
 use Rattle.apply_json.specs.Tree.{◌>>=◌, member_of, text_of, tree_of, unless_null}
 use Rattle.apply_json.proofs.Held.{member_in, text_in, whole_in}
+use Rattle.stream_message.specs.declared.hook_slots.HookSlots.{HookSlots}
 use Rattle.stream_message.specs.declared.inner_slot.InnerSlot.{InnerSlot}
 use Rattle.stream_message.specs.declared.line_head.LineHead.{LineHead}
 use Rattle.stream_message.specs.declared.line_slots.LineSlots.{LineSlots}
 use Rattle.stream_message.specs.declared.presence.Presence.{Presence}
 use Rattle.stream_message.specs.declared.selection.Selection.{Selection}
 use Rattle.stream_message.specs.Kinds.{kind_named}
-use Rattle.stream_message.specs.Members.{address_of, change_action, changes_count, changes_text, count_of, diagnostic_file, diagnostic_line, diagnostic_text, file_of, hook_count, hook_text, kind_of, line_of, message_time, type_of, version_of}
-use Rattle.stream_message.specs.Slots.{HoldsHead, HoldsLine, inner_of, inner_view, inside, shallow_value}
-use Rattle.stream_message.specs.SlotValues.{action_in, added_in, address_in, changed_in, detail_in, file_in, imported_in, kind_in, line_in, operation_in, diagnostic_address_in, provisioner_in, removed_in, seconds_in, severity_in, summary_in, text_in_inner, text_of_slot, time_in, type_in, version_in, whole_of_slot}
+use Rattle.stream_message.specs.Members.{address_of, changes_count, changes_text, count_of, diagnostic_file, diagnostic_line, diagnostic_text, file_of, hook_count, hook_text, kind_of, line_of, message_time, type_of, version_of}
+use Rattle.stream_message.specs.Slots.{HoldsHead, HoldsHook, HoldsLine, inner_of, inner_view, inside, shallow_value}
+use Rattle.stream_message.specs.SlotValues.{action_in, added_in, address_in, changed_in, detail_in, file_in, imported_in, kind_in, line_in, operation_in, diagnostic_address_in, provisioner_in, removed_in, seconds_in, severity_in, summary_in, text_of_slot, time_in, type_in, version_in, whole_of_slot}
 use Rattle.stream_message.specs.Timestamp.{instant_of}
 
 -- ---- a member of a value that was read
@@ -96,16 +97,19 @@ module _ (head : LineHead) (d : Data) (holds : HoldsHead head (members_in d)) wh
       ap (λ (o : Option (List ℕ)). o >>= λ name. (shallow_text (shallow_view head.timestamp) >>= instant_of)) type_is
       ∙ ap (λ (o : Option (List ℕ)). type_of d >>= λ name. (o >>= instant_of)) (ap shallow_text holds.timestamp ∙ sym (text_in (codes "@timestamp") d))
 
+-- ---- the address in `hook`, or in `change`
+
+pub slots_address : (slots : HookSlots) (o : Option Data) → HoldsHook slots (inside o) → address_in slots ≡ (((o >>= unless_null) >>= member_of (codes "resource")) >>= text_of (codes "addr"))
+slots_address slots o holds =
+    inner_text (codes "addr") (get_member (codes "resource") (inside o)) _
+    (inner_slot (codes "addr") _ slots.resource holds.resource)
+    ∙ ap (λ (p : Option Data). p >>= text_of (codes "addr")) (inner_object (codes "resource") o)
+
 -- ---- the members of a line
 
 module _ (selection : Selection) (line : LineSlots) (d : Data) (holds : HoldsLine selection line (members_in d)) where
   pub version_is : selection.version ≡ true → version_in line ≡ version_of d
   version_is selected = ap shallow_text (holds.terraform selected) ∙ sym (text_in (codes "terraform") d)
-
-  pub change_action_is : selection.change ≡ true → text_in_inner line.change ≡ change_action d
-  change_action_is selected =
-      inner_text (codes "action") (get_member (codes "change") (members_in d)) _ (inner_slot (codes "action") _ line.change (holds.change selected))
-      ∙ sym (ap (λ (o : Option Data). o >>= text_of (codes "action")) (member_in (codes "change") d))
 
   -- ---- `hook`
 
@@ -115,9 +119,7 @@ module _ (selection : Selection) (line : LineSlots) (d : Data) (holds : HoldsLin
 
     pub address_is : address_in line.hook ≡ address_of d
     address_is =
-        inner_text (codes "addr") (get_member (codes "resource") (inside (get_member (codes "hook") (members_in d)))) _
-        (inner_slot (codes "addr") _ line.hook.resource (holds.hook selected).1.resource)
-        ∙ ap (λ (o : Option Data). o >>= text_of (codes "addr")) (inner_object (codes "resource") (get_member (codes "hook") (members_in d)))
+        slots_address line.hook (get_member (codes "hook") (members_in d)) (holds.hook selected).1
         ∙ sym (ap (λ (o : Option Data). (o >>= member_of (codes "resource")) >>= text_of (codes "addr")) (member_in (codes "hook") d))
 
     pub action_is : action_in line.hook ≡ hook_text (codes "action") d

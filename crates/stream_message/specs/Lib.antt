@@ -1,6 +1,7 @@
 pub mod Kinds
 pub mod Located
 pub mod Members
+pub mod Runs
 pub mod Selected
 pub mod SlotValues
 pub mod Slots

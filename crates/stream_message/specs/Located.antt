@@ -1,5 +1,5 @@
 -- Where a message stands in a line of a log.
-use Rattle.std.specs.Prelude.{ℕ, ◌==◌, List, [], ◌∷◌, codes, take, Bool, false, not, if◌then◌else◌, Option, Some, None, is_some}
+use Rattle.std.specs.Prelude.{ℕ, ◌==◌, ◌++◌, List, [], ◌∷◌, codes, take, Bool, false, not, if◌then◌else◌, Option, Some, None, is_some}
 use Rattle.std.specs.Option.{option_and_then, option_map_or}
 use Rattle.std.specs.Str.{bytes_eq}
 use Rattle.apply_json.specs.Tree.{tree_of}
@@ -36,3 +36,7 @@ is_of_another_program text = option_map_or (λ d. not (is_some (type_of d))) (tr
 abbrev pub found_message : List ℕ → Option (List ℕ)
 found_message line =
     option_and_then (λ text. if is_of_another_program text then None else Some text) (message_text line)
+
+-- the message of a line of a log, and a line feed; nothing where the line has none
+abbrev pub found_line : List ℕ → List ℕ
+found_line line = option_map_or (λ message. message ++ 10 ∷ []) (found_message line) []

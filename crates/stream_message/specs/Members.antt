@@ -35,6 +35,10 @@ message_time d = type_of d >>= λ name. time_of d
 abbrev pub version_of : Data → Option (List ℕ)
 version_of d = text_of (codes "terraform") d
 
+-- the address of the resource that `hook` or `change` is about
+abbrev pub resource_address : Data → Option (List ℕ)
+resource_address d = member_of (codes "resource") d >>= text_of (codes "addr")
+
 -- the address of the resource that a hook is about
 abbrev pub address_of : Data → Option (List ℕ)
 address_of d = (member_of (codes "hook") d >>= member_of (codes "resource")) >>= text_of (codes "addr")
@@ -44,10 +48,6 @@ hook_text name d = member_of (codes "hook") d >>= text_of name
 
 abbrev pub hook_count : (name : List ℕ) → Data → Option ℕ
 hook_count name d = member_of (codes "hook") d >>= count_of name
-
--- the action of a planned change
-abbrev pub change_action : Data → Option (List ℕ)
-change_action d = member_of (codes "change") d >>= text_of (codes "action")
 
 abbrev pub changes_text : (name : List ℕ) → Data → Option (List ℕ)
 changes_text name d = member_of (codes "changes") d >>= text_of name

@@ -89,7 +89,7 @@ pub record HoldsLine (selection : Selection) (slots : LineSlots) (ms : Members) 
   pub head : HoldsHead slots.head ms
   pub terraform : selection.version ≡ true → shallow_view slots.terraform ≡ shallow_of (get_member (codes "terraform") ms)
   pub hook : selection.hook ≡ true → IsHook slots.hook (get_member (codes "hook") ms)
-  pub change : selection.change ≡ true → inner_view slots.change ≡ inner_of (codes "action") (get_member (codes "change") ms)
+  pub change : selection.change ≡ true → IsHook slots.change (get_member (codes "change") ms)
   pub changes : selection.changes ≡ true → AreChanges slots.changes (get_member (codes "changes") ms)
   pub diagnostic : selection.diagnostic ≡ true
       → IsDiagnostic selection.diagnostic_texts slots.diagnostic (get_member (codes "diagnostic") ms)

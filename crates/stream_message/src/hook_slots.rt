@@ -1,4 +1,4 @@
-//! The members of `hook`.
+//! The members of `hook`, and of `change`.
 
 ghost use Rattle.std.specs.Prelude.{◌≡◌, ◌<◌, Err, OnOk, Some, length};
 ghost use Rattle.std.specs.Option.{option_copied};
@@ -14,8 +14,9 @@ use crate::presence::Presence;
 use apply_json::{ReadFault, Reader, Shallow, Slots, is_text, read_object, skip_member};
 use std::alloc::Global;
 
-/// The members of `hook` (Machine-Readable UI, "Message Types"). Its methods count a member with
-/// another type than theirs as missing.
+/// The members of `hook`, or of `change`, which names an object and an action in the same way
+/// (Machine-Readable UI, "Message Types"). Its methods count a member with another type than theirs
+/// as missing.
 #[derive(Clone, Copy, Drop)]
 pub struct HookSlots<'a> {
     pub is: Presence,
@@ -31,7 +32,7 @@ impl<'a> HookSlots<'a> {
     ghost use Rattle.serde_json.specs.Data.{no_members};
     ghost use Rattle.std.specs.Prelude.{None};
 
-    /// Slots of a message without `hook`.
+    /// Slots of a message without the object.
     pub(crate) fn new() -> HookSlots<'a>
         ensures is { result.is ≡ presence_of None }
         ensures holds { HoldsHook result no_members }
@@ -45,7 +46,7 @@ impl<'a> HookSlots<'a> {
         }
     }
 
-    /// Reads `hook` into its slots. Arrays and objects may nest `depth` deep. `Err` with
+    /// Reads the object into its slots. Arrays and objects may nest `depth` deep. `Err` with
     /// `ReadFault::NotJson` where the value is no JSON. `Err` with `ReadFault::Memory` where memory
     /// is refused.
     pub(crate) fn read(

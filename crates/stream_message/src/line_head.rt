@@ -6,6 +6,7 @@ ghost use Rattle.apply_json.specs.Verbatim.{none_verbatim};
 ghost use Rattle.apply_json.specs.Parsed.{IsNoTree};
 ghost use Rattle.apply_json.specs.ShallowView.{members_in};
 ghost use Rattle.apply_json.specs.Tree.{tree_of};
+ghost use Rattle.stream_message.specs.Runs.{is_version};
 ghost use Rattle.stream_message.specs.Slots.{HoldsHead};
 ghost use Rattle.stream_message.specs.SlotValues.{kind_in, time_in};
 
@@ -47,6 +48,13 @@ impl<'a> LineHead<'a> {
             Some(name) => Some(Kind::named(name)),
             None => None,
         }
+    }
+
+    /// Whether the message is a `version`, with which a run of Terraform begins.
+    pub fn is_version(&self) -> bool
+        ensures { result ≡ is_version (kind_in self.now) }
+    {
+        matches!(self.kind(), Some(Kind::Version))
     }
 
     /// Returns the timestamp of the message, in microseconds since the start of 1970, rounded down.

@@ -9,7 +9,6 @@ ghost use Rattle.stream_message.specs.SlotValues.{version_in};
 use crate::changes_slots::ChangesSlots;
 use crate::diagnostic_slots::DiagnosticSlots;
 use crate::hook_slots::HookSlots;
-use crate::inner_slot::InnerSlot;
 use crate::line_head::LineHead;
 use crate::members::is_selected;
 use crate::selection::Selection;
@@ -26,8 +25,8 @@ pub struct LineSlots<'a> {
     /// `terraform`, the version.
     pub terraform: Shallow<'a>,
     pub hook: HookSlots<'a>,
-    /// `change`, with its `action`.
-    pub change: InnerSlot<'a>,
+    /// `change`, which names an object and an action as `hook` does.
+    pub change: HookSlots<'a>,
     pub changes: ChangesSlots<'a>,
     pub diagnostic: DiagnosticSlots<'a>,
 }
@@ -44,7 +43,7 @@ impl<'a> LineSlots<'a> {
             head: LineHead::new(),
             terraform: Shallow::Absent,
             hook: HookSlots::new(),
-            change: InnerSlot::new(),
+            change: HookSlots::new(),
             changes: ChangesSlots::new(),
             diagnostic: DiagnosticSlots::new(),
         }
@@ -73,7 +72,7 @@ impl<'a> Slots<'a> for LineSlots<'a> {
         if is_selected(self.selection.hook, name, "hook") {
             HookSlots::read(alloc, reader, depth, &mut self.hook)
         } else if is_selected(self.selection.change, name, "change") {
-            InnerSlot::read(alloc, reader, depth, "action", &mut self.change)
+            HookSlots::read(alloc, reader, depth, &mut self.change)
         } else if is_selected(self.selection.changes, name, "changes") {
             ChangesSlots::read(alloc, reader, depth, &mut self.changes)
         } else if is_selected(self.selection.diagnostic, name, "diagnostic") {

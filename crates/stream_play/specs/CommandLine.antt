@@ -104,6 +104,7 @@ abbrev pub is_fault : Result Unit PlayFault → Bool
 is_fault (Ok done) = false
 is_fault (Err fault) = true
 
--- nothing is reported: all was played, or the reader of the output is gone
-abbrev pub IsSilent : Result Unit PlayFault → Type 0
-IsSilent answer = (answer ≡ Ok tt) ⊎ (answer ≡ Err play.Gone)
+-- nothing is reported on standard error: the exit status is 0, all was played, or the reader of the
+-- output is gone
+abbrev pub IsQuiet : Result Unit PlayFault → (status : ℕ) → Type 0
+IsQuiet answer status = (status ≡ 0) ⊎ ((answer ≡ Ok tt) ⊎ (answer ≡ Err play.Gone))

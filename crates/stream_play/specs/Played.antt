@@ -1,12 +1,11 @@
 -- What playing writes.
 use Rattle.std.specs.Prelude.{◌≡◌, ◌≢◌, ◌<◌, ◌++◌, ◌-◌, ◌^◌, ℕ, List, [], ◌∷◌, Bool, if◌then◌else◌, length, take, ⊤, Option, Result, Ok, Err}
 use Rattle.std.specs.Io.KnownBytes.{Appends, Keeps}
-use Rattle.std.specs.Option.{option_map_or}
 use Rattle.stream_lines.specs.Cut.{after_lines, cut_lines, line_at}
 use Rattle.stream_lines.specs.Limits.{max_bytes}
 use Rattle.stream_lines.specs.declared.line_fault.LineFault.{LineFault}
 use Rattle.stream_lines.specs.declared.line_fault.LineFault.TheVariants as of
-use Rattle.stream_message.specs.Located.{found_message}
+use Rattle.stream_message.specs.Located.{found_line}
 use Rattle.stream_runs.specs.declared.fault.RunFault.{RunFault}
 use Rattle.stream_runs.specs.declared.fault.RunFault.TheVariants as run
 use Rattle.stream_tool.specs.declared.writing.WriteFault.{WriteFault}
@@ -31,10 +30,6 @@ unselected run.Memory = play.Memory
 abbrev pub write_fault : WriteFault → PlayFault
 write_fault write.Gone = play.Gone
 write_fault write.Unwritten = play.Unwritten
-
--- what is written of a line of a log: the message that is found in it, and a line feed
-abbrev pub found_line : List ℕ → List ℕ
-found_line line = option_map_or (λ message. message ++ 10 ∷ []) (found_message line) []
 
 abbrev pub found_lines : List (List ℕ) → List ℕ
 found_lines [] = []

@@ -3,7 +3,8 @@
 ghost use Rattle.std.specs.Prelude.{◌≡◌, IfErr, IfOk, IfSome, OnOk, OnSome};
 ghost use Rattle.std.specs.Io.Buffered.{reader_remaining};
 ghost use Rattle.std.specs.Io.KnownBytes.{IsAtEnd, Keeps};
-ghost use Rattle.stream_play.specs.Played.{IsLineWritten, IsPlayed, IsReadFault, found_line, written_of};
+ghost use Rattle.stream_message.specs.Located.{found_line};
+ghost use Rattle.stream_play.specs.Played.{IsLineWritten, IsPlayed, IsReadFault, written_of};
 ghost use Rattle.stream_lines.specs.Reading.{Gives};
 
 use crate::play_fault::PlayFault;

@@ -11,7 +11,7 @@ use Rattle.stream_lines.specs.declared.line.LineEnd.{LineEnd}
 use Rattle.stream_lines.specs.declared.line.LineEnd.TheVariants as next
 use Rattle.stream_lines.proofs.FirstLine.{cut_first}
 use Rattle.stream_runs.specs.Collected.{Lines, collected_after, cut_pieces, no_lines, piece_of, place_of, run_of, with_begun, with_line, with_place}
-use Rattle.stream_runs.specs.Runs.{begins_run}
+use Rattle.stream_message.specs.Runs.{begins_run}
 use Rattle.stream_runs.specs.Selected.{HasEnded, IsNoRun, IsRunOf, IsSelected}
 use Rattle.stream_runs.specs.declared.choice.RunChoice.{RunChoice}
 use Rattle.stream_runs.specs.declared.collecting.Place.{Place}

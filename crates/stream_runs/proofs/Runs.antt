@@ -9,7 +9,7 @@ use Rattle.stream_lines.specs.declared.line.LineEnd.{LineEnd}
 use Rattle.stream_lines.specs.declared.line.LineEnd.TheVariants as next
 use Rattle.stream_lines.proofs.FirstLine.{cut_first}
 use Rattle.stream_runs.specs.Counted.{runs_in}
-use Rattle.stream_runs.specs.Runs.{begins_run}
+use Rattle.stream_message.specs.Runs.{begins_run}
 
 -- the runs so far, and those in the rest of the input, are all
 abbrev pub Counts : Bool → (all left : Option (List ℕ)) → ℕ → Type 0

@@ -1,7 +1,7 @@
 -- The lines of a run.
 use Rattle.std.specs.Prelude.{ℕ, ◌+◌, ◌==◌, List, [], ◌∷◌, ◌++◌, Bool, ◌&&◌, nat_lt, if◌then◌else◌, max}
 use Rattle.stream_lines.specs.Cut.{first_line, onto_first}
-use Rattle.stream_runs.specs.Runs.{begins_run}
+use Rattle.stream_message.specs.Runs.{begins_run}
 use Rattle.stream_runs.specs.declared.choice.RunChoice.{RunChoice}
 use Rattle.stream_runs.specs.declared.choice.RunChoice.TheVariants.{Last, Number}
 use Rattle.stream_runs.specs.declared.collecting.Place.{Place}

@@ -1,7 +1,7 @@
 -- How many runs begin in some lines.
 use Rattle.std.specs.Prelude.{ℕ, ◌+◌, List, [], ◌∷◌, length, Bool, nat_lt, if◌then◌else◌}
 use Rattle.stream_lines.specs.Limits.{max_bytes}
-use Rattle.stream_runs.specs.Runs.{begins_run}
+use Rattle.stream_message.specs.Runs.{begins_run}
 
 -- the runs that begin in these lines; a line that is too long ends the count
 abbrev pub runs_in : (find : Bool) → List (List ℕ) → ℕ

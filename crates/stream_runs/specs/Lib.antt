@@ -2,5 +2,4 @@ pub mod Arguments
 pub mod Choices
 pub mod Collected
 pub mod Counted
-pub mod Runs
 pub mod Selected

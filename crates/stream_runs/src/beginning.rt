@@ -2,11 +2,11 @@
 
 ghost use Rattle.std.specs.Prelude.{◌≡◌, IfOk};
 ghost use Rattle.std.specs.Option.{option_copied};
-ghost use Rattle.stream_runs.specs.Runs.{begins_run, text_in};
+ghost use Rattle.stream_message.specs.Runs.{begins_run, text_in};
 
 use apply_json::{JsonFault, Scratch};
 use std::alloc::{AllocError, Global};
-use stream_message::{Kind, message_text, read_head};
+use stream_message::{message_text, read_head};
 
 /// Whether a run begins with the line: its message is a `version`. With `find` the line is one of a
 /// log, and the message is located in it first. `scratch` grows to the length of the line. `Err`
@@ -23,7 +23,7 @@ pub fn begins_run(
         return Ok(false);
     };
     match read_head(alloc, scratch, text) {
-        Ok(head) => Ok(matches!(head.kind(), Some(Kind::Version))),
+        Ok(head) => Ok(head.is_version()),
         Err(JsonFault::Memory) => Err(AllocError),
         Err(JsonFault::TooLarge | JsonFault::NotJson) => Ok(false),
     }

@@ -1,6 +1,6 @@
 -- A stream that is read line by line.
 use Rattle.std.proofs.Common.{◌≡◌, ◌≢◌, ◌<◌, ◌≤◌, ℕ, suc, ◌+◌, ◌-◌, List, [], ◌∷◌, length, get_or, take, drop, map, fold, Bool, true, false, Option, Some, None, Result, Ok, Err, refl, sym, ap, ◌∙◌, subst, ⊎_elim, arith, below_more}
-use Rattle.std.specs.Prelude.{IfErr, IfOk, IfSome}
+use Rattle.std.specs.Prelude.{IfErr, IfOk, IfSome, count_by}
 use Rattle.std.specs.Io.BufRead.{drop_through}
 use Rattle.std.proofs.lemmas.List.Sums.{fold_more}
 use lib.ListN.{length-map}
@@ -12,12 +12,14 @@ use Rattle.stream_lines.specs.Reading.{Gives}
 use Rattle.stream_lines.proofs.FirstLine.{cut_first}
 use Rattle.stream_lines.specs.declared.line.LineEnd.{LineEnd}
 use Rattle.stream_lines.specs.declared.line.LineEnd.TheVariants as next
+use Rattle.stream_message.specs.Runs.{begins_run}
 use Rattle.stream_timeline.specs.declared.reading.timeline_fault.TimelineFault.{TimelineFault}
 use Rattle.stream_timeline.specs.declared.reading.timeline_fault.TimelineFault.TheVariants as fault
 use Rattle.stream_timeline.specs.declared.reading.builder.TimelineBuilder.{TimelineBuilder}
 use Rattle.stream_timeline.specs.Lines.{AreRead, IsReadOf, log_line, timeline_in}
 use Rattle.stream_timeline.specs.TimelineRead.{TimelineRead, empty_timeline, max_lines, max_steps, with_line}
 use Rattle.stream_timeline.specs.Building.{ReadsMore, HasRead}
+use Rattle.stream_timeline.proofs.BeginningRuns.{all_begun}
 use Rattle.stream_timeline.proofs.Counted.{lines_read}
 
 module _ (find : Bool) where
@@ -38,6 +40,11 @@ module _ (find : Bool) where
 
   log_lines_read : (lines : List (List ℕ)) → (timeline_in find lines).lines ≡ length lines
   log_lines_read lines = lines_read (map (log_line find) lines) ∙ length-map lines (log_line find)
+
+  runs_read : (lines : List (List ℕ)) → (timeline_in find lines).runs ≡ count_by (begins_run find) lines
+  runs_read lines =
+      ap (λ (t : TimelineRead). t.runs) (line_by_line lines)
+      ∙ (all_begun find lines empty_timeline ∙ (let none_before : 0 + count_by (begins_run find) lines ≡ count_by (begins_run find) lines = omega arith in none_before))
 
   -- so many lines of the bytes were read, none of them is too long, and the rest is to come
   pub record Follows (bytes rest : List ℕ) (builder : TimelineBuilder) (n : ℕ) : Type 0 where
@@ -149,6 +156,7 @@ module _ (find : Bool) where
       → AreRead find lines builder.timeline
   all_read lines builder h short = record {
     is = h.is;
+    runs = ap (λ (t : TimelineRead). t.runs) h.is ∙ runs_read lines;
     begun = subst (λ (t : TimelineRead). t.begun ≤ max_steps) (sym h.is) h.begun;
     number = let timeline = h.lines in omega (arith, timeline, log_lines_read lines);
     lengths = λ k d l. subst (λ (line : List ℕ). length line ≤ max_bytes) (get_or_default lines k [] d l) (short k l);

@@ -39,12 +39,13 @@ placed_index (suc k) f (s ∷ ss) same =
 -- ---- what is told is known, and so are the places
 
 pub held : (old new : TimelineBuilder) (t u : TimelineRead) → IsReadingLine old t → new.timeline ≡ u → HoldsPlaces new.opened u.steps → u.begun ≤ max_steps
-    → u.lines ≡ t.lines → u.passed_over ≤ t.lines → u.errors.count ≤ t.lines → u.warnings.count ≤ t.lines → HasRead new u
-held old new t u h is at begun lines passed_over errors warnings = record {
+    → u.lines ≡ t.lines → u.runs ≡ t.runs → u.passed_over ≤ t.lines → u.errors.count ≤ t.lines → u.warnings.count ≤ t.lines → HasRead new u
+held old new t u h is at begun lines runs passed_over errors warnings = record {
   is = is;
   opened = at;
   begun = begun;
   lines = rw lines h.lines;
+  runs = rw (runs, lines) h.runs;
   passed_over = rw lines passed_over;
   errors = rw lines errors;
   warnings = rw lines warnings;
@@ -71,11 +72,11 @@ retained_places opened before after same bytes h = record {
 
 -- a change of neither the steps nor the counts
 pub extended_preserved : (old new : TimelineBuilder) (t u : TimelineRead) → IsReadingLine old t → new.timeline ≡ u → new.opened ≡ old.opened
-    → ((a : List ℕ) → places (is_open_at a) u.steps ≡ places (is_open_at a) t.steps) → index_bytes u.steps ≡ index_bytes t.steps → u.begun ≤ max_steps → u.lines ≡ t.lines → u.passed_over ≡ t.passed_over → u.errors.count ≤ t.lines → u.warnings.count ≤ t.lines
+    → ((a : List ℕ) → places (is_open_at a) u.steps ≡ places (is_open_at a) t.steps) → index_bytes u.steps ≡ index_bytes t.steps → u.begun ≤ max_steps → u.lines ≡ t.lines → u.runs ≡ t.runs → u.passed_over ≡ t.passed_over → u.errors.count ≤ t.lines → u.warnings.count ≤ t.lines
     → HasRead new u
-extended_preserved old new t u h is at same bytes begun lines passed_over errors warnings =
+extended_preserved old new t u h is at same bytes begun lines runs passed_over errors warnings =
     held old new t u h is (subst (λ (o : OpenPlaces). HoldsPlaces o u.steps) (sym at) (retained_places old.opened t.steps u.steps same bytes h.opened))
-    begun lines (rw passed_over (less _ _ h.passed_over)) errors warnings
+    begun lines runs (rw passed_over (less _ _ h.passed_over)) errors warnings
 
 -- ---- a step begins
 
@@ -105,7 +106,7 @@ begun_preserved old new t address action m h room is at filled bytes =
       filled = filled h.opened.filled;
       bytes = let before = h.opened.bytes in omega (arith, before, bytes, sum_by_push indexed t.steps (begun_step t.lines address action m));
     })
-    (begun_more old t h room) refl (less _ _ h.passed_over) (less _ _ h.errors) (less _ _ h.warnings)
+    (begun_more old t h room) refl refl (less _ _ h.passed_over) (less _ _ h.errors) (less _ _ h.warnings)
 
 -- ---- a step ends
 
@@ -169,7 +170,7 @@ end_preserved old new t address action failed m k h e is at filled bytes =
       filled = filled h.opened.filled;
       bytes = let before = h.opened.bytes in omega (arith, before, bytes, placed_index k (ended m failed) t.steps (λ s. refl));
     })
-    h.begun refl (less _ _ h.passed_over) (less _ _ h.errors) (less _ _ h.warnings))
+    h.begun refl refl (less _ _ h.passed_over) (less _ _ h.errors) (less _ _ h.warnings))
 
 -- ---- provisioners
 
@@ -181,7 +182,7 @@ provisioner_begun_preserved old new t address name m k h e room is at =
     rw e
     (extended_preserved old new t (record t { steps = at_place k (with_provisioner name m) t.steps; begun = t.begun + 1 }) h
     (is ∙ ap (λ (x : TimelineRead). record x { steps = at_place k (with_provisioner name m) x.steps; begun = x.begun + 1 }) h.is) at
-    (λ a. places_retained (is_open_at a) (with_provisioner name m) (λ s. refl) 0 k t.steps) (placed_index k (with_provisioner name m) t.steps (λ s. refl)) (begun_more old t h room) refl refl (less _ _ h.errors) (less _ _ h.warnings))
+    (λ a. places_retained (is_open_at a) (with_provisioner name m) (λ s. refl) 0 k t.steps) (placed_index k (with_provisioner name m) t.steps (λ s. refl)) (begun_more old t h room) refl refl refl (less _ _ h.errors) (less _ _ h.warnings))
 
 pub provisioner_ended_preserved : (old new : TimelineBuilder) (t : TimelineRead) (address : List ℕ) (failed : Bool) (m : ℤ) (k : ℕ) → IsReadingLine old t
     → last_of (places (is_open_at address) t.steps) ≡ Some k → passes_at k has_open_provisioner old.timeline.steps ≡ true
@@ -192,4 +193,4 @@ provisioner_ended_preserved old new t address failed m k h e passes is at =
     rw (e, there)
     (extended_preserved old new t (record t { steps = at_place k (with_provisioner_ended m failed) t.steps }) h
     (is ∙ ap (λ (x : TimelineRead). record x { steps = at_place k (with_provisioner_ended m failed) x.steps }) h.is) at
-    (λ a. places_retained (is_open_at a) (with_provisioner_ended m failed) (λ s. refl) 0 k t.steps) (placed_index k (with_provisioner_ended m failed) t.steps (λ s. refl)) h.begun refl refl (less _ _ h.errors) (less _ _ h.warnings))
+    (λ a. places_retained (is_open_at a) (with_provisioner_ended m failed) (λ s. refl) 0 k t.steps) (placed_index k (with_provisioner_ended m failed) t.steps (λ s. refl)) h.begun refl refl refl (less _ _ h.errors) (less _ _ h.warnings))

@@ -1,6 +1,7 @@
 pub mod Adding
 pub mod AtPlace
 pub mod BarLaws
+pub mod BeginningRuns
 pub mod Bounds
 pub mod ByLength
 pub mod Choosing

@@ -74,7 +74,7 @@ error_preserved old new t address d h is at =
     (subst (λ (o : OpenPlaces). HoldsPlaces o (map (marked_by_error address) t.steps)) (sym at)
     (retained_places old.opened t.steps (map (marked_by_error address) t.steps)
     (λ a. places_mapped (is_open_at a) (marked_by_error address) (still_open address a) 0 t.steps) (marked_index address t.steps) h.opened))
-    h.begun refl (less _ _ h.passed_over) (omega (arith, h.errors)) (less _ _ h.warnings)
+    h.begun refl refl (less _ _ h.passed_over) (omega (arith, h.errors)) (less _ _ h.warnings)
 
 pub error_at_preserved : (old new : TimelineBuilder) (t : TimelineRead) (a : List ℕ) (d : DiagnosticRead) → IsReadingLine old t
     → new.timeline ≡ record old.timeline { errors = added d old.timeline.errors; steps = marked_at (places_at old.opened a) old.timeline.steps }

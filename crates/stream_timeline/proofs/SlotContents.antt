@@ -13,9 +13,10 @@ use Rattle.stream_message.specs.declared.kind.Kind.{Kind}
 use Rattle.stream_message.specs.declared.line_slots.LineSlots.{LineSlots}
 use Rattle.stream_message.specs.declared.selection.Selection.{Selection}
 use Rattle.stream_message.specs.Kinds.{kind_named}
-use Rattle.stream_message.specs.Members.{address_of, count_of, file_of, hook_text, line_of, text_or_empty, time_of, type_of}
+use Rattle.stream_message.specs.Members.{address_of, count_of, file_of, hook_text, kind_of, line_of, text_or_empty, time_of, type_of}
+use Rattle.stream_message.specs.Runs.{is_version, is_version_text}
 use Rattle.stream_message.specs.Slots.{HoldsLine}
-use Rattle.stream_message.specs.SlotValues.{action_in, added_in, address_in, changed_in, detail_in, diagnostic_address_in, file_in, imported_in, line_in, operation_in, removed_in, severity_in, summary_in, version_in}
+use Rattle.stream_message.specs.SlotValues.{action_in, added_in, address_in, changed_in, detail_in, diagnostic_address_in, file_in, imported_in, kind_in, line_in, operation_in, removed_in, severity_in, summary_in, version_in}
 use Rattle.stream_message.proofs.TreeMembers as members
 use Rattle.stream_timeline.specs.Messages.{Content, Message, begin_of, begins, begins_provisioner, content_of, diagnostic_content, diagnostic_with, end_of, ends, ends_provisioner, message_at, message_of, no_totals, other, provisioner_begin_of, provisioner_end_of, refresh_begin_of, refresh_end_of, summary, summary_in as summary_of_changes, summary_of, tree_message, unusable, version}
 use Rattle.stream_timeline.specs.SlotContents.{begin_in, content_in, diagnostic_content_in, end_in, message_in, provisioner_begin_in, provisioner_end_in, refresh_begin_in, refresh_end_in, summary_content_in}
@@ -142,3 +143,9 @@ module _ (line : LineSlots) (d : Data) (holds : HoldsLine timeline_selection lin
 -- the message of a line with this tree
 pub message_read : (text : List ℕ) (line : LineSlots) (d : Data) → tree_of text ≡ Some d → HoldsLine timeline_selection line (members_in d) → message_in line ≡ message_of text
 message_read text line d tree holds = message_is line d holds ∙ sym (ap (λ (o : Option Data). o >>= tree_message) tree)
+
+-- a run begins with a line whose message is a `version`
+pub run_read : (text : List ℕ) (line : LineSlots) (d : Data) → tree_of text ≡ Some d → HoldsLine timeline_selection line (members_in d) → is_version (kind_in line.head) ≡ is_version_text text
+run_read text line d tree holds =
+    ap is_version (members.kind_is line.head d holds.head)
+    ∙ sym (ap (λ (o : Option Data). option_map_or (λ d. is_version (kind_of d)) o false) tree)

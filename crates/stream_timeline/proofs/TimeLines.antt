@@ -7,10 +7,13 @@ use Rattle.apply_json.specs.ShallowView.{members_in}
 use Rattle.apply_json.specs.Tree.{◌>>=◌}
 use Rattle.apply_json.proofs.Held.{is_name}
 use Rattle.stream_message.specs.declared.kind.Kind.{Kind}
+use Rattle.stream_message.specs.declared.kind.Kind.TheVariants as kind
 use Rattle.stream_message.specs.declared.line_head.LineHead.{LineHead}
 use Rattle.stream_message.specs.Kinds.{kind_named}
-use Rattle.stream_message.specs.Members.{time_of, type_of}
+use Rattle.stream_message.specs.Members.{kind_of, time_of, type_of}
+use Rattle.stream_message.specs.Runs.{is_version}
 use Rattle.stream_message.specs.Slots.{HoldsHead}
+use Rattle.stream_message.specs.SlotValues.{kind_in, time_in}
 use Rattle.stream_message.proofs.TreeMembers as members
 use Rattle.stream_timeline.specs.Messages.{Content, Message, content_of, message_at, other, tree_message}
 use Rattle.stream_timeline.specs.SlotContents.{is_time_only, time_only, time_only_in}
@@ -69,3 +72,23 @@ time_alone head d holds =
     each None t = tt
     each (Some name) None = none (is_time_only (kind_named name)) _
     each (Some name) (Some time) = of name time (is_time_only (kind_named name)) refl
+
+-- no run begins with such a line
+pub no_run_alone : (head : LineHead) (d : Data) → HoldsHead head (members_in d) → IfSome (time_only_in head) (λ time. is_version (kind_of d) ≡ false)
+no_run_alone head d holds = subst (λ (k : Option Kind). IfSome (time_only_in head) (λ time. is_version k ≡ false)) (members.kind_is head d holds) (each (kind_in head) (time_in head)) where
+  always : (o : Option ℤ) → IfSome o (λ time. false ≡ false)
+  always None = tt
+  always (Some time) = refl
+
+  each : (k : Option Kind) (t : Option ℤ) → IfSome (k >>= λ kind. cond (is_time_only kind) t None) (λ time. is_version k ≡ false)
+  each None t = tt
+  each (Some kind.Version) t = tt
+  each (Some (kind.Apply stage)) t = always (cond (is_time_only (kind.Apply stage)) t None)
+  each (Some (kind.Refresh stage)) t = always (cond (is_time_only (kind.Refresh stage)) t None)
+  each (Some (kind.Provision stage)) t = always (cond (is_time_only (kind.Provision stage)) t None)
+  each (Some (kind.Ephemeral stage)) t = always (cond (is_time_only (kind.Ephemeral stage)) t None)
+  each (Some kind.Planned) t = always (cond (is_time_only kind.Planned) t None)
+  each (Some kind.Summary) t = always (cond (is_time_only kind.Summary) t None)
+  each (Some kind.Diagnostic) t = always (cond (is_time_only kind.Diagnostic) t None)
+  each (Some kind.Outputs) t = always (cond (is_time_only kind.Outputs) t None)
+  each (Some kind.Other) t = always (cond (is_time_only kind.Other) t None)

@@ -1,5 +1,5 @@
 -- What a builder stores next to the time line, for private clauses.
-use Rattle.std.specs.Prelude.{◌≡◌, ◌<◌, ◌≤◌, ◌+◌, ◌++◌, ◌∷◌, ℕ, List, [], length, min, nat_lt, if◌then◌else◌, ⊤, Result, Ok, Err}
+use Rattle.std.specs.Prelude.{◌≡◌, ◌<◌, ◌≤◌, ◌+◌, ◌++◌, ◌∷◌, ℕ, List, [], length, min, nat_lt, Bool, if◌then◌else◌, ⊤, Result, Ok, Err}
 use Rattle.stream_timeline.specs.declared.reading.timeline_fault.TimelineFault.{TimelineFault}
 use Rattle.stream_timeline.specs.declared.reading.timeline_fault.TimelineFault.TheVariants as fault
 use Rattle.stream_timeline.specs.declared.reading.builder.TimelineBuilder.{TimelineBuilder}
@@ -15,6 +15,13 @@ added d ds = record {
   count = min (ds.count + 1) 18446744073709551615;
 }
 
+-- A line is counted, and the run that begins with it. The count of runs stops at its greatest value.
+abbrev pub counted_up : (begins_run : Bool) → TimelineRead → TimelineRead
+counted_up begins_run t = record t {
+  lines = t.lines + 1;
+  runs = if begins_run then min (t.runs + 1) 18446744073709551615 else t.runs;
+}
+
 -- the steps at these places are marked, one after another
 abbrev pub marked_at : List ℕ → List StepRead → List StepRead
 marked_at [] steps = steps
@@ -28,17 +35,19 @@ pub record HasRead (builder : TimelineBuilder) (timeline : TimelineRead) : Type 
   pub opened : HoldsPlaces builder.opened timeline.steps
   pub begun : timeline.begun ≤ max_steps
   pub lines : timeline.lines ≤ max_lines
+  pub runs : timeline.runs ≤ timeline.lines
   pub passed_over : timeline.passed_over ≤ timeline.lines
   pub errors : timeline.errors.count ≤ timeline.lines
   pub warnings : timeline.warnings.count ≤ timeline.lines
 
--- As `HasRead`, but a line was counted that has still to be applied. So each other count may grow
--- by one.
+-- As `HasRead`, but a line was counted, with its run, that has still to be applied. So each other
+-- count may grow by one.
 pub record IsReadingLine (builder : TimelineBuilder) (timeline : TimelineRead) : Type 0 where
   pub is : builder.timeline ≡ timeline
   pub opened : HoldsPlaces builder.opened timeline.steps
   pub begun : timeline.begun ≤ max_steps
   pub lines : timeline.lines ≤ max_lines
+  pub runs : timeline.runs ≤ timeline.lines
   pub passed_over : timeline.passed_over < timeline.lines
   pub errors : timeline.errors.count < timeline.lines
   pub warnings : timeline.warnings.count < timeline.lines

@@ -1,8 +1,9 @@
 -- The result of reading a whole stream.
-use Rattle.std.specs.Prelude.{◌≡◌, ◌<◌, ◌≤◌, ℕ, All, Bool, List, codes, if◌then◌else◌, length, map, take, unwrap_or, ⊤, None, Result, Ok, Err}
+use Rattle.std.specs.Prelude.{◌≡◌, ◌<◌, ◌≤◌, ℕ, All, Bool, List, codes, count_by, if◌then◌else◌, length, map, take, unwrap_or, ⊤, None, Result, Ok, Err}
 use Rattle.stream_lines.specs.Cut.{cut_lines, line_at}
 use Rattle.stream_lines.specs.Limits.{max_bytes}
 use Rattle.stream_message.specs.Located.{message_text}
+use Rattle.stream_message.specs.Runs.{begins_run}
 use Rattle.stream_timeline.specs.declared.reading.timeline_fault.TimelineFault.{TimelineFault}
 use Rattle.stream_timeline.specs.declared.reading.timeline_fault.TimelineFault.TheVariants as fault
 use Rattle.stream_timeline.specs.TimelineRead.{TimelineRead, is_blank_line, max_lines, max_steps, timeline_of}
@@ -17,10 +18,11 @@ log_line find line =
 abbrev pub timeline_in : (find : Bool) → List (List ℕ) → TimelineRead
 timeline_in find lines = timeline_of (map (log_line find) lines)
 
--- The time line is that of these lines. No line is longer than the limit, and the lines, steps and
--- provisioners are not more than theirs.
+-- The time line is that of these lines, and its runs are those that begin in them. No line is longer
+-- than the limit, and the lines, steps and provisioners are not more than theirs.
 pub record AreRead (find : Bool) (lines : List (List ℕ)) (timeline : TimelineRead) : Type 0 where
   pub is : timeline ≡ timeline_in find lines
+  pub runs : timeline.runs ≡ count_by (begins_run find) lines
   pub begun : timeline.begun ≤ max_steps
   pub number : length lines ≤ max_lines
   pub lengths : All (λ line. length line ≤ max_bytes) lines

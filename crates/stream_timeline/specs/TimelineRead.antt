@@ -3,6 +3,7 @@ use Rattle.std.specs.Prelude.{ℕ, ◌+◌, ℤ, List, [], ◌∷◌, ◌++◌, 
 use Rattle.std.specs.List.{fold, list_all}
 use Rattle.std.specs.Option.{option_map_or}
 use Rattle.serde_json.specs.Data.{Data}
+use Rattle.stream_message.specs.Runs.{is_version_text}
 use Rattle.stream_timeline.specs.declared.reading.time_range.TimeRange.{TimeRange}
 use Rattle.stream_timeline.specs.declared.reading.totals.Totals.{Totals}
 use Rattle.stream_timeline.specs.Details.{DiagnosticRead, is_blank}
@@ -18,6 +19,8 @@ pub record DiagnosticsRead : Type 0 where
 pub record TimelineRead : Type 0 where
   -- how many lines there were
   pub lines : ℕ
+  -- how many runs of Terraform begin in them
+  pub runs : ℕ
   -- how many of them were passed over; blank lines are not counted
   pub passed_over : ℕ
   pub version : Option (List ℕ)
@@ -124,8 +127,15 @@ with_tree d t = with_message_or_passed_over (tree_message d) t
 abbrev pub with_line_content : List ℕ → TimelineRead → TimelineRead
 with_line_content line t = if is_blank_line line then t else with_message_or_passed_over (message_of line) t
 
+-- a line is counted, and the run that begins with it
+abbrev pub counted : (begins_run : Bool) → TimelineRead → TimelineRead
+counted begins_run t = record t { lines = t.lines + 1; runs = if begins_run then t.runs + 1 else t.runs }
+
+abbrev pub counted_line : List ℕ → TimelineRead → TimelineRead
+counted_line line t = counted (is_version_text line) t
+
 abbrev pub with_line : List ℕ → TimelineRead → TimelineRead
-with_line line t = with_line_content line (record t { lines = t.lines + 1 })
+with_line line t = with_line_content line (counted_line line t)
 
 abbrev pub no_diagnostics : DiagnosticsRead
 no_diagnostics = record { stored = []; count = 0 }
@@ -134,6 +144,7 @@ no_diagnostics = record { stored = []; count = 0 }
 abbrev pub empty_timeline : TimelineRead
 empty_timeline = record {
   lines = 0;
+  runs = 0;
   passed_over = 0;
   version = None;
   totals = None;

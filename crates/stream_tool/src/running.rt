@@ -65,8 +65,8 @@ pub fn run_tool<T: Tool, F: Files, R: Read, W: Write, E: Write>(
         → HasNotRun T.arguments (map string_bytes words.now) (W.contents out.old) (W.contents out.new) result.status }
     ensures help { ((app : App) → T.arguments.IsCommand app → fault_of app (map string_bytes words.now) ≡ DisplayHelp ∷ [])
         → (result.status ≡ 0) ⊎ (result.status ≡ 3) }
-    ensures quiet { result.status ≤ T.most_quiet → result.status ≤ 1 → Keeps (E.contents faults.old) (E.contents faults.new) }
-    ensures silent { IfSome result.answer (λ answer. T.is_silent answer → Keeps (E.contents faults.old) (E.contents faults.new)) }
+    ensures quiet { IfSome result.answer (λ answer. T.is_quiet answer result.status → Keeps (E.contents faults.old) (E.contents faults.new)) }
+    ensures unrun { result.answer ≡ None → result.status ≤ 1 → Keeps (E.contents faults.old) (E.contents faults.new) }
     ensures statuses { (result.status ≤ 3) ⊎ (result.status ≤ T.most_status) }
     ensures read { result.answer ≡ None → 1 ≤ result.status → is_terminal ≡ false → OnOk result.rest (IsAtEnd (R.remaining input.new)) }
 {
@@ -109,8 +109,8 @@ fn run_settings<T: Tool, F: Files, R: Read, W: Write, E: Write>(
         words (R.remaining input.old) (R.remaining input.new) (W.contents out.old) (W.contents out.new) result) }
     ensures ended { (words : List (List ℕ)) → State T.arguments words settings.now → result.answer ≡ None
         → HasNotRun T.arguments words (W.contents out.old) (W.contents out.new) result.status }
-    ensures quiet { result.status ≤ T.most_quiet → result.status ≤ 1 → Keeps (E.contents faults.old) (E.contents faults.new) }
-    ensures silent { IfSome result.answer (λ answer. T.is_silent answer → Keeps (E.contents faults.old) (E.contents faults.new)) }
+    ensures quiet { IfSome result.answer (λ answer. T.is_quiet answer result.status → Keeps (E.contents faults.old) (E.contents faults.new)) }
+    ensures unrun { result.answer ≡ None → result.status ≤ 1 → Keeps (E.contents faults.old) (E.contents faults.new) }
     ensures statuses { (result.status ≤ 3) ⊎ (result.status ≤ T.most_status) }
     ensures read { result.answer ≡ None → is_terminal ≡ false → OnOk result.rest (IsAtEnd (R.remaining input.new)) }
 {
@@ -143,8 +143,7 @@ pub fn run_input<T: Tool, F: Files, R: Read, W: Write, E: Write>(
 ) -> Outcome<T::Answer>
     ensures gives { OnValue result.answer (λ answer. T.gives tool.now F.File F.File.remaining settings.now (R.remaining input.old)
         (W.contents out.old) (W.contents out.new) answer result.status) }
-    ensures quiet { result.status ≤ T.most_quiet → result.status ≤ 1 → Keeps (E.contents faults.old) (E.contents faults.new) }
-    ensures silent { IfSome result.answer (λ answer. T.is_silent answer → Keeps (E.contents faults.old) (E.contents faults.new)) }
+    ensures quiet { IfSome result.answer (λ answer. T.is_quiet answer result.status → Keeps (E.contents faults.old) (E.contents faults.new)) }
     ensures statuses { (result.status ≤ 3) ⊎ (result.status ≤ T.most_status) }
     ensures read { IfSome result.answer (λ answer. T.reads_on answer ≡ true → OnOk result.rest (IsAtEnd (R.remaining input.new))) }
 {

@@ -38,11 +38,9 @@ pub trait Tool {
     /// Whether the rest of the input has to be read after this answer.
     ghost reads_on: { Self.Answer → Bool };
 
-    /// With an exit status up to this one, nothing is reported on standard error.
-    ghost most_quiet: { ℕ };
-
-    /// With this answer, nothing is reported on standard error.
-    ghost is_silent: { Self.Answer → Type 0 };
+    /// Whether nothing is reported on standard error where the tool ends with this answer and exit
+    /// status.
+    ghost is_quiet: { Self.Answer → (status : ℕ) → Type 0 };
 
     /// The greatest exit status.
     ghost most_status: { ℕ };
@@ -73,7 +71,7 @@ pub trait Tool {
 
     /// The answer where memory was refused before the tool ran.
     fn without_memory<F: Files>(&self, files: &F) -> Self::Answer
-        ensures reported { is_silent result → ⊥ }
+        ensures reported { is_quiet result 3 → ⊥ }
         ensures gives { (settings : Self.Settings) (given before after : Option (List ℕ)) → Keeps before after
             → gives self.now F.File F.File.remaining settings given before after result 3 };
 
@@ -90,7 +88,6 @@ pub trait Tool {
     ) -> Report<Self::Answer>
         ensures gives { gives self.now F.File F.File.remaining settings.now (reader_remaining R.remaining reader.old)
             (W.contents out.old) (W.contents out.new) result.answer result.status }
-        ensures quiet { result.status ≤ most_quiet → Keeps (E.contents faults.old) (E.contents faults.new) }
-        ensures silent { is_silent result.answer → Keeps (E.contents faults.old) (E.contents faults.new) }
+        ensures quiet { is_quiet result.answer result.status → Keeps (E.contents faults.old) (E.contents faults.new) }
         ensures statuses { result.status ≤ most_status };
 }

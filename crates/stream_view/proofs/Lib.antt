@@ -1,5 +1,8 @@
+pub mod Comments
 pub mod Controls
-pub mod Drawn
+pub mod CountedRuns
+pub mod DrawnStreams
+pub mod Extents
 pub mod Growing
 pub mod Heads
 pub mod Headings
@@ -9,5 +12,5 @@ pub mod Parsed
 pub mod Parts
 pub mod Pieces
 pub mod Rows
-pub mod MessageText
+pub mod MarkdownLaws
 pub mod Sent

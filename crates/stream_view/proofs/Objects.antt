@@ -8,17 +8,17 @@ use Rattle.std.proofs.KnownBytes.{Appends-kept, Appends-nil, Appends-trans}
 use Rattle.std.proofs.lemmas.Bool.Decides.{nat_tests}
 use Rattle.std.proofs.lemmas.List.{drop_all, drop_more}
 use Rattle.serde_json.proofs.OnLiterals.{serde_json_on_literals}
-use Rattle.serde_json.specs.Data.{Data, Items, boolean, string}
+use Rattle.serde_json.specs.Data.{Data, boolean, string}
 use Rattle.serde_json.specs.Written.{comma_if, compact_text, items_text}
 use Rattle.stream_timeline.specs.declared.reading.totals.Totals.{Totals}
 use Rattle.stream_timeline.specs.Intervals.{length_of, span_of}
 use Rattle.stream_timeline.specs.Steps.{StepRead}
 use Rattle.stream_view.specs.Heading.{is_not_ended}
 use Rattle.stream_view.specs.Json.{JsonWritten, StepsSoFar, StepsWritten, count_data, figures_text, listed_text, named, number_data, step_data, steps_from, summary_data, timeline_data, version_data}
-use Rattle.stream_view.specs.MessageTexts.{AppendsText}
+use Rattle.term_words.specs.MessageTexts.{AppendsText}
 use Rattle.stream_view.specs.declared.picture.Picture.{Picture}
-use Rattle.stream_view.specs.declared.words.message_text.MessageText.{MessageText}
-use Rattle.stream_view.proofs.MessageText.{text_as, text_then}
+use Rattle.term_words.specs.declared.message_text.MessageText.{MessageText}
+use Rattle.term_words.proofs.Appended.{text_as, text_then}
 
 -- ---- members
 
@@ -38,7 +38,7 @@ totals_is totals = refl
 pub step_is : (picture : Picture) (place : ℕ) (step : StepRead)
     → named (codes "{\"address\":") (string step.address)
     ++ (named (codes ",\"action\":") (string step.action)
-    ++ (named (codes ",\"line\":") (number_data step.line)
+    ++ (named (codes ",\"line\":") (number_data (picture.lines_before + step.line))
     ++ (named (codes ",\"begin\":") (number_data (int_gap picture.time_range.first step.begin))
     ++ (named (codes ",\"length\":") (number_data (length_of picture.time_range step))
     ++ (named (codes ",\"ended\":") (boolean (is_some step.end))

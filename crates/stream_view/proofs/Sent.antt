@@ -1,5 +1,5 @@
 -- What was written, with more of it.
-use Rattle.std.proofs.Common.{◌≡◌, ◌∙◌, ℕ, ◌+◌, ◌<◌, ◌≤◌, ◌∷◌, [], ◌++◌, List, Bool, Option, ap, subst, sym, get_or, length, take, append-nil, arith}
+use Rattle.std.proofs.Common.{◌≡◌, ◌∙◌, ℕ, ◌+◌, ◌<◌, ◌≤◌, ◌∷◌, [], ◌++◌, List, Bool, Option, ap, false, refl, subst, sym, get_or, length, take, append-nil, arith}
 use Rattle.std.specs.Prelude.{All, map}
 use Rattle.std.specs.List.{AllZip, flat_map}
 use Rattle.std.specs.Io.KnownBytes.{Appends, Keeps}
@@ -10,8 +10,9 @@ use Rattle.std.proofs.lemmas.List.Elements.{All-append}
 use Rattle.stream_timeline.specs.declared.rows.choosing.Rows.{Rows}
 use Rattle.stream_view.specs.LeftOut.{IsLeftOutAs, left_out_shown}
 use Rattle.stream_view.specs.Lines.{IsLine, LinesWritten, line_bytes, text_bytes}
+use Rattle.stream_view.specs.Markdown.{InsideWritten}
 use Rattle.stream_view.specs.Rows.{AreTicks, Layout, layout_of, row_at, rows_of}
-use Rattle.stream_view.specs.Texts.{HeadLinesWritten, IsHeadedBy, LeftOutWritten, RowsWritten, TextWritten, heading_characters}
+use Rattle.stream_view.specs.Texts.{HeadLinesWritten, IsHeadedBy, LeftOutWritten, RowsWritten, TextWritten, heading_characters, indent_of}
 use Rattle.stream_view.specs.declared.picture.Picture.{Picture}
 use Rattle.stream_view.specs.declared.text.line.Line.{Line}
 use Rattle.stream_view.specs.declared.text.line_piece.LinePiece.{LinePiece}
@@ -117,18 +118,41 @@ left_out_written style indent rows a b lines had is fine sent same_parts =
       written = line_buffer.written;
     }
 
+-- some lines, the rows, the line about the steps without a row, and more lines
+record AreJoined (width : ℕ) (colour : Bool) (lines : List (List LinePiece)) (a b : Option (List ℕ)) : Type 0 where
+  fine : All (IsLine width) lines
+  written : Appends a b (text_bytes colour lines)
+
+joined : (width : ℕ) (colour : Bool) (indent : ℕ) (picture : Picture) (ticks : List ℕ) (a b c d e : Option (List ℕ)) (head : LinesWritten width colour a b)
+    → RowsWritten width colour picture ticks picture.rows.places.items b c → (left : LeftOutWritten width colour indent picture.rows c d)
+    → (tail : LinesWritten width colour d e) → AreJoined width colour (head.lines ++ rows_of width picture ticks ++ left.lines ++ tail.lines) a e
+joined width colour indent picture ticks a b c d e head written left tail =
+    let rows = rows_of width picture ticks in
+    let bytes : List (List LinePiece) → List ℕ = text_bytes colour in
+    let together : bytes (head.lines ++ rows ++ left.lines ++ tail.lines) ≡ bytes head.lines ++ bytes rows ++ bytes left.lines ++ bytes tail.lines =
+    flat_map-append (line_bytes colour) (head.lines ++ rows ++ left.lines) tail.lines
+    ∙ ap (λ bs. bs ++ bytes tail.lines) (flat_map-append (line_bytes colour) (head.lines ++ rows) left.lines
+    ∙ ap (λ bs. bs ++ bytes left.lines) (flat_map-append (line_bytes colour) head.lines rows)) in
+    record {
+      fine = All-append (IsLine width) (head.lines ++ rows ++ left.lines) tail.lines (All-append (IsLine width) (head.lines ++ rows) left.lines
+          (All-append (IsLine width) head.lines rows head.fine written.fine) left.fine) tail.fine;
+      written = subst (Appends a e) (sym together)
+          (Appends-trans a d e _ _ (Appends-trans a c d _ _ (Appends-trans a b c _ _ head.written written.written) left.written) tail.written);
+    }
+
+-- the indent of the line about the steps without a row
+left_out_at : (width : ℕ) (layout : Layout) (picture : Picture) (lines : List (List LinePiece)) → layout ≡ layout_of width picture
+    → IsLeftOutAs width (layout.action + 1) (left_out_shown picture.rows) lines → IsLeftOutAs width (indent_of width picture) (left_out_shown picture.rows) lines
+left_out_at width layout picture lines same is = subst (λ (l : Layout). IsLeftOutAs width (l.action + 1) (left_out_shown picture.rows) lines) same is
+
 -- a head, the rows, what has none, and a tail
 pub text_written : (width : ℕ) (colour : Bool) (layout : Layout) (picture : Picture) (ticks : List ℕ) (a b c d e f : Option (List ℕ))
     → layout ≡ layout_of width picture → AreTicks (layout_of width picture) ticks → HeadLinesWritten width colour picture a b
     → RowsWritten width colour picture ticks picture.rows.places.items b c → LeftOutWritten width colour (layout.action + 1) picture.rows c d
     → LinesWritten width colour d e → Keeps e f → TextWritten width colour picture a f
 text_written width colour layout picture ticks a b c d e f same are_ticks head written left tail unchanged =
-    let rows = rows_of width picture ticks in
-    let bytes : List (List LinePiece) → List ℕ = text_bytes colour in
-    let joined : bytes (head.lines ++ rows ++ left.lines ++ tail.lines) ≡ bytes head.lines ++ bytes rows ++ bytes left.lines ++ bytes tail.lines =
-    flat_map-append (line_bytes colour) (head.lines ++ rows ++ left.lines) tail.lines
-    ∙ ap (λ bs. bs ++ bytes tail.lines) (flat_map-append (line_bytes colour) (head.lines ++ rows) left.lines
-    ∙ ap (λ bs. bs ++ bytes left.lines) (flat_map-append (line_bytes colour) head.lines rows)) in
+    let above : LinesWritten width colour a b = record { lines = head.lines; fine = head.fine; written = head.written } in
+    let all = joined width colour (layout.action + 1) picture ticks a b c d e above written left tail in
     record {
       head = head.lines;
       ticks = ticks;
@@ -136,12 +160,31 @@ text_written width colour layout picture ticks a b c d e f same are_ticks head w
       tail = tail.lines;
       headed = head.headed;
       are_ticks = are_ticks;
-      is_left_out = subst (λ (l : Layout). IsLeftOutAs width (l.action + 1) (left_out_shown picture.rows) left.lines) same left.is;
-      fine = All-append (IsLine width) (head.lines ++ rows ++ left.lines) tail.lines (All-append (IsLine width) (head.lines ++ rows) left.lines
-          (All-append (IsLine width) head.lines rows head.fine written.fine) left.fine) tail.fine;
-      written = subst (Appends a f) (sym joined)
-          (Appends-kept a e f _ (Appends-trans a d e _ _ (Appends-trans a c d _ _ (Appends-trans a b c _ _ head.written written.written) left.written)
-          tail.written) unchanged);
+      is_left_out = left_out_at width layout picture left.lines same left.is;
+      fine = all.fine;
+      written = Appends-kept a e f _ all.written unchanged;
+    }
+
+-- the same without a heading, in Markdown
+pub inside_written : (layout : Layout) (picture : Picture) (ticks : List ℕ) (a b c d e : Option (List ℕ)) → layout ≡ layout_of 100 picture
+    → AreTicks (layout_of 100 picture) ticks → LinesWritten 100 false a b → RowsWritten 100 false picture ticks picture.rows.places.items b c
+    → LeftOutWritten 100 false (layout.action + 1) picture.rows c d → LinesWritten 100 false d e → InsideWritten picture a e
+inside_written layout picture ticks a b c d e same are_ticks head written left tail =
+    let all = joined 100 false (layout.action + 1) picture ticks a b c d e head written left tail in
+    let lines = head.lines ++ rows_of 100 picture ticks ++ left.lines ++ tail.lines in
+    record {
+      inside = text_bytes false lines;
+      is = record {
+        head = head.lines;
+        ticks = ticks;
+        left_out = left.lines;
+        tail = tail.lines;
+        are_ticks = are_ticks;
+        is_left_out = left_out_at 100 layout picture left.lines same left.is;
+        fine = all.fine;
+        is = refl;
+      };
+      written = all.written;
     }
 
 pub as_lines : (width : ℕ) (colour : Bool) (picture : Picture) (a b : Option (List ℕ)) → TextWritten width colour picture a b

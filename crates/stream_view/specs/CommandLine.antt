@@ -11,6 +11,7 @@ use Rattle.clap.specs.declared.builder.value_parser.ValueParser.{ValueParser}
 use Rattle.clap.specs.declared.builder.value_parser.ValueParser.TheVariants as values
 use Rattle.clap.specs.declared.parser.matches.ValueSource.{ValueSource}
 use Rattle.clap.specs.declared.parser.matches.ValueSource.TheVariants as source
+use Rattle.stream_runs.specs.Arguments.{is_run_wrong, run_rule, stated_run}
 use Rattle.stream_tool.specs.Arguments.{Arguments}
 use Rattle.stream_tool.specs.Words.{file_rule, flag_rule, unless_dash}
 use Rattle.stream_view.specs.declared.command.colour.Colour.{Colour}
@@ -64,8 +65,8 @@ abbrev pub command_line : (colours sorts : ValueParser) → App
 command_line colours sorts = record {
   top = record (new_shape (codes "applystream view")) {
     no_binary_name = true;
-    rules = flag_rule (codes "svg") ∷ flag_rule (codes "json") ∷ number_named (codes "rows") 1 100000 ∷ flag_rule (codes "all") ∷ sort_rule sorts ∷ width_rule
-        ∷ colour_rule colours ∷ flag_rule (codes "find") ∷ file_rule ∷ [];
+    rules = flag_rule (codes "svg") ∷ flag_rule (codes "json") ∷ flag_rule (codes "markdown") ∷ number_named (codes "rows") 1 100000 ∷ flag_rule (codes "all") ∷ sort_rule sorts ∷ width_rule
+        ∷ colour_rule colours ∷ flag_rule (codes "find") ∷ run_rule ∷ file_rule ∷ [];
   };
   subs = [];
 }
@@ -99,11 +100,23 @@ is_json_conflicting rows =
     || (is_given (codes "all") rows
     || (is_given (codes "sort") rows || (is_given (codes "width") rows || is_given (codes "color") rows)))))
 
--- options that exclude each other: an SVG with one for texts only, an object with one for pictures,
--- or all rows with a number of rows
+-- Markdown, and another output or an option for texts only
+abbrev pub is_markdown_conflicting : List Row → Bool
+is_markdown_conflicting rows =
+    is_given (codes "markdown") rows
+    && (is_given (codes "svg") rows
+    || (is_given (codes "json") rows || (is_given (codes "width") rows || is_given (codes "color") rows)))
+
+-- options that exclude each other: an SVG or Markdown with one for texts only, an object with one
+-- for pictures, two outputs, or all rows with a number of rows
+abbrev pub are_exclusive : List Row → Bool
+are_exclusive rows =
+    is_svg_conflicting rows
+    || (is_json_conflicting rows || (is_markdown_conflicting rows || (is_given (codes "all") rows && is_given (codes "rows") rows)))
+
+-- the arguments are refused: options exclude each other, or the value of `--run` names no run
 abbrev pub are_conflicting : List Row → Bool
-are_conflicting rows =
-    is_svg_conflicting rows || (is_json_conflicting rows || (is_given (codes "all") rows && is_given (codes "rows") rows))
+are_conflicting rows = are_exclusive rows || is_run_wrong rows
 
 -- ---- the settings
 
@@ -133,11 +146,22 @@ pub record IsTextStated (rows : List Row) (asked : Form) : Type 0 where
   pub is : asked ≡ form.Text width (stated_colour rows)
   pub stated : IfSome (one_of (codes "width") rows) (λ text. IsNumber 60 400 text width)
 
+-- Markdown or a text, where neither an SVG nor an object is asked for
+pub record IsFormForPeople (rows : List Row) (asked : Form) : Type 0 where
+  pub markdown : one_of (codes "markdown") rows ≡ Some (codes "true") → asked ≡ form.Markdown
+  pub text : one_of (codes "markdown") rows ≡ Some (codes "false") → IsTextStated rows asked
+
+-- an object, Markdown or a text, where no SVG is asked for
+pub record IsFormButSvg (rows : List Row) (asked : Form) : Type 0 where
+  pub json : one_of (codes "json") rows ≡ Some (codes "true") → asked ≡ form.Json
+  pub others : one_of (codes "json") rows ≡ Some (codes "false") → IsFormForPeople rows asked
+
 -- the greatest number of rows by default
 abbrev pub rows_of_form : Form → ℕ
 rows_of_form (form.Text width colour) = 40
 rows_of_form form.Svg = 200
 rows_of_form form.Json = 40
+rows_of_form form.Markdown = 40
 
 -- the greatest number of rows is the stated one, or that by default
 pub record AreRowsStated (rows : List Row) (asked : Form) (limit : Option ℕ) : Type 0 where
@@ -150,12 +174,11 @@ pub record AreRowsStated (rows : List Row) (asked : Form) (limit : Option ℕ) :
 pub record AreStated (rows : List Row) (settings : Settings) : Type 0 where
   pub file : option_map string_bytes settings.file ≡ unless_dash (first_of (codes "file") rows)
   pub svg : one_of (codes "svg") rows ≡ Some (codes "true") → settings.form ≡ form.Svg
-  pub json : one_of (codes "svg") rows ≡ Some (codes "false") → one_of (codes "json") rows ≡ Some (codes "true") → settings.form ≡ form.Json
-  pub text : one_of (codes "svg") rows ≡ Some (codes "false") → one_of (codes "json") rows ≡ Some (codes "false")
-      → IsTextStated rows settings.form
+  pub others : one_of (codes "svg") rows ≡ Some (codes "false") → IsFormButSvg rows settings.form
   pub all : one_of (codes "all") rows ≡ Some (codes "true") → settings.rows.limit ≡ None
   pub limit : one_of (codes "all") rows ≡ Some (codes "false") → AreRowsStated rows settings.form settings.rows.limit
   pub sort : settings.rows.sort ≡ stated_sort rows
+  pub run : settings.run ≡ stated_run rows
   pub find : one_of (codes "find") rows ≡ Some (codes "true") → settings.find ≡ true
   pub no_find : one_of (codes "find") rows ≡ Some (codes "false") → settings.find ≡ false
 

@@ -9,7 +9,7 @@ use Rattle.stream_timeline.specs.declared.reading.totals.Totals.{Totals}
 use Rattle.stream_timeline.specs.Intervals.{span_of}
 use Rattle.stream_timeline.specs.Steps.{StepRead}
 use Rattle.stream_timeline.specs.TimelineRead.{TimelineRead}
-use Rattle.stream_view.specs.Words.{duration_words, grouped, number_words}
+use Rattle.term_words.specs.Words.{duration_words, grouped, number_words}
 
 -- the version of Terraform, if the stream states it
 abbrev pub version_words : Option (List ℕ) → List ℕ
@@ -107,7 +107,11 @@ abbrev pub done_words : (steps span : ℕ) → TimelineRead → Numbers → List
 done_words steps span timeline numbers =
     option_map_or (λ (totals : Totals). read_words steps span ++ plan_words totals) (only_plan timeline) (completed_words steps span numbers)
 
-abbrev pub heading_words : TimeRange → TimelineRead → Numbers → List ℕ
-heading_words time_range timeline numbers =
-    version_words timeline.version ++ done_words (length timeline.steps) (span_of time_range) timeline numbers ++ uncompleted_words timeline.steps
+-- the heading without the version: it has no text of the stream
+abbrev pub headline_words : TimeRange → TimelineRead → Numbers → List ℕ
+headline_words time_range timeline numbers =
+    done_words (length timeline.steps) (span_of time_range) timeline numbers ++ uncompleted_words timeline.steps
     ++ error_words timeline.errors.count (count_by (λ (step : StepRead). step.failed) timeline.steps) ++ summary_words timeline numbers
+
+abbrev pub heading_words : TimeRange → TimelineRead → Numbers → List ℕ
+heading_words time_range timeline numbers = version_words timeline.version ++ headline_words time_range timeline numbers

@@ -38,7 +38,7 @@ step_data picture place step =
     object
     (member (codes "address") (string step.address)
     (member (codes "action") (string step.action)
-    (member (codes "line") (number_data step.line)
+    (member (codes "line") (number_data (picture.lines_before + step.line))
     (member (codes "begin") (number_data (int_gap picture.time_range.first step.begin))
     (member (codes "length") (number_data (length_of picture.time_range step))
     (member (codes "ended") (boolean (is_some step.end))

@@ -4,7 +4,7 @@ use Rattle.stream_timeline.specs.declared.rows.choosing.Rows.{Rows}
 use Rattle.term_text.specs.Columns.{columns_of}
 use Rattle.stream_view.specs.Lines.{text_line}
 use Rattle.term_text.specs.Fitted.{shown_characters}
-use Rattle.stream_view.specs.Words.{duration_words, more_words}
+use Rattle.term_words.specs.Words.{duration_words, more_words}
 use Rattle.stream_view.specs.declared.text.rendition.Rendition.TheVariants as rendition
 use Rattle.stream_view.specs.declared.text.line_piece.LinePiece.{LinePiece}
 

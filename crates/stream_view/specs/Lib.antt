@@ -8,11 +8,10 @@ pub mod Json
 pub mod Kinds
 pub mod LeftOut
 pub mod Lines
+pub mod Markdown
 pub mod Markup
 pub mod RowChoices
 pub mod Rows
-pub mod MessageTexts
 pub mod Texts
 pub mod Viewed
 pub mod Vocabulary
-pub mod Words

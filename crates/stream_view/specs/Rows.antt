@@ -12,7 +12,7 @@ use Rattle.stream_view.specs.Columns.{column_text, widest}
 use Rattle.stream_view.specs.Kinds.{kind_of, kind_rendition}
 use Rattle.stream_view.specs.Lines.{with_character, with_characters, with_styled}
 use Rattle.term_text.specs.Fitted.{shown_characters}
-use Rattle.stream_view.specs.Words.{duration_words}
+use Rattle.term_words.specs.Words.{duration_words}
 use Rattle.stream_view.specs.declared.column.Column.TheVariants as column
 use Rattle.stream_view.specs.declared.picture.Picture.{Picture}
 use Rattle.stream_view.specs.declared.text.rendition.Rendition.{Rendition}

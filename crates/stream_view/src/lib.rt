@@ -1,4 +1,4 @@
-//! `applystream view`: draws the time line of a stream, as text or as one SVG, or prints it as JSON.
+//! `applystream view`: draws the time line of a stream as text, one SVG, JSON or Markdown.
 #![tactic(auto)]
 
 mod captions;
@@ -8,6 +8,7 @@ mod draw_fault;
 mod json;
 mod kind;
 mod laws;
+mod markdown;
 mod picture;
 mod row_choice;
 mod svg;
@@ -16,14 +17,18 @@ mod words;
 mod writing;
 
 pub use command::colour::Colour;
+pub use command::drawn::Drawn;
 pub use command::picture_fault::PictureFault;
 pub use command::settings::{Form, Settings};
 pub use command::tool::View;
 pub use draw_fault::DrawFault;
 pub use json::drawing::draw_json;
 pub use laws::{
-    colours_are_sequences_alone, no_line_has_a_control, what_comes_no_later_has_its_bar_no_further,
+    colours_are_sequences_alone, fence_is_longer_than_each_run, markdown_has_room,
+    no_line_has_a_control, what_comes_no_later_has_its_bar_no_further,
+    whole_lines_are_cut_and_counted,
 };
+pub use markdown::drawing::draw_markdown;
 pub use picture::Picture;
 pub use row_choice::{RowChoice, Sort};
 pub use svg::drawing::draw_svg;

@@ -17,20 +17,25 @@ use stream_timeline::{
 #[derive(Drop)]
 pub struct Picture<'a> {
     pub timeline: &'a Timeline,
+    /// How many lines of the input stand before those of the time line.
+    pub lines_before: u64,
     pub time_range: TimeRange,
     pub numbers: Numbers,
     pub rows: Rows,
 }
 
 impl<'a> Picture<'a> {
-    /// The picture of a time line with the rows that are asked for. Without a message, the time
-    /// range begins and ends at 0. `Err` means that memory was refused.
+    /// The picture of a time line with the rows that are asked for. `lines_before` lines of the
+    /// input stand before its own. Without a message, the time range begins and ends at 0. `Err`
+    /// means that memory was refused.
     pub fn of(
         alloc: Global,
         timeline: &'a Timeline,
+        lines_before: u64,
         choice: RowChoice,
     ) -> Result<Picture<'a>, AllocError>
         ensures timeline { IfOk result (λ picture. picture.timeline.now ≡ timeline.now) }
+        ensures lines_before { IfOk result (λ picture. picture.lines_before ≡ lines_before) }
         ensures time_range { IfOk result (λ picture. picture.time_range ≡ time_range_of timeline.now) }
         ensures numbers { IfOk result (λ picture. IsNumbersOf (time_range_of timeline.now) timeline.now.steps picture.numbers) }
         ensures rows { IfOk result (λ picture. AreRowsIn choice.sort (time_range_of timeline.now) timeline.now.steps choice.limit picture.rows) }
@@ -40,6 +45,7 @@ impl<'a> Picture<'a> {
             .unwrap_or(TimeRange { first: 0, last: 0 });
         Ok(Picture {
             timeline,
+            lines_before,
             time_range,
             numbers: numbers_of(alloc, time_range, timeline.steps())?,
             rows: chosen_rows(alloc, time_range, timeline.steps(), choice)?,

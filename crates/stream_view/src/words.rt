@@ -1,5 +1,4 @@
 //! The words for numbers, durations and ticks.
 
-pub(crate) mod message_text;
 pub(crate) mod tick_interval;
 pub(crate) mod within;

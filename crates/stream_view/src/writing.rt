@@ -2,10 +2,10 @@
 
 ghost use Rattle.std.specs.Prelude.{OnOk};
 ghost use Rattle.std.specs.Io.KnownBytes.{Appends, Keeps};
-ghost use Rattle.stream_view.specs.MessageTexts.{HasText};
+ghost use Rattle.term_words.specs.MessageTexts.{HasText};
 
 use crate::draw_fault::DrawFault;
-use crate::words::message_text::MessageText;
+use term_words::MessageText;
 use std::io::Write;
 use stream_tool::write_whole;
 
@@ -15,7 +15,14 @@ use stream_tool::write_whole;
 pub fn write_text<W: Write>(text: &str, out: &mut W) -> Result<(), DrawFault>
     ensures { OnOk result (Appends (W.contents out.old) (W.contents out.new) text.now) }
 {
-    Ok(write_whole(out, text.as_bytes())?)
+    write_bytes(text.as_bytes(), out)
+}
+
+/// Writes the bytes. The errors are those of `write_text`.
+pub fn write_bytes<W: Write>(bytes: &[u8], out: &mut W) -> Result<(), DrawFault>
+    ensures { OnOk result (Appends (W.contents out.old) (W.contents out.new) bytes.now) }
+{
+    Ok(write_whole(out, bytes)?)
 }
 
 /// Writes the message. `DrawFault::Memory` if memory was refused while the message was made. The

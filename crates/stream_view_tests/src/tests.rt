@@ -2,7 +2,9 @@
 //! hostile texts. The pictures that `checks/views` compares cover words, widths and layouts.
 
 mod files;
+mod markdown;
 mod objects;
+mod runs;
 mod streams;
 
 use files::Disk;
@@ -13,7 +15,7 @@ use std::rt::Files;
 use std::{array, io};
 use stream_timeline::TimelineFault;
 use stream_tool::{Outcome, run_input, run_tool};
-use stream_view::{Colour, DrawFault, Form, PictureFault, RowChoice, Settings, Sort, View};
+use stream_view::{Colour, DrawFault, Drawn, Form, PictureFault, RowChoice, Settings, Sort, View};
 use streams::{Given, WrittenOutput};
 
 /// The tool for an output that shows no colours.
@@ -55,6 +57,20 @@ one at a time
                                       0s              2s              4s               6s              8s
 <b> a["\u001b[31m</text>&"] …    ≥10s ░░░"#;
 
+/// The settings of a picture in this form, of the whole of standard input.
+fn settings_of(form: Form) -> Settings {
+    Settings {
+        form,
+        rows: RowChoice {
+            sort: Sort::Begin,
+            limit: Some(40),
+        },
+        find: false,
+        run: None,
+        file: None,
+    }
+}
+
 /// Draws the stream of these bytes into `out`. The input fails at its end if it is broken.
 fn drawn(
     rt: &impl Files,
@@ -64,22 +80,21 @@ fn drawn(
     is_broken: bool,
     out: &mut WrittenOutput,
     faults: &mut Vec<u8>,
-) -> Outcome<Result<(), PictureFault>> {
-    let settings = Settings {
-        form,
-        rows: RowChoice {
-            sort: Sort::Begin,
-            limit: Some(40),
-        },
-        find: false,
-        file: None,
-    };
+) -> Outcome<Result<Drawn, PictureFault>> {
+    let settings = settings_of(form);
     let mut input = Given { bytes, is_broken };
     run_input(&PLAIN, rt, alloc, &settings, &mut input, out, faults)
 }
 
-/// Fails unless drawing the bytes in this form gives `wanted`.
-fn draws(rt: &(impl Abort + Files), alloc: Global, form: Form, bytes: &str, wanted: &str) {
+/// Fails unless drawing the bytes, in which so many runs begin, gives `wanted` in this form.
+fn draws(
+    rt: &(impl Abort + Files),
+    alloc: Global,
+    form: Form,
+    bytes: &str,
+    runs: u64,
+    wanted: &str,
+) {
     let mut out = WrittenOutput::new(alloc, usize::MAX, ErrorKind::StorageFull);
     let mut faults = Vec::new(alloc);
     let outcome = drawn(
@@ -92,7 +107,7 @@ fn draws(rt: &(impl Abort + Files), alloc: Global, form: Form, bytes: &str, want
         &mut faults,
     );
     assert_eq!(rt; outcome.status, 0);
-    assert!(rt; outcome.answer == Some(Ok(())));
+    assert!(rt; outcome.answer == Some(Ok(Drawn { runs: Some(runs) })));
     assert_eq!(rt; faults.as_slice(), b"".as_slice());
     assert_eq!(rt; out.bytes.as_slice(), wanted.as_bytes());
 }
@@ -125,7 +140,7 @@ fn refuses(
 
 #[test]
 fn one_create(rt: HostRuntime) {
-    draws(&rt, rt.alloc(), TEXT, ONE_CREATE, ONE_CREATE_TEXT);
+    draws(&rt, rt.alloc(), TEXT, ONE_CREATE, 1, ONE_CREATE_TEXT);
 }
 
 /// The writer fails at each byte of the text, and after the last one in a flush. Nothing is

@@ -60,3 +60,11 @@ twice (c ∷ cs) =
     let is : without_blanks (c ∷ cs) ≡ c ∷ without_blanks cs = ap (λ b. if b then [] else c ∷ without_blanks cs) out in
     ap without_blanks is ∙ ap (λ b. if b then [] else c ∷ without_blanks (without_blanks cs)) same ∙ ap (λ ds. c ∷ ds) (twice cs) ∙ sym is)
     (cases_Bool (list_all is_blank (c ∷ cs)))
+
+-- what is left is a front
+pub take-without_blanks : (text : List ℕ) → take (length (without_blanks text)) text ≡ without_blanks text
+take-without_blanks [] = refl
+take-without_blanks (c ∷ cs) =
+    ⊎_elim (λ (yes : list_all is_blank (c ∷ cs) ≡ true). rw yes refl)
+    (λ (out : list_all is_blank (c ∷ cs) ≡ false). rw out (ap (λ ds. c ∷ ds) (take-without_blanks cs)))
+    (cases_Bool (list_all is_blank (c ∷ cs)))

@@ -1,7 +1,10 @@
 pub mod Blanks
+pub mod Breaks
 pub mod Bytewise
+pub mod Commands
 pub mod Escapes
 pub mod Fits
+pub mod LineTexts
 pub mod Lines
 pub mod Longest
 pub mod Pieces

@@ -1,18 +1,23 @@
--- Nothing hidden is shown.
-use Rattle.std.proofs.Common.{◌≡◌, ℕ, zero, suc, ◌-◌, ◌/◌, ◌%◌, ◌<◌, ◌≤◌, nat_le, ◌==◌, Bool, true, false, if◌then◌else◌, List, [], ◌∷◌, ◌++◌, length, take, Option, Some, None, codes, refl, sym, ap, subst, ◌∙◌, arith, ⊎_elim, append-nil, length-append, length-take, lit<, lit≤}
+-- Nothing hidden and no command is shown.
+use Rattle.std.proofs.Common.{◌≡◌, ℕ, zero, suc, ◌-◌, ◌/◌, ◌%◌, ◌<◌, ◌≤◌, nat_le, ◌==◌, ◌≢◌, Bool, true, false, not, if◌then◌else◌, List, [], ◌∷◌, ◌++◌, length, take, Option, Some, None, codes, refl, sym, ap, subst, ◌∙◌, arith, ⊎_elim, eqb-true, append-nil, length-append, length-take, lit<, lit≤}
+use Rattle.std.specs.Prelude.{◌&&◌}
 use Rattle.std.proofs.Math.Seq.{take-append-add}
-use Rattle.std.proofs.lemmas.Bool.{cases_lt, and_parts}
+use Rattle.std.proofs.lemmas.Bool.{cases_lt, and_parts, not-true}
 use Rattle.std.proofs.lemmas.Bool.Decides.{nat_tests}
 use Rattle.std.proofs.lemmas.Str.{IsUtf8-append, IsUtf8-encode, IsUtf8-nil, IsUtf8-from_ascii, NoCharPasses-nil, NoCharPasses-append, IsAscii-take, encodes-IsAscii, encodes_same}
-use Rattle.std.specs.Char.{encode_utf8, digit_char}
-use Rattle.std.specs.List.{flat_map}
+use Rattle.std.specs.Char.{encode_utf8, digit_char, is_ascii_alphabetic}
+use Rattle.std.specs.List.{flat_map, list_all}
 use Rattle.std.specs.Str.{IsUtf8, IsAscii, NoCharPasses, NonePass}
 use Rattle.bstr.specs.Utf8.{Decoded, decoded, good}
 use Rattle.bstr.proofs.lemmas.SoundLemmas.{SpellsChar-decoded}
 use lib.Utf8.{scalar, scalars, encodes}
 use Rattle.term_text.specs.Pieces.{character_or_byte, first_piece, pieces_after, pieces_of}
-use Rattle.term_text.specs.Shown.{is_hidden, escape, shown_character, shown_piece, shown_text, readable_piece, readable_text}
+use Rattle.term_text.specs.Commands.{HoldsNoCommand, after_character, after_piece, is_named}
+use Rattle.term_text.specs.Shown.{is_hidden, escape, shown_after, shown_character, shown_piece, shown_pieces, shown_text, readable_piece, readable_text}
 use Rattle.term_text.specs.Fronts.{room_for, front_of, cut_text}
+use Rattle.term_text.specs.declared.command_start.CommandStart.{CommandStart}
+use Rattle.term_text.specs.declared.command_start.CommandStart.TheVariants as command_start
+use Rattle.term_text.proofs.Commands.{HoldsNoCommand-from, none_opens, none_opens-append, none_opens-backslash, none_opens-encode, none_opens-escape, none_opens-from, none_opens-take, starts_anew}
 use Rattle.term_text.proofs.Pieces.{pieces_of-nil, pieces_of-encode}
 use Rattle.term_text.proofs.Rooms.{room_for-nil, room_for-fits, room_for-over}
 use Rattle.term_text.proofs.Texts.{escape-IsUtf8, escape-IsAscii}
@@ -64,34 +69,45 @@ abbrev after_tab : ℕ → List ℕ
 after_tab character = if is_hidden character then escape character else encode_utf8 character
 
 -- what holds of each form in which a character is shown
-shown_character-either : (P : List ℕ → Type 0) (character : ℕ) → P (92 ∷ 110 ∷ []) → P (92 ∷ 116 ∷ []) → (is_hidden character ≡ true → P (escape character))
-    → (is_hidden character ≡ false → P (encode_utf8 character)) → P (shown_character character)
+shown_character-either : (P : List ℕ → Type 0) (character : ℕ) → (character ≡ 10 → P (92 ∷ 110 ∷ [])) → (character ≡ 9 → P (92 ∷ 116 ∷ []))
+    → (is_hidden character ≡ true → P (escape character)) → (is_hidden character ≡ false → P (encode_utf8 character)) → P (shown_character character)
 unfolding shown_character
 shown_character-either P character line_feed tab hidden plain =
-    if_either P (character == 10) (codes "\\n") (after_line_feed character) (λ is. line_feed)
-    (λ other. if_either P (character == 9) (codes "\\t") (after_tab character) (λ is. tab) (λ no_tab. if_either P (is_hidden character) (escape character) (encode_utf8 character) hidden plain))
+    if_either P (character == 10) (codes "\\n") (after_line_feed character) (λ is. line_feed (eqb-true character 10 is))
+    (λ other. if_either P (character == 9) (codes "\\t") (after_tab character) (λ is. tab (eqb-true character 9 is))
+    (λ no_tab. if_either P (is_hidden character) (escape character) (encode_utf8 character) hidden plain))
 
 shown_character-plain : (character : ℕ) → NoCharPasses is_hidden (shown_character character)
 shown_character-plain character =
-    shown_character-either (NoCharPasses is_hidden) character (two-plain 110 (lit≤ tt) (lit< tt)) (two-plain 116 (lit≤ tt) (lit< tt))
+    shown_character-either (NoCharPasses is_hidden) character (λ is. two-plain 110 (lit≤ tt) (lit< tt)) (λ is. two-plain 116 (lit≤ tt) (lit< tt))
     (λ hidden. escape-plain character (hidden_small character hidden)) (encode-plain character)
 
 shown_character-IsUtf8 : (character : ℕ) → scalar character ≡ true → IsUtf8 (shown_character character)
 shown_character-IsUtf8 character is =
-    shown_character-either IsUtf8 character (IsUtf8-from_ascii (92 ∷ 110 ∷ []) (two_ascii 110 (lit< tt))) (IsUtf8-from_ascii (92 ∷ 116 ∷ []) (two_ascii 116 (lit< tt)))
+    shown_character-either IsUtf8 character (λ is. IsUtf8-from_ascii (92 ∷ 110 ∷ []) (two_ascii 110 (lit< tt))) (λ is. IsUtf8-from_ascii (92 ∷ 116 ∷ []) (two_ascii 116 (lit< tt)))
     (λ hidden. escape-IsUtf8 character (hidden_small character hidden)) (λ plain. IsUtf8-encode character is)
 
-shown_piece-plain : (character : Option ℕ) → NoCharPasses is_hidden (shown_piece character)
-shown_piece-plain None = escape-plain 0xFFFD (lit< tt)
-shown_piece-plain (Some character) = shown_character-plain character
+-- an escaped character is less than 65536 where it is the `[` of a command
+bracket_small : (start : CommandStart) (character : ℕ) → (is_named start && character == 91) ≡ true → character < 65536
+bracket_small start character opens =
+    let is : character ≡ 91 = eqb-true character 91 (and_parts _ _ opens).1 in
+    rw is (lit< tt)
 
-shown_pieces-plain : (pieces : List Decoded) → NoCharPasses is_hidden (flat_map (λ (piece : Decoded). shown_piece piece.char) pieces)
-shown_pieces-plain [] = NoCharPasses-nil is_hidden
-shown_pieces-plain (piece ∷ pieces) = NoCharPasses-append is_hidden _ _ (shown_piece-plain piece.char) (shown_pieces-plain pieces)
+shown_piece-plain : (start : CommandStart) (character : Option ℕ) → NoCharPasses is_hidden (shown_piece start character)
+shown_piece-plain start None = escape-plain 0xFFFD (lit< tt)
+shown_piece-plain start (Some character) =
+    if_either (NoCharPasses is_hidden) (is_named start && character == 91) (escape character) (shown_character character)
+    (λ opens. escape-plain character (bracket_small start character opens)) (λ shut. shown_character-plain character)
+
+shown_pieces-plain : (start : CommandStart) (pieces : List Decoded) → NoCharPasses is_hidden (shown_pieces start pieces)
+unfolding shown_pieces
+shown_pieces-plain start [] = NoCharPasses-nil is_hidden
+shown_pieces-plain start (piece ∷ pieces) =
+    NoCharPasses-append is_hidden _ _ (shown_piece-plain start piece.char) (shown_pieces-plain (after_piece start piece.char) pieces)
 
 pub shown_text-plain : (bytes : List ℕ) → NoCharPasses is_hidden (shown_text bytes)
-unfolding shown_text
-shown_text-plain bytes = shown_pieces-plain (pieces_of bytes)
+unfolding shown_text shown_after
+shown_text-plain bytes = shown_pieces-plain command_start.Nothing (pieces_of bytes)
 
 -- a character that is read is one
 abbrev IsReal : Option ℕ → Type 0
@@ -106,21 +122,79 @@ first_piece-real : (bytes : List ℕ) → IsReal (first_piece bytes).char
 unfolding first_piece
 first_piece-real bytes = real (decoded bytes).char None (decoded bytes).size (λ y found. (SpellsChar-decoded bytes y found).scalar)
 
-shown_piece-IsUtf8 : (character : Option ℕ) → IsReal character → IsUtf8 (shown_piece character)
-shown_piece-IsUtf8 None is = escape-IsUtf8 0xFFFD (lit< tt)
-shown_piece-IsUtf8 (Some character) is = shown_character-IsUtf8 character is
+shown_piece-IsUtf8 : (start : CommandStart) (character : Option ℕ) → IsReal character → IsUtf8 (shown_piece start character)
+shown_piece-IsUtf8 start None is = escape-IsUtf8 0xFFFD (lit< tt)
+shown_piece-IsUtf8 start (Some character) is =
+    if_either IsUtf8 (is_named start && character == 91) (escape character) (shown_character character)
+    (λ opens. escape-IsUtf8 character (bracket_small start character opens)) (λ shut. shown_character-IsUtf8 character is)
 
-shown_after-IsUtf8 : (passed : ℕ) (bytes : List ℕ) → IsUtf8 (flat_map (λ (piece : Decoded). shown_piece piece.char) (pieces_after passed bytes))
-unfolding pieces_after
-shown_after-IsUtf8 passed [] = IsUtf8-nil
-shown_after-IsUtf8 zero (byte ∷ bytes) =
+shown_after-IsUtf8 : (start : CommandStart) (passed : ℕ) (bytes : List ℕ) → IsUtf8 (shown_pieces start (pieces_after passed bytes))
+unfolding shown_pieces pieces_after
+shown_after-IsUtf8 start passed [] = IsUtf8-nil
+shown_after-IsUtf8 start zero (byte ∷ bytes) =
     let first = first_piece (byte ∷ bytes) in
-    IsUtf8-append _ _ (shown_piece-IsUtf8 first.char (first_piece-real (byte ∷ bytes))) (shown_after-IsUtf8 (first.size - 1) bytes)
-shown_after-IsUtf8 (suc passed) (byte ∷ bytes) = shown_after-IsUtf8 passed bytes
+    IsUtf8-append _ _ (shown_piece-IsUtf8 start first.char (first_piece-real (byte ∷ bytes))) (shown_after-IsUtf8 (after_piece start first.char) (first.size - 1) bytes)
+shown_after-IsUtf8 start (suc passed) (byte ∷ bytes) = shown_after-IsUtf8 start passed bytes
 
 pub shown_text-IsUtf8 : (bytes : List ℕ) → IsUtf8 (shown_text bytes)
-unfolding shown_text
-shown_text-IsUtf8 bytes = shown_after-IsUtf8 0 bytes
+unfolding shown_text shown_after
+shown_text-IsUtf8 bytes = shown_after-IsUtf8 command_start.Nothing 0 bytes
+
+-- ---- no command
+
+hidden_starts_anew : (start : CommandStart) (character : ℕ) → is_hidden character ≡ true → after_character start character ≡ command_start.Nothing
+unfolding is_hidden
+hidden_starts_anew start character hidden =
+    let other : character ≢ 35 = grind (arith, nat_tests) in
+    let none : is_ascii_alphabetic character ≡ false = grind (arith, nat_tests) in
+    starts_anew start character other none
+
+-- a character with another escape than that of a command
+none_opens-shown : (start : CommandStart) (character : ℕ) (more : List ℕ) → (is_named start && character == 91) ≡ false
+    → none_opens start (shown_character character ++ more) ≡ none_opens (after_character start character) more
+none_opens-shown start character more shut =
+    shown_character-either (λ shown. none_opens start (shown ++ more) ≡ none_opens (after_character start character) more) character
+    (λ is. rw is (none_opens-backslash start (110 ∷ []) more refl)) (λ is. rw is (none_opens-backslash start (116 ∷ []) more refl))
+    (λ hidden. rw (hidden_starts_anew start character hidden) (none_opens-escape start character more))
+    (λ plain. none_opens-encode start character more ∙ ap (λ opens. not opens && none_opens (after_character start character) more) shut)
+
+none_opens-piece : (start : CommandStart) (character : Option ℕ) (more : List ℕ)
+    → none_opens start (shown_piece start character ++ more) ≡ none_opens (after_piece start character) more
+none_opens-piece start None more = none_opens-escape start 0xFFFD more
+none_opens-piece start (Some character) more =
+    if_either (λ shown. none_opens start (shown ++ more) ≡ none_opens (after_character start character) more) (is_named start && character == 91)
+    (escape character) (shown_character character)
+    (λ opens. let is : character ≡ 91 = eqb-true character 91 (and_parts _ _ opens).1 in rw is (none_opens-escape start 91 more)) (none_opens-shown start character more)
+
+none_opens-pieces : (start : CommandStart) (pieces : List Decoded) → none_opens start (shown_pieces start pieces) ≡ true
+unfolding shown_pieces
+none_opens-pieces start [] = refl
+none_opens-pieces start (piece ∷ pieces) =
+    none_opens-piece start piece.char (shown_pieces (after_piece start piece.char) pieces) ∙ none_opens-pieces (after_piece start piece.char) pieces
+
+none_opens-shown_text : (bytes : List ℕ) → none_opens command_start.Nothing (shown_text bytes) ≡ true
+unfolding shown_text shown_after
+none_opens-shown_text bytes = none_opens-pieces command_start.Nothing (pieces_of bytes)
+
+pub shown_text-no_command : (bytes : List ℕ) → HoldsNoCommand (shown_text bytes)
+shown_text-no_command bytes = HoldsNoCommand-from command_start.Nothing (shown_text bytes) (none_opens-shown_text bytes)
+
+no_bracket_in_dots : (limit : ℕ) → list_all (λ byte. not (byte == 91)) (take limit (codes "...")) ≡ true
+no_bracket_in_dots zero = refl
+no_bracket_in_dots (suc zero) = refl
+no_bracket_in_dots (suc (suc zero)) = refl
+no_bracket_in_dots (suc (suc (suc zero))) = refl
+no_bracket_in_dots (suc (suc (suc (suc limit)))) = refl
+
+pub cut_text-no_command : (limit : ℕ) (bytes : List ℕ) → HoldsNoCommand (cut_text limit (shown_text bytes))
+unfolding cut_text front_of
+cut_text-no_command limit bytes =
+    let none = none_opens-shown_text bytes in
+    let front = take (room_for (limit - 3) (pieces_of (shown_text bytes))) (shown_text bytes) in
+    HoldsNoCommand-from command_start.Nothing _
+    (if_either (λ text. none_opens command_start.Nothing text ≡ true) (nat_le (length (shown_text bytes)) limit) (shown_text bytes) (front ++ take limit (codes "..."))
+    (λ short. none)
+    (λ long. none_opens-append command_start.Nothing front (take limit (codes "...")) (none_opens-take command_start.Nothing _ (shown_text bytes) none) (no_bracket_in_dots limit)))
 
 -- ---- fronts
 
@@ -216,16 +290,26 @@ shown_character-same character plain =
     let no_tab : (character == 9) ≡ false = grind (arith, nat_tests) in
     rw (no_line_feed, no_tab, plain) refl
 
-shown_encoded : (characters : List ℕ) → scalars characters ≡ true → NonePass is_hidden characters → shown_text (encodes characters) ≡ encodes characters
-unfolding shown_text
-shown_encoded [] all none = ap (flat_map (λ (piece : Decoded). shown_piece piece.char)) pieces_of-nil
-shown_encoded (character ∷ characters) all none =
+shown_encoded : (start : CommandStart) (characters : List ℕ) → scalars characters ≡ true → NonePass is_hidden characters → none_opens start (encodes characters) ≡ true
+    → shown_after start (encodes characters) ≡ encodes characters
+unfolding shown_after shown_pieces
+shown_encoded start [] all plain none = ap (shown_pieces start) pieces_of-nil
+shown_encoded start (character ∷ characters) all plain none =
     let both = and_parts _ _ all in
-    ap (flat_map (λ (piece : Decoded). shown_piece piece.char)) (pieces_of-encode character (encodes characters) both.0)
-    ∙ ap (λ t. t ++ shown_text (encodes characters)) (shown_character-same character none.0)
-    ∙ ap (λ t. encode_utf8 character ++ t) (shown_encoded characters both.1 none.1)
+    let opens = and_parts _ _ (sym (none_opens-encode start character (encodes characters)) ∙ none) in
+    let shut : (is_named start && character == 91) ≡ false = not-true _ opens.0 in
+    ap (shown_pieces start) (pieces_of-encode character (encodes characters) both.0)
+    ∙ ap (λ test. (if test then escape character else shown_character character) ++ shown_after (after_character start character) (encodes characters)) shut
+    ∙ ap (λ t. t ++ shown_after (after_character start character) (encodes characters)) (shown_character-same character plain.0)
+    ∙ ap (λ t. encode_utf8 character ++ t) (shown_encoded (after_character start character) characters both.1 plain.1 opens.1)
 
-pub shown_text-same : (text : List ℕ) → IsUtf8 text → NoCharPasses is_hidden text → shown_text text ≡ text
-shown_text-same text utf8 plain =
+pub shown_text-same : (text : List ℕ) → IsUtf8 text → NoCharPasses is_hidden text → HoldsNoCommand text → shown_text text ≡ text
+unfolding shown_text
+shown_text-same text utf8 plain none =
     let same : utf8.0 ≡ plain.0 = encodes_same utf8.0 plain.0 (utf8.1.1 ∙ sym plain.1) in
-    subst (λ t. shown_text t ≡ t) utf8.1.1 (shown_encoded utf8.0 utf8.1.0 (rw same plain.2))
+    subst (λ t. none_opens command_start.Nothing t ≡ true → shown_after command_start.Nothing t ≡ t) utf8.1.1
+    (shown_encoded command_start.Nothing utf8.0 utf8.1.0 (rw same plain.2)) (none_opens-from text none)
+
+-- so an escaped text is its own escaped text
+pub shown_text-twice : (bytes : List ℕ) → shown_text (shown_text bytes) ≡ shown_text bytes
+shown_text-twice bytes = shown_text-same (shown_text bytes) (shown_text-IsUtf8 bytes) (shown_text-plain bytes) (shown_text-no_command bytes)

@@ -9,16 +9,25 @@ use Rattle.std.specs.List.{flat_map}
 use Rattle.std.proofs.lemmas.List.{nil_from_length, take_rest, take-append-le, append-nil}
 use Rattle.bstr.specs.Utf8.{Decoded}
 use Rattle.term_text.specs.Pieces.{first_piece}
-use Rattle.term_text.specs.Shown.{escape, shown_piece, shown_text, readable_piece, readable_text}
+use Rattle.term_text.specs.Commands.{after_piece}
+use Rattle.term_text.specs.Shown.{escape, shown_after, shown_piece, shown_pieces, shown_text, readable_piece, readable_text}
+use Rattle.term_text.specs.declared.command_start.CommandStart.{CommandStart}
+use Rattle.term_text.specs.declared.command_start.CommandStart.TheVariants as command_start
 use Rattle.term_text.proofs.Pieces.{pieces_of-nil, pieces_of-step}
 
-pub shown_text-step : (bytes : List ℕ) → 0 < length bytes → shown_text bytes ≡ shown_piece (first_piece bytes).char ++ shown_text (drop (first_piece bytes).size bytes)
-unfolding shown_text
-shown_text-step bytes some = ap (flat_map (λ (piece : Decoded). shown_piece piece.char)) (pieces_of-step bytes some)
+pub shown_after-step : (start : CommandStart) (bytes : List ℕ) → 0 < length bytes
+    → shown_after start bytes ≡ shown_piece start (first_piece bytes).char ++ shown_after (after_piece start (first_piece bytes).char) (drop (first_piece bytes).size bytes)
+unfolding shown_after shown_pieces
+shown_after-step start bytes some = ap (shown_pieces start) (pieces_of-step bytes some)
 
-pub shown_text-nil : (bytes : List ℕ) → length bytes ≡ 0 → shown_text bytes ≡ []
+pub shown_after-nil : (start : CommandStart) (bytes : List ℕ) → length bytes ≡ 0 → shown_after start bytes ≡ []
+unfolding shown_after shown_pieces
+shown_after-nil start bytes none = rw (nil_from_length bytes none, pieces_of-nil)
+
+-- nothing stands in front of a text
+pub shown_text-after : (bytes : List ℕ) → shown_text bytes ≡ shown_after command_start.Nothing bytes
 unfolding shown_text
-shown_text-nil bytes none = rw (nil_from_length bytes none, pieces_of-nil)
+shown_text-after bytes = refl
 
 pub readable_text-step : (bytes : List ℕ) → 0 < length bytes → readable_text bytes ≡ readable_piece (first_piece bytes).char ++ readable_text (drop (first_piece bytes).size bytes)
 unfolding readable_text
@@ -59,12 +68,12 @@ readable_piece-unwrap None = refl
 readable_piece-unwrap (Some character) = refl
 
 -- one more piece, between the appended text and the rest
-pub added-more : (before text rest whole : List ℕ) (character : Option ℕ) (size : ℕ) → 0 < length rest
+pub added-more : (start next : CommandStart) (before text rest whole : List ℕ) (character : Option ℕ) (size : ℕ) → 0 < length rest
     → character ≡ (first_piece rest).char → size ≡ (first_piece rest).size
-    → text ≡ before ++ shown_piece character → before ++ shown_text rest ≡ whole
-    → text ++ shown_text (take (length rest - size) (drop size rest)) ≡ whole
-added-more before text rest whole character size some character_is size_is grown so_far =
-    rw (take_rest rest size, grown, character_is, size_is, append_assoc, ← shown_text-step rest some) so_far
+    → text ≡ before ++ shown_piece start character → next ≡ after_piece start character → before ++ shown_after start rest ≡ whole
+    → text ++ shown_after next (take (length rest - size) (drop size rest)) ≡ whole
+added-more start next before text rest whole character size some character_is size_is grown next_is so_far =
+    rw (take_rest rest size, grown, next_is, character_is, size_is, append_assoc, ← shown_after-step start rest some) so_far
 
 pub read-more : (before text rest whole : List ℕ) (character : Option ℕ) (size : ℕ) → 0 < length rest
     → character ≡ (first_piece rest).char → size ≡ (first_piece rest).size
@@ -80,8 +89,8 @@ kept-more old text more kept =
     rw take-append-le kept
 
 -- nothing is left
-pub all_added : (text rest whole : List ℕ) → length rest ≡ 0 → text ++ shown_text rest ≡ whole → text ≡ whole
-all_added text rest whole none added = sym (append-nil text) ∙ ap (λ more. text ++ more) (sym (shown_text-nil rest none)) ∙ added
+pub all_added : (start : CommandStart) (text rest whole : List ℕ) → length rest ≡ 0 → text ++ shown_after start rest ≡ whole → text ≡ whole
+all_added start text rest whole none added = sym (append-nil text) ∙ ap (λ more. text ++ more) (sym (shown_after-nil start rest none)) ∙ added
 
 pub all_read : (text rest whole : List ℕ) → length rest ≡ 0 → text ++ readable_text rest ≡ whole → text ≡ whole
 all_read text rest whole none added = sym (append-nil text) ∙ ap (λ more. text ++ more) (sym (readable_text-nil rest none)) ∙ added

@@ -1,7 +1,11 @@
+pub mod Breaking
 pub mod Columns
+pub mod Commands
 pub mod Markup
 pub mod Fitted
 pub mod Fitting
 pub mod Fronts
+pub mod LineTexts
 pub mod Pieces
+pub mod Renditions
 pub mod Shown

@@ -62,7 +62,7 @@ fn with_few_marks(alloc: Global, characters: &[char]) -> Result<Vec<char>, Alloc
 }
 
 /// Returns how many of the first characters fit into `limit` columns.
-fn front_len(characters: &[char], limit: usize) -> usize
+pub(crate) fn front_len(characters: &[char], limit: usize) -> usize
     ensures within { result ≤ length characters.now }
     ensures fits { columns_of (take result characters.now) ≤ limit }
     ensures full { result < length characters.now → limit < columns_of (take (result + 1) characters.now) }

@@ -45,6 +45,15 @@ impl ShownText {
         })
     }
 
+    /// The text without the blanks at its end.
+    pub fn trimmed(mut self) -> ShownText
+        ensures { result ≡ without_blanks self }
+    {
+        let len = without_blanks(&self.characters).len();
+        self.characters.truncate(len);
+        self
+    }
+
     /// The characters of the text.
     pub fn characters(&self) -> &[char]
         ensures { result.now ≡ self.now }

@@ -1,6 +1,7 @@
 //! Wraps texts over several lines.
 
 ghost use Rattle.std.specs.Prelude.{◌≡◌, ◌≤◌, ◌<◌, ◌∷◌, [], IfOk, length};
+ghost use Rattle.term_text.specs.Breaking.{without_front_blanks};
 ghost use Rattle.term_text.specs.Columns.{columns_of};
 ghost use Rattle.term_text.specs.Fitting.{without_blanks};
 
@@ -73,8 +74,9 @@ fn line_len(characters: &[char], full: usize) -> usize
 }
 
 /// Returns the characters without the blanks at their front.
-fn without_front_blanks(characters: &[char]) -> &[char]
-    ensures { length result.now ≤ length characters.now }
+pub(crate) fn without_front_blanks(characters: &[char]) -> &[char]
+    ensures value { result.now ≡ without_front_blanks characters.now }
+    ensures within { length result.now ≤ length characters.now }
 {
     let mut len = 0;
     'front: while len < characters.len() && characters[len] == ' ' {

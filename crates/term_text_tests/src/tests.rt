@@ -6,7 +6,10 @@
 
 use std::alloc::{AllocError, Global};
 use std::process::Abort;
-use term_text::{escape_controls, escape_controls_within, front, push_controls_escaped, readable};
+use term_text::{
+    ShownText, broken, escape_controls, escape_controls_within, front, line_text,
+    push_controls_escaped, readable, text_lines,
+};
 
 /// The text before the first mark of a row, and the text after it.
 fn parted<'a>(rt: &impl Abort, row: &'a str) -> (&'a str, &'a str) {
@@ -79,7 +82,8 @@ fn compare(rt: &impl Abort, row: &str, actual: &[u8], wanted: &[u8]) {
 }
 
 /// Bytes, and their escaped text: plain text, controls, invisible characters, codes that are no
-/// character, and bytes of no character. One text has characters of one, two, three and four bytes.
+/// character, bytes of no character, and commands to runners of jobs. One text has characters of
+/// one, two, three and four bytes.
 const SHOWN: &str = r#"
 a \n "b" ~ => a \n "b" ~
  => 
@@ -100,6 +104,12 @@ a\x80b\xFF => a\ufffdb\ufffd
 \xF4\x90\x80\x80 => \ufffd\ufffd\ufffd\ufffd
 \xE2\x82 => \ufffd\ufffd
 \xF0\x9F\x98a\xC2 => \ufffd\ufffd\ufffda\ufffd
+##[error]x => ##\u005berror]x
+a ##vso[task.complete]|##teamcity[b => a ##vso\u005btask.complete]|##teamcity\u005bb
+[#[####|##1[|##ab#[|##a-[|## [|##ab => [#[####|##1[|##ab#[|##a-[|## [|##ab
+###[|##ab##c[|##ab[[|##ab#[##[ => ###\u005b|##ab##c\u005b|##ab\u005b[|##ab#[##\u005b
+##@[|##A[|##Z[|##[[|##`[|##a[|##z[|##{[ => ##@[|##A\u005b|##Z\u005b|##\u005b[|##`[|##a\u005b|##z\u005b|##{[
+##\x0A[|##a\x80[|##\xC3\xA9[|#\x0D#[ => ##\n[|##a\ufffd[|##\xC3\xA9[|#\u000d#[
 "#;
 
 #[test]
@@ -150,6 +160,8 @@ max => a\xC3\xA9\xE2\x82\xAC\xF0\x9F\x98\x80bcdef => a\xC3\xA9\xE2\x82\xAC\xF0\x
 0 =>  => 
 6 => \x1B => \u001b
 6 => \x1B\x80 => \u0...
+9 => ##[a => ##\u005ba
+8 => ##[a => ##\u0...
 "#;
 
 #[test]
@@ -193,4 +205,120 @@ fn what_is_shown_stands_behind_the_text(rt: HostRuntime) {
     push_bytes(&rt, &mut text, b"\x1B[2J");
     push_bytes(&rt, &mut text, b"");
     compare(&rt, "behind", text.as_bytes(), b"in \\u001b[2J");
+}
+
+/// Bytes of a line that a program wrote, and its text. Blanks that hardly show are `\x20`.
+const LINES: &str = r#"
+\x1B[0;32mok: [host]\x1B[0m => ok: [host]
+\x1B[38:5:1;4mx\x1B[my => xy
+\x1B[2Kx\x1B[1 => \u001b[2Kx\u001b[1
+\x1B[1\x1B[1mm => \u001b[1m
+#\x1B[1m#[group]x => ##\u005bgroup]x
+\x20x \x09\x0D\x1B[0m\x20 => \x20x
+\x20\x09\x0D => 
+ => 
+a\x0Db => a\u000db
+\x09x => \x20       x
+a\x09b\x09c => a       b       c
+1234567\x09x => 1234567 x
+12345678\x09x => 12345678        x
+\xC3\xA9\x09x => \xC3\xA9       x
+\xE4\xB8\xAD\x09x => \xE4\xB8\xAD      x
+\x07\x09x => \u0007  x
+\xFF\x09x => \ufffd  x
+##\x09[x => ##      [x
+"#;
+
+#[test]
+fn a_line_is_shown_without_colours_and_tabs(rt: HostRuntime) {
+    let alloc = rt.alloc();
+    for row in LINES.trim().lines() {
+        let (bytes, wanted) = cells(&rt, alloc, row);
+        compare(&rt, row, made(&rt, line_text(alloc, bytes)), wanted);
+    }
+}
+
+/// Bytes of a text, and its lines, each with a mark after it.
+const TEXTS: &str = r#"
+a => a|
+ => 
+\x0A \x0D\x0A => 
+\x0A\x20\x0Aa\x0A\x0A b\x0A\x1B[0m\x0A => a|| b|
+a\x09b\x0D\x0A##[x => a       b|##\u005bx|
+"#;
+
+/// The lines, each with a mark after it.
+fn marked(rt: &impl Abort, alloc: Global, lines: &[String]) -> String {
+    let mut marked = String::new(alloc);
+    for line in lines {
+        push_marked(rt, &mut marked, line.as_str());
+    }
+    marked
+}
+
+/// Appends a text and a mark.
+fn push_marked(rt: &impl Abort, marked: &mut String, text: &str) {
+    marked.push_str(text).expect(rt, "memory");
+    marked.push('|').expect(rt, "memory");
+}
+
+#[test]
+fn a_text_has_no_empty_line_at_its_ends(rt: HostRuntime) {
+    let alloc = rt.alloc();
+    for row in TEXTS.trim().lines() {
+        let (bytes, wanted) = cells(&rt, alloc, row);
+        let lines = text_lines(alloc, bytes).expect(&rt, "memory");
+        compare(&rt, row, marked(&rt, alloc, &lines).as_bytes(), wanted);
+    }
+}
+
+/// A number of columns, a text, and its pieces, each with a mark after it. Of ten characters that
+/// fit, a blank counts from the fourth on.
+const PIECES: &str = r#"
+10 => abcdefghij => abcdefghij|
+10 => abcd fghijk => abcd|fghijk|
+10 => abc efghijk => abc efghij|k|
+10 => abcdefghi jk => abcdefghi|jk|
+10 => abcdefghij k => abcdefghij|k|
+10 => abc     ijkl => abc|ijkl|
+10 => ab              => ab|
+10 =>  => |
+10 =>              x => |x|
+3 => ab cdef => ab|cde|f|
+2 => \xE4\xB8\xAD\xE4\xB8\xAD => \xE4\xB8\xAD|\xE4\xB8\xAD|
+0 => ab => a|b|
+"#;
+
+/// The pieces of a text, each with a mark after it.
+fn pieces_of(rt: &impl Abort, alloc: Global, columns: usize, bytes: &[u8]) -> String {
+    let text = ShownText::of(alloc, bytes).expect(rt, "memory");
+    let mut marked = String::new(alloc);
+    for piece in &broken(alloc, &text, columns).expect(rt, "memory") {
+        push_marked(rt, &mut marked, piece_text(rt, alloc, piece).as_str());
+    }
+    marked
+}
+
+/// The characters of a piece as a text.
+fn piece_text(rt: &impl Abort, alloc: Global, piece: &ShownText) -> String {
+    piece
+        .characters()
+        .iter()
+        .copied()
+        .collect(alloc)
+        .expect(rt, "memory")
+}
+
+#[test]
+fn texts_are_broken_at_late_blanks(rt: HostRuntime) {
+    let alloc = rt.alloc();
+    for row in PIECES.trim().lines() {
+        let (columns, bytes, wanted) = limited(&rt, alloc, row);
+        compare(
+            &rt,
+            row,
+            pieces_of(&rt, alloc, columns, bytes).as_bytes(),
+            wanted,
+        );
+    }
 }

@@ -24,7 +24,7 @@ use std::alloc::{AllocError, Global};
 
 /// Reads the object that an entry, or an item of `after`, names. A text is the address of an object
 /// that is not deposed.
-fn object_named(value: &Value) -> Option<ObjectName<'_>>
+pub fn object_named(value: &Value) -> Option<ObjectName<'_>>
     ensures { option_map name_view result ≡ object_named (view value.now) }
 {
     match value.as_str() {
@@ -92,7 +92,7 @@ pub fn walk_unknown<'a>(
 }
 
 /// Looks up the kind of the step with this number in a change.
-fn kind_of(change: Option<&Change>, number: usize) -> Option<StepKind>
+pub fn kind_of(change: Option<&Change>, number: usize) -> Option<StepKind>
     ensures { result ≡ kind_of (option_copied change.entry) number }
 {
     change?.steps().get(number).copied()
@@ -136,7 +136,7 @@ fn is_deposed(change: Option<&Change>) -> bool
 }
 
 /// Returns whether the `failed` of a step has the severity `warning`.
-fn only_warns(step: &Value) -> bool
+pub fn only_warns(step: &Value) -> bool
     ensures { result ≡ only_warns (view step.now) }
 {
     let Some(failed) = member(step, Name::Failed.text()) else {

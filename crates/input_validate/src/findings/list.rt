@@ -2,8 +2,9 @@
 //!
 //! Every `Err` means that memory was refused.
 
-ghost use Rattle.std.specs.Prelude.{◌≡◌, [], ◌∷◌, ◌++◌, ◌||◌, List, IfOk, OnOk, map};
-ghost use Rattle.input_validate.specs.Findings.{finding_at, finding_here, reported, under};
+ghost use Rattle.std.specs.Prelude.{◌≡◌, ◌≤◌, [], ◌∷◌, ◌++◌, ◌||◌, List, IfOk, OnOk, length, map, take};
+ghost use Rattle.std.specs.List.{list_any};
+ghost use Rattle.input_validate.specs.Findings.{finding_at, finding_here, is_refusal, reported, under};
 ghost use Rattle.input_validate.specs.declared.findings.finding.Finding.{Finding as finding_type};
 
 use crate::findings::finding::Finding;
@@ -97,6 +98,17 @@ impl Findings {
         Ok(self)
     }
 
+    /// Keeps the first finding alone.
+    #[tactic(auto, unfolding(crate::specs::Findings::reported))]
+    pub fn first(mut self) -> Findings
+        ensures { (all : List finding_type) → self ≡ reported all → result ≡ reported (take 1 all) }
+    {
+        self.stored.truncate(1);
+        self.count = self.stored.len();
+        self.refuses = is_any_refusal(&self.stored);
+        self
+    }
+
     /// Returns whether a run refuses for one of the findings. If not, all of them are warnings.
     pub fn refuses(&self) -> bool
         ensures { result ≡ self.now.refuses }
@@ -120,7 +132,19 @@ impl Findings {
     }
 }
 
-fn is_either(one: bool, other: bool) -> bool
+/// Returns whether a run refuses for the first of these findings.
+fn is_any_refusal(findings: &[Finding]) -> bool
+    requires { length findings.now ≤ 1 }
+    ensures { result ≡ list_any is_refusal findings.now }
+{
+    match findings.first() {
+        Some(finding) => finding.problem.is_refusal(),
+        None => false,
+    }
+}
+
+/// Returns whether one of two tests holds.
+pub fn is_either(one: bool, other: bool) -> bool
     ensures { result ≡ (one || other) }
 {
     one || other

@@ -6,8 +6,8 @@ ghost use Rattle.input_validate.specs.Findings.{is_refusal_of};
 use crate::findings::expected::Expected;
 use apply_plan::{ScriptError, StepKind};
 
-/// What is wrong with the value that a path leads to. `NotRead` is a warning, and a run refuses for
-/// each of the others.
+/// What is wrong with the value that a path leads to. The last four are warnings, and a run refuses
+/// for each of the others.
 #[derive(Clone, Copy, Debug)]
 pub enum Problem {
     /// The input has more than 67,108,864 bytes.
@@ -67,6 +67,13 @@ pub enum Problem {
     Waits,
     /// No run reads the member.
     NotRead,
+    /// The step fails, and no step waits for its change.
+    UnheededFailure,
+    /// The step is skipped, and nothing fails.
+    NeedlessSkip,
+    /// The plan leaves the output with this number unknown, and the script does not state it. The
+    /// number is its place in `output_changes`, in the order of the names' bytes.
+    ValuelessOutput(usize),
 }
 
 impl Problem {
@@ -75,7 +82,10 @@ impl Problem {
         ensures { result ≡ is_refusal_of self }
     {
         match self {
-            Problem::NotRead => false,
+            Problem::NotRead
+            | Problem::UnheededFailure
+            | Problem::NeedlessSkip
+            | Problem::ValuelessOutput(_) => false,
             _ => true,
         }
     }

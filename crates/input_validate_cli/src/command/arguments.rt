@@ -1,6 +1,7 @@
 //! The arguments of `validate`.
 
 ghost use Rattle.std.specs.Prelude.{◌≡◌, IfOk, false, true, codes, is_some, option_map, string_bytes};
+ghost use Rattle.std.specs.Option.{option_copied};
 ghost use Rattle.clap.specs.Faults.{is_simple_and_free};
 ghost use Rattle.clap.specs.Matches.{found_of};
 ghost use Rattle.clap.specs.Simple.{app_of, is_simple};
@@ -27,7 +28,7 @@ const AFTER: &str = r#"Example:
 
 Exit status:
   0  nothing was found; or help was printed
-  1  only warnings: members of the script that no run reads
+  1  only warnings: members of the script that no run reads, and likely mistakes
   2  a run with these options refuses the plan or the script; or wrong options, or a file or a plan that can't be read
   3  out of memory, or the output could not be written"#;
 
@@ -40,6 +41,18 @@ pub struct Settings {
     pub lanes: bool,
     /// The form of the run's stream. Without `--form` it is this program's own.
     pub form: Form,
+}
+
+impl Settings {
+    /// Returns the name of the script's file, if one is given.
+    pub(crate) fn script_name(&self) -> Option<&str>
+        ensures { option_copied result ≡ option_map string_bytes self.now.script }
+    {
+        match &self.script {
+            Some(name) => Some(name.as_str()),
+            None => None,
+        }
+    }
 }
 
 /// Defines the options and their help. `Err` where memory is refused.

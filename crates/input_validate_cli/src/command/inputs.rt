@@ -124,13 +124,13 @@ fn read_script<F: Files>(
     let Some(name) = &settings.script else {
         return Ok(None);
     };
-    let Ok(mut file) = fs::open(files, name.as_str()) else {
-        return Err(ValidateFault::Unopened);
-    };
-    match read_all(alloc, &mut file) {
-        Ok(script) => Ok(Some(script)),
-        Err(ReadFault::Unread(failed)) => Err(ValidateFault::Script(failed)),
-        Err(ReadFault::Memory) => Err(ValidateFault::Memory),
+    match fs::open(files, name.as_str()) {
+        Ok(mut file) => match read_all(alloc, &mut file) {
+            Ok(script) => Ok(Some(script)),
+            Err(ReadFault::Unread(failed)) => Err(ValidateFault::Script(failed)),
+            Err(ReadFault::Memory) => Err(ValidateFault::Memory),
+        },
+        Err(error) => Err(ValidateFault::Unopened(error)),
     }
 }
 

@@ -170,7 +170,7 @@ fn push_findings(
     }
     match tree_of(alloc, bytes)? {
         Some(tree) => push_tree(alloc, text, input, first, &tree, names),
-        None => push_no_tree(alloc, text, input, first),
+        None => push_no_tree(alloc, text, input, first, bytes),
     }
 }
 
@@ -222,11 +222,12 @@ fn push_no_tree(
     text: &mut String,
     input: Input,
     findings: &[Finding],
+    bytes: &[u8],
 ) -> Result<(), AllocError>
     ensures { OnOk result (line_count (string_bytes text.new) ≡ line_count (string_bytes text.old) + length findings.now) }
 {
     for finding in findings {
-        let line = bytes_text(alloc, input, finding.problem)?;
+        let line = bytes_text(alloc, input, bytes, finding.problem)?;
         push_line(text, line.as_str())?;
     }
     Ok(())

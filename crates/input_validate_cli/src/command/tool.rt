@@ -2,11 +2,11 @@
 
 ghost use Rattle.std.specs.Prelude.{false};
 ghost use Rattle.input_validate_cli.specs.CommandLine.{arguments};
-ghost use Rattle.input_validate_cli.specs.Validated.{HasValidated, IsSilent};
+ghost use Rattle.input_validate_cli.specs.Validated.{HasValidated, IsQuiet};
 
 use crate::command::arguments::{Settings, command, settings_of};
 use crate::command::inputs::read_inputs;
-use crate::command::refusals::refuse;
+use crate::command::refusals::refuse_input;
 use crate::command::validate_fault::ValidateFault;
 use crate::command::validating::validate;
 use clap::{ArgMatches, Command};
@@ -37,9 +37,7 @@ impl Tool for Validate {
 
     ghost reads_on = { λ answer. false };
 
-    ghost most_quiet = { 1 };
-
-    ghost is_silent = { IsSilent };
+    ghost is_quiet = { IsQuiet };
 
     ghost most_status = { 3 };
 
@@ -87,10 +85,7 @@ impl Tool for Validate {
                 out,
                 faults,
             ),
-            Err(fault) => Report {
-                status: refuse(faults, fault),
-                answer: Err(fault),
-            },
+            Err(fault) => refuse_input(alloc, faults, settings.script_name(), fault),
         }
     }
 }

@@ -5,6 +5,7 @@ ghost use Rattle.input_validate_cli.specs.Causes.{as_validate_fault};
 ghost use Rattle.input_validate_cli.specs.declared.command.validate_fault.ValidateFault.TheVariants.{Memory};
 
 use std::alloc::AllocError;
+use std::io;
 use stream_lines::FailedRead;
 use stream_tool::WriteFault;
 use thiserror::Error;
@@ -16,12 +17,13 @@ pub enum ValidateFault {
     #[error("the plan could not be read")]
     Plan(FailedRead),
     /// The script's file could not be opened. Nothing was written.
-    #[error("the script file could not be read")]
-    Unopened,
+    #[error("the script file could not be opened")]
+    Unopened(io::Error),
     /// A read of the script's file failed. Nothing was written.
     #[error("the script file could not be read")]
     Script(FailedRead),
-    /// Memory was refused: nothing was written.
+    /// Memory was refused, if only for the name of a script's file that could not be opened or
+    /// read. Nothing was written.
     #[error("out of memory")]
     Memory,
     /// A write or a flush failed, because the reader of the output is gone.

@@ -9,9 +9,11 @@ use crate::texts::against_plan::{
 use crate::texts::count::Count;
 use crate::texts::expected::expected_text;
 use crate::texts::jq_path::{path_text, value_at};
+use crate::texts::json_end::json_end;
 use crate::texts::nearest_names::not_read_text;
 use crate::texts::plan_names::{PlanNames, text_at};
 use crate::texts::plan_outputs::unknown_output_text;
+use crate::texts::text_place::TextPlace;
 use crate::texts::value::{shortened_json, value_text};
 use apply_plan::{
     MAX_BYTES, MAX_CHANGES, MAX_OUTPUTS, MAX_PROVISIONERS, MAX_SECONDS, MAX_WAITS, ScriptError,
@@ -40,21 +42,43 @@ impl Input {
             Input::Plan(len) | Input::Script(len) => Count(len),
         }
     }
+
+    /// Returns whether the input is the file of a saved plan, a zip file, in place of its JSON.
+    fn is_saved_plan(self, bytes: &[u8]) -> bool {
+        match self {
+            Input::Plan(_) => bytes.starts_with(b"PK"),
+            Input::Script(_) => false,
+        }
+    }
 }
+
+/// The line for the file of a saved plan.
+const SAVED_PLAN: &str = "plan .: is a saved plan: terraform show -json PLANFILE prints it as JSON";
 
 /// The eight lists of actions.
 const ACTIONS: &str =
     r#"["no-op"], ["create"], ["read"], ["update"], ["delete"], ["forget"], ["delete","create"] or ["create","delete"]"#;
 
-/// Makes the line for an input that is too large or not JSON.
-pub fn bytes_text(alloc: Global, input: Input, problem: Problem) -> Result<String, AllocError> {
+/// Makes the line for an input that is too large or not JSON. `bytes` is the input.
+pub fn bytes_text(
+    alloc: Global,
+    input: Input,
+    bytes: &[u8],
+    problem: Problem,
+) -> Result<String, AllocError> {
     let word = input.word();
     match problem {
         Problem::TooManyBytes => {
             let (len, most) = (input.len(), Count(MAX_BYTES as u64));
             format!(in alloc; "{word} .: has {len} bytes, {most} at most")
         }
-        _ => format!(in alloc; "{word} .: is not JSON, or nested more than 127 deep"),
+        _ if input.is_saved_plan(bytes) => String::from_str(alloc, SAVED_PLAN),
+        _ => {
+            let TextPlace { line, column } = json_end(alloc, bytes)?;
+            format!(in alloc;
+                "{word} line {line}, column {column}: is not JSON, or nested more than 127 deep"
+            )
+        }
     }
 }
 
@@ -68,13 +92,27 @@ pub fn finding_text(
     names: &PlanNames<'_>,
     has_near: bool,
 ) -> Result<String, AllocError> {
-    let path = path_text(alloc, tree, &finding.path)?;
-    let word = input.word();
+    let (word, path) = place_text(alloc, input, tree, finding, names)?;
     let text = what_text(alloc, tree, finding, names, has_near)?;
     if finding.problem.is_refusal() {
         format!(in alloc; "{word} {path}: {text}")
     } else {
         format!(in alloc; "warning: {word} {path}: {text}")
+    }
+}
+
+/// Makes the text of a place: the input, and the path. A doubt about an output is placed in the
+/// plan.
+fn place_text(
+    alloc: Global,
+    input: Input,
+    tree: &Value,
+    finding: &Finding,
+    names: &PlanNames<'_>,
+) -> Result<(&'static str, String), AllocError> {
+    match finding.problem {
+        Problem::ValuelessOutput(number) => Ok(("plan", names.changed_output_path(alloc, number)?)),
+        _ => Ok((input.word(), path_text(alloc, tree, &finding.path)?)),
     }
 }
 
@@ -177,6 +215,15 @@ fn what_text(
         Problem::NotRead => not_read_text(alloc, tree, finding),
         Problem::ForPlan(refusal) => String::from_str(alloc, for_plan_text(refusal)),
         Problem::Waits => String::from_str(alloc, "waits, which takes --parallelism"),
+        Problem::UnheededFailure => {
+            String::from_str(alloc, "fails, and no step waits for it (\"after\")")
+        }
+        Problem::NeedlessSkip => {
+            String::from_str(alloc, "nothing fails, so Terraform would not skip it")
+        }
+        Problem::ValuelessOutput(_) => {
+            String::from_str(alloc, "is unknown, and the script tells no value")
+        }
     }
 }
 

@@ -54,7 +54,7 @@ pub fn path_text(alloc: Global, tree: &Value, path: &Path) -> Result<String, All
 }
 
 /// Adds the segment of a member. `Err` means that memory was refused.
-fn push_name(alloc: Global, text: &mut String, name: &str) -> Result<(), AllocError> {
+pub fn push_name(alloc: Global, text: &mut String, name: &str) -> Result<(), AllocError> {
     if is_identifier(name.as_bytes()) {
         text.push('.')?;
         return text.push_str(name);

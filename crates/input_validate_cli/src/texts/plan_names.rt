@@ -2,10 +2,11 @@
 //!
 //! Every `Err` means that memory was refused.
 
+use crate::texts::jq_path::{other_name, push_name};
 use crate::texts::nearest_names::{first_near, push_near};
-use crate::texts::plan_outputs::output_names;
+use crate::texts::plan_outputs::{output_changes, output_names};
 use crate::texts::value::json_text;
-use input_validate::{Name, nearest};
+use input_validate::{Name, nearest, nearest_addresses};
 use serde_json::Value;
 use std::alloc::{AllocError, Global};
 use std::collections::BTreeSet;
@@ -22,6 +23,8 @@ pub struct PlanNames<'a> {
     outputs: Vec<&'a str>,
     /// The address and the deposed key of each change.
     changes: Vec<(&'a str, Option<&'a str>)>,
+    /// The outputs that the plan changes.
+    output_changes: Option<&'a Value>,
 }
 
 impl<'a> PlanNames<'a> {
@@ -31,6 +34,7 @@ impl<'a> PlanNames<'a> {
             addresses: Vec::new(alloc),
             outputs: output_names(alloc, plan)?,
             changes: Vec::new(alloc),
+            output_changes: output_changes(plan),
         };
         let mut seen = BTreeSet::new(alloc);
         for element in elements_of(plan) {
@@ -51,7 +55,8 @@ impl<'a> PlanNames<'a> {
         text: &mut String,
         stated: &str,
     ) -> Result<(), AllocError> {
-        push_near_among(alloc, text, stated, &self.addresses)
+        let near = nearest_addresses(alloc, stated, &self.addresses, reach_of(stated))?;
+        push_names(alloc, text, &self.addresses, &near)
     }
 
     /// Adds the outputs that are near to an unknown one.
@@ -61,7 +66,16 @@ impl<'a> PlanNames<'a> {
         text: &mut String,
         stated: &str,
     ) -> Result<(), AllocError> {
-        push_near_among(alloc, text, stated, &self.outputs)
+        let near = nearest(alloc, stated, &self.outputs, reach_of(stated))?;
+        push_names(alloc, text, &self.outputs, &near)
+    }
+
+    /// Makes the path to the output with this number in the `output_changes` of the plan.
+    pub fn changed_output_path(&self, alloc: Global, number: usize) -> Result<String, AllocError> {
+        let mut path = String::from_str(alloc, ".output_changes")?;
+        let name = other_name(self.output_changes, number).unwrap_or("");
+        push_name(alloc, &mut path, name)?;
+        Ok(path)
     }
 
     /// Lists the deposed keys that the plan has at an address. The object that is not deposed
@@ -82,16 +96,19 @@ impl<'a> PlanNames<'a> {
     }
 }
 
-/// Adds the names that are near to an unknown one.
-fn push_near_among(
+/// Returns how many edits an unknown name may be away from a name that is suggested.
+fn reach_of(stated: &str) -> usize {
+    (stated.chars().count() / 3).max(1)
+}
+
+/// Adds the first of the names with these numbers.
+fn push_names(
     alloc: Global,
     text: &mut String,
-    stated: &str,
     all: &[&str],
+    near: &[usize],
 ) -> Result<(), AllocError> {
-    let reach = (stated.chars().count() / 3).max(1);
-    let near = nearest(alloc, stated, all, reach)?;
-    let shown = first_near(alloc, all, &near)?;
+    let shown = first_near(alloc, all, near)?;
     push_near(text, &shown)
 }
 

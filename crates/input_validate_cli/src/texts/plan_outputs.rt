@@ -34,6 +34,11 @@ pub fn output_names(alloc: Global, plan: Option<&Value>) -> Result<Vec<&str>, Al
     Ok(names)
 }
 
+/// Returns the outputs that a plan changes.
+pub fn output_changes(plan: Option<&Value>) -> Option<&Value> {
+    value_in(plan, "output_changes")
+}
+
 /// Returns whether the plan states a change for an output.
 fn is_changed(changes: Option<&Map<String, Value>>, name: &str) -> bool {
     let Some(changes) = changes else {

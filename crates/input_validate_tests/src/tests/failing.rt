@@ -91,10 +91,15 @@ fn inputs_that_cannot_be_read(rt: HostRuntime) {
         "applystream: the plan could not be read\n",
     );
     assert!(rt; matches!(plan.answer, Some(Err(ValidateFault::Plan(_)))));
-    let words = ["--script", "no/such/script.json"];
-    let stated = "applystream: the script file could not be read\n";
+    let words = ["--script", "no/such\nscript.json"];
+    let stated =
+        "applystream: the script file no/such\\nscript.json could not be opened: No such file or directory (os error 2)\n";
     let script = refused(&rt, &rt, rt.alloc(), &words, stated);
-    assert!(rt; matches!(script.answer, Some(Err(ValidateFault::Unopened))));
+    assert!(rt; matches!(script.answer, Some(Err(ValidateFault::Unopened(_)))));
+    let words = ["--script", "."];
+    let stated = "applystream: the script file . could not be read: Is a directory (os error 21)\n";
+    let script = refused(&rt, &rt, rt.alloc(), &words, stated);
+    assert!(rt; matches!(script.answer, Some(Err(ValidateFault::Script(_)))));
     let unknown = refused(&rt, &rt, rt.alloc(), &["--scripts"], "error: ");
     assert!(rt; unknown.answer.is_none());
 }

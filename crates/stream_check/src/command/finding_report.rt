@@ -14,8 +14,8 @@ pub struct FindingReport<'a> {
     pub is_cut_off: bool,
     /// What the message of the line is about, where the fault reports it.
     pub object: Option<Object<'a>>,
-    /// What stands open, where that is the fault.
-    pub open: &'a [OpenEntry<'a>],
+    /// What stands open, or what was planned and never began, where that is the fault.
+    pub listed: &'a [OpenEntry<'a>],
     /// How many lines of the input stand before the stream. Their number is added to each line.
     pub lines_before: u64,
     /// How many runs the input has, where its second run is the fault and they were counted.

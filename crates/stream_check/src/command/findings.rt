@@ -7,8 +7,7 @@ ghost use Rattle.stream_check.specs.Checking.{HasRead};
 ghost use Rattle.stream_check.specs.Faults.{is_no_json, reports_object};
 ghost use Rattle.stream_check.specs.Judged.{StopsAt};
 ghost use Rattle.stream_check.specs.Message.{Message};
-ghost use Rattle.stream_check.specs.Reports.{IsReported, IsReportOf};
-ghost use Rattle.stream_check.specs.Unended.{AreAllOpen};
+ghost use Rattle.stream_check.specs.Reports.{AreListed, IsReported, IsReportOf};
 ghost use Rattle.stream_check.specs.declared.command.settings.Form.TheVariants as forms;
 ghost use Rattle.stream_check.specs.declared.command.unreported.Unreported.TheVariants.{Gone, Memory};
 ghost use Rattle.stream_check.specs.declared.rules.mode.Mode.{Mode as mode_type};
@@ -18,7 +17,7 @@ use crate::command::finding_report::FindingReport;
 use crate::command::object::{Object, object_in};
 use crate::command::reading_on::{runs_there, suggest};
 use crate::command::settings::Form;
-use crate::command::texts::finding_line;
+use crate::command::texts::{finding_line, report_text};
 use crate::command::unreported::Unreported;
 use crate::command::verdict_lines::finding_json;
 use crate::command::writing::write_line;
@@ -54,14 +53,14 @@ pub fn report_finding<R: BufRead, W: Write, E: Write>(
 {
     let mut scratch = Scratch::new(alloc);
     let object = object_of(alloc, &mut scratch, mode, line, finding.fault)?;
-    let open = open_entries(alloc, checker, finding.fault)?;
+    let listed = listed_entries(alloc, checker, finding.fault)?;
     let runs = runs_there(alloc, mode.find, form, finding.fault, reader)?;
     let report = FindingReport {
         finding: *finding,
         text: &line.text,
         is_cut_off: is_cut_off(line, finding.fault),
         object,
-        open: &open,
+        listed: &listed,
         lines_before: mode.lines_before,
         runs,
     };
@@ -69,6 +68,33 @@ pub fn report_finding<R: BufRead, W: Write, E: Write>(
         Form::Text => report_finding_text(alloc, mode.find, &report, reader, faults),
         Form::Json => report_finding_object(alloc, &report, out),
     }
+}
+
+/// Returns what is reported of the finding to people, without the name of the program and without a
+/// line feed. Texts of the stream are cut, and their control characters are escaped.
+///
+/// `checker` has read the lines before the finding, and `line` holds the line at which the check
+/// ended. `Err` where memory was refused.
+pub fn finding_words(
+    alloc: Global,
+    mode: Mode,
+    checker: &Checker,
+    line: &Line,
+    finding: &Finding,
+) -> Result<String, AllocError> {
+    let mut scratch = Scratch::new(alloc);
+    let object = object_of(alloc, &mut scratch, mode, line, finding.fault)?;
+    let listed = listed_entries(alloc, checker, finding.fault)?;
+    let report = FindingReport {
+        finding: *finding,
+        text: &line.text,
+        is_cut_off: is_cut_off(line, finding.fault),
+        object,
+        listed: &listed,
+        lines_before: mode.lines_before,
+        runs: None,
+    };
+    report_text(alloc, &report)
 }
 
 /// Whether the stream was cut off within its last line.
@@ -132,17 +158,19 @@ fn object_of<'a>(
     }
 }
 
-/// Returns what stands open, where that is the fault. `Err` where memory was refused.
-fn open_entries<'a>(
+/// Returns what stands open, or what was planned and never began, where that is the fault. `Err`
+/// where memory was refused.
+fn listed_entries<'a>(
     alloc: Global,
     checker: &'a Checker,
     fault: Fault,
 ) -> Result<Vec<OpenEntry<'a>>, AllocError>
-    ensures { IfOk result (λ entries. fault ≡ Fault.Unended → (messages : List Message) → HasRead checker.now messages
-        → AreAllOpen messages entries.items) }
+    ensures { IfOk result (λ entries. (messages : List Message) → HasRead checker.now messages
+        → AreListed fault messages entries.items) }
 {
     match fault {
         Fault::Unended => checker.open_entries(alloc),
+        Fault::Planned => checker.unbegun_entries(alloc),
         _ => Ok(Vec::new(alloc)),
     }
 }

@@ -102,7 +102,8 @@ fn put_details(members: &mut Members, report: &FindingReport<'_>)
             put_totals(members, "says", stated);
             put_totals(members, "counted", counted);
         }
-        Fault::Unended => put_open(members, report.lines_before, report.open),
+        Fault::Unended => put_entries(members, "open", report.lines_before, report.listed),
+        Fault::Planned => put_entries(members, "planned", report.lines_before, report.listed),
         Fault::NoMessage(lines) => members.number("lines", lines),
         _ => {}
     }
@@ -135,21 +136,21 @@ fn totals_object(alloc: Global, totals: Totals) -> Result<Value, AllocError>
     members.object()
 }
 
-/// Adds all that stands open.
-fn put_open(members: &mut Members, lines_before: u64, entries: &[OpenEntry<'_>])
-    ensures { Puts members.old members.new (report_object.with_open lines_before entries.now) }
+/// Adds all entries, as a member of that name.
+fn put_entries(members: &mut Members, name: &str, lines_before: u64, entries: &[OpenEntry<'_>])
+    ensures { Puts members.old members.new (report_object.with_entries name.now lines_before entries.now) }
 {
-    let value = open_array(members.alloc(), lines_before, entries);
-    members.made("open", value);
+    let value = entries_array(members.alloc(), lines_before, entries);
+    members.made(name, value);
 }
 
-/// Returns all that stands open, as an array. `Err` where memory was refused.
-fn open_array(
+/// Returns all entries, as an array. `Err` where memory was refused.
+fn entries_array(
     alloc: Global,
     lines_before: u64,
     entries: &[OpenEntry<'_>],
 ) -> Result<Value, AllocError>
-    ensures { IfOk result (λ value. view value ≡ report_object.open_array lines_before entries.now) }
+    ensures { IfOk result (λ value. view value ≡ report_object.entries_array lines_before entries.now) }
 {
     let mut values = Vec::new(alloc);
     for entry in entries {

@@ -22,6 +22,8 @@ pub struct Settings {
     pub mode: Mode,
     /// The run that is checked, of several in the input. `None` checks the whole input.
     pub run: Option<RunChoice>,
+    /// The file for the messages of the input. `None` keeps none.
+    pub write: Option<String>,
     /// The form of the verdict.
     pub form: Form,
     /// The file with the stream. Without a file, or with `-`, the stream is standard input.

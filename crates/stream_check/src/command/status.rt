@@ -33,7 +33,8 @@ fn fault_status(fault: ReadFault) -> u8
 {
     match fault {
         ReadFault::Found(_) => NOT_WHOLE,
-        ReadFault::TooMany | ReadFault::NoRun(_) | ReadFault::Unread(_) => REFUSED,
-        ReadFault::Memory => FAILED,
+        ReadFault::TooMany | ReadFault::NoRun(_) | ReadFault::Unread(_) | ReadFault::Uncreated(_) =>
+            REFUSED,
+        ReadFault::Unwritten | ReadFault::Memory => FAILED,
     }
 }

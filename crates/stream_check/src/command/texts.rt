@@ -21,17 +21,29 @@ const MAX_SHOWN: usize = 1_024;
 /// How many bytes are printed of a line that is no message.
 pub const LINE_FRONT: usize = 80;
 
-/// How many open entries are printed.
-const MAX_OPEN: usize = 10;
+/// How many entries are printed of what stands open, or never began.
+const MAX_LISTED: usize = 10;
 
 /// Returns the line about a stream that is not whole.
 pub fn finding_line(alloc: Global, report: &FindingReport<'_>) -> Result<String, AllocError> {
     let mut words = MessageText::new(alloc);
     words.text("applystream: ");
-    append_finding(alloc, &mut words, report);
-    append_details(&mut words, report);
+    append_report(alloc, &mut words, report);
     words.text("\n");
     words.words()
+}
+
+/// Returns the text about a stream that is not whole.
+pub fn report_text(alloc: Global, report: &FindingReport<'_>) -> Result<String, AllocError> {
+    let mut words = MessageText::new(alloc);
+    append_report(alloc, &mut words, report);
+    words.words()
+}
+
+/// Appends the number of the line, the fault, and what else is known about it.
+fn append_report(alloc: Global, words: &mut MessageText, report: &FindingReport<'_>) {
+    append_finding(alloc, words, report);
+    append_details(words, report);
 }
 
 /// Appends the number of the line and the fault.
@@ -40,6 +52,9 @@ fn append_finding(alloc: Global, words: &mut MessageText, report: &FindingReport
     if report.is_cut_off {
         words.text("line ");
         words.count(finding.line, " is cut off");
+    } else if let Fault::Planned = finding.fault {
+        words.text("line ");
+        words.count(finding.line, " is the last, and ");
     } else {
         words.made(finding.to_string(alloc));
     }
@@ -54,8 +69,9 @@ fn append_details(words: &mut MessageText, report: &FindingReport<'_>) {
         }
         Fault::Unended => {
             words.text(": ");
-            append_open(words, report.lines_before, report.open);
+            append_open(words, report.lines_before, report.listed);
         }
+        Fault::Planned => append_planned(words, report.lines_before, report.listed),
         Fault::WrongTotals(stated, counted) => {
             words.text(": says ");
             append_totals(words, stated, " added, ", " changed, ", " destroyed, and ");
@@ -91,29 +107,47 @@ fn append_open(words: &mut MessageText, lines_before: u64, open: &[OpenEntry<'_>
     if open.len() != 1 {
         words.count(open.len() as u64, " stand open: ");
     }
-    let named = &open[..open.len().min(MAX_OPEN)];
+    append_entries(words, lines_before, open, " since line ", "");
+}
+
+/// Appends which planned creates never began: one by itself, else their number and the first ten.
+fn append_planned(words: &mut MessageText, lines_before: u64, planned: &[OpenEntry<'_>]) {
+    let before_line = " (planned in line ";
+    if planned.len() == 1 {
+        append_entries(words, lines_before, planned, before_line, ")");
+        words.text(" never began");
+    } else {
+        words.count(planned.len() as u64, " creates never began: ");
+        append_entries(words, lines_before, planned, before_line, ")");
+    }
+}
+
+/// Appends the first ten entries, and how many more there are.
+fn append_entries(
+    words: &mut MessageText,
+    lines_before: u64,
+    entries: &[OpenEntry<'_>],
+    before_line: &str,
+    after_line: &str,
+) {
+    let named = &entries[..entries.len().min(MAX_LISTED)];
     for (index, entry) in named.iter().enumerate() {
         if index > 0 {
             words.text(", ");
         }
-        append_entry(words, lines_before, *entry);
+        words.text(entry.kind.word());
+        words.text(" of ");
+        words.escaped(MAX_SHOWN, entry.address);
+        words.text(before_line);
+        words.count(line_after(lines_before, entry.line), after_line);
     }
-    if open.len() > MAX_OPEN {
+    if entries.len() > MAX_LISTED {
         words.text(", and ");
-        words.count((open.len() - MAX_OPEN) as u64, " more");
+        words.count((entries.len() - MAX_LISTED) as u64, " more");
     }
 }
 
-/// Appends one open entry.
-fn append_entry(words: &mut MessageText, lines_before: u64, entry: OpenEntry<'_>) {
-    words.text(entry.kind.word());
-    words.text(" of ");
-    words.escaped(MAX_SHOWN, entry.address);
-    words.text(" since line ");
-    words.count(line_after(lines_before, entry.line), "");
-}
-
-/// Returns the text about a whole stream.
+/// Returns the text about a whole stream, without a line feed. `Err` where memory was refused.
 pub fn whole_text(alloc: Global, whole: &Whole) -> Result<String, AllocError>
     ensures { IfOk result (λ text. string_bytes text ≡ whole_text whole.now) }
 {

@@ -1,10 +1,10 @@
 //! The tool `check`.
 
-ghost use Rattle.stream_check.specs.CommandLine.{HasChecked, IsSilent, arguments, is_fault};
+ghost use Rattle.stream_check.specs.CommandLine.{HasChecked, IsQuiet, arguments, is_fault};
 
-use crate::command::arguments::{command, settings_of};
+use crate::command::arguments::{command, conflict, settings_of};
 use crate::command::checked::Checked;
-use crate::command::checking::check_input;
+use crate::command::keeping::check_and_keep;
 use crate::command::settings::Settings;
 use crate::command::status::exit_status;
 use crate::verdict::read_fault::ReadFault;
@@ -12,7 +12,6 @@ use clap::{ArgMatches, Command};
 use std::alloc::{AllocError, Global};
 use std::io::{BufReader, Read, Write};
 use std::rt::Files;
-use stream_runs::run_refusal;
 use stream_tool::{Report, Tool, Usage};
 
 /// The tool `check`.
@@ -42,9 +41,7 @@ impl Tool for Check {
 
     ghost reads_on = { is_fault };
 
-    ghost most_quiet = { 1 };
-
-    ghost is_silent = { IsSilent };
+    ghost is_quiet = { IsQuiet };
 
     ghost most_status = { 4 };
 
@@ -52,8 +49,8 @@ impl Tool for Check {
         command(alloc)
     }
 
-    fn conflict(alloc: Global, _words: &[String], matches: &ArgMatches<'_>) -> Option<Usage> {
-        run_refusal(alloc, matches)
+    fn conflict(alloc: Global, words: &[String], matches: &ArgMatches<'_>) -> Option<Usage> {
+        conflict(alloc, words, matches)
     }
 
     fn settings_of(alloc: Global, matches: &ArgMatches<'_>) -> Result<Settings, AllocError> {
@@ -77,14 +74,14 @@ impl Tool for Check {
 
     fn run<F: Files, R: Read, W: Write, E: Write>(
         &self,
-        _files: &F,
+        files: &F,
         alloc: Global,
         settings: &Settings,
         reader: &mut BufReader<R>,
         out: &mut W,
         faults: &mut E,
     ) -> Report<Checked> {
-        let answer = check_input(alloc, settings, reader, out, faults);
+        let answer = check_and_keep(files, alloc, settings, reader, out, faults);
         Report {
             status: exit_status(answer.verdict, answer.reported),
             answer,

@@ -1,6 +1,7 @@
 //! What a plan intends for an object.
 
 ghost use Rattle.std.specs.Prelude.{◌≡◌};
+ghost use Rattle.stream_check.specs.Intents.{creates};
 ghost use Rattle.stream_check.specs.Message.{intent_named};
 
 use apply_json::is_text;
@@ -31,6 +32,16 @@ impl Intent {
             Intent::Replace
         } else {
             Intent::Nothing
+        }
+    }
+
+    /// Whether an object is created, by itself or in place of another.
+    pub fn creates(self) -> bool
+        ensures { result ≡ creates self }
+    {
+        match self {
+            Intent::Create | Intent::Replace => true,
+            Intent::Update | Intent::Delete | Intent::Nothing => false,
         }
     }
 }

@@ -10,7 +10,7 @@ use crate::messages::changes::summary_of;
 use crate::messages::diagnostic::diagnostic_of;
 use crate::messages::hook::{provision_of, refresh_of, step_of};
 use crate::messages::intent::Intent;
-use crate::messages::members::inner_text_at;
+use crate::messages::members::{object_at, text_at};
 use crate::messages::message::Message;
 use crate::messages::path::Path;
 use crate::messages::timed_stage::TimedStage;
@@ -85,13 +85,18 @@ pub fn message_of_kind<'a>(line: &LineSlots<'a>, kind: Kind) -> Result<Message<'
     }
 }
 
-/// Returns the message of a planned change. `Err` where its action is missing or no text.
+/// Returns the message of a planned change. An address that is no text counts as missing. `Err`
+/// where the action is missing or no text.
 fn planned_of<'a>(line: &LineSlots<'a>) -> Result<Message<'a>, Fault>
     ensures { mapped message_view result ≡ planned_of_slots line.now }
 {
-    match inner_text_at(Path::ChangeAction, Path::Change, line.change) {
+    match object_at(Path::ChangeAction, Path::Change, line.change.is).and(text_at(
+        Path::ChangeAction,
+        line.change.action,
+    )) {
         Ok(word) => Ok(Message::Planned {
             intent: Intent::named(word),
+            address: line.change.address(),
         }),
         Err(fault) => Err(fault),
     }

@@ -23,8 +23,10 @@ pub enum Message<'a> {
         address: &'a str,
         stage: Stage,
     },
+    /// A planned change, with the address of its object.
     Planned {
         intent: Intent,
+        address: Option<&'a str>,
     },
     PlanSummary {
         totals: Totals,

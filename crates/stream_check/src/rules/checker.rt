@@ -11,16 +11,18 @@ use crate::rules::mode::Mode;
 use crate::rules::open_steps::OpenSteps;
 use crate::rules::piece::piece_of;
 use crate::rules::tally::Tally;
+use crate::rules::unbegun::Unbegun;
 use apply_json::Scratch;
 use std::alloc::Global;
 use stream_message::take_scratch;
 
-/// The state of a check. It grows only with the number of addresses at which something stands open,
-/// and with the longest line.
+/// The state of a check. It grows only with the number of addresses at which something stands open
+/// or a planned create has not begun, and with the longest line.
 #[derive(Drop)]
 pub struct Checker {
     pub(crate) tally: Tally,
     pub(crate) pending: OpenSteps,
+    pub(crate) unbegun: Unbegun,
     // Stored between lines, so that a line needs no memory of its own. It is boxed because reading
     // a line takes it out.
     scratch: Option<Box<Scratch>>,
@@ -40,6 +42,7 @@ impl Checker {
         Checker {
             tally: Tally::new(),
             pending: OpenSteps::new(alloc),
+            unbegun: Unbegun::new(alloc),
             scratch: None,
         }
     }

@@ -13,9 +13,10 @@ use std::alloc::{AllocError, Global};
 
 impl Checker {
     ghost use Rattle.stream_check.specs.Checking.{HasRead};
-    ghost use Rattle.stream_check.specs.Lines.{end_of, whole_with};
+    ghost use Rattle.stream_check.specs.Lines.{end_of, leaves_planned, whole_with};
     ghost use Rattle.stream_check.specs.Message.{Message as message_type};
     ghost use Rattle.stream_check.specs.Open.{any_open};
+    ghost use Rattle.stream_check.specs.Unbegun.{AreAllUnbegun};
     ghost use Rattle.stream_check.specs.Unended.{AreAllOpen};
 
     /// What counts as open after the lines so far.
@@ -36,6 +37,23 @@ impl Checker {
         self.pending.has_open(self.criteria())
     }
 
+    /// Whether an apply was summed up, no error was told, and some planned create never began.
+    fn leaves_planned(&self) -> bool
+        ensures { (messages : List message_type) → HasRead self.now messages → result ≡ leaves_planned messages }
+    {
+        let is_summed_up = self.tally.ends_without_error();
+        let is_any = self.unbegun.is_any();
+        is_summed_up && is_any
+    }
+
+    /// Returns each address with planned creates that never began, in the order of their bytes.
+    /// `Err` where memory is refused.
+    pub fn unbegun_entries(&self, alloc: Global) -> Result<Vec<OpenEntry<'_>>, AllocError>
+        ensures { IfOk result (λ entries. (messages : List message_type) → HasRead self.now messages → AreAllUnbegun messages entries.items) }
+    {
+        self.unbegun.entries(alloc)
+    }
+
     /// Returns all that stands open: addresses in the order of their bytes, and the kinds of each
     /// in the order of `OpenKind`. `Err` where memory is refused.
     pub fn open_entries(&self, alloc: Global) -> Result<Vec<OpenEntry<'_>>, AllocError>
@@ -53,6 +71,9 @@ impl Checker {
         }
         if self.tally.ends_as_plan(mode) {
             return Ok(self.whole(mode, true, self.tally.planned));
+        }
+        if self.leaves_planned() {
+            return Err(Fault::Planned);
         }
         if self.tally.ends_as_apply() {
             return Ok(self.whole(mode, false, self.tally.completed));

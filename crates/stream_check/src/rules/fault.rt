@@ -57,6 +57,8 @@ pub enum Fault {
     WrongTotals(Totals, Totals),
     /// The summary of a plan states the first totals, but the second were planned.
     WrongPlanTotals(Totals, Totals),
+    /// The stream has a summary of an apply and no error, and a planned create never began.
+    Planned,
     /// The stream ends without a summary and without an error.
     NoEnd,
     /// The stream ends with the summary of a plan, as the stream of a plan does.
@@ -91,6 +93,7 @@ impl Fault {
             Fault::ProvisionerRuns(_) => "provisioner_runs",
             Fault::NoProvisioner => "no_provisioner",
             Fault::Unended => "unended",
+            Fault::Planned => "planned",
             Fault::WrongTotals(..) | Fault::WrongPlanTotals(..) => "wrong_totals",
             Fault::NoEnd | Fault::NoApply => "no_end",
             Fault::NoMessage(_) => "no_message",
@@ -108,6 +111,7 @@ impl Fault {
             | Fault::NoType
             | Fault::Malformed(..)
             | Fault::Unended
+            | Fault::Planned
             | Fault::WrongTotals(..)
             | Fault::WrongPlanTotals(..)
             | Fault::NoEnd
@@ -173,6 +177,7 @@ impl Fault {
             Fault::ProvisionerRuns(_) => "starts a provisioner while that of line ",
             Fault::NoProvisioner => "tells of a provisioner that does not run",
             Fault::Unended => "comes before all has ended and each failure is explained",
+            Fault::Planned => "is the last, and a planned create never began",
             Fault::WrongTotals(..) | Fault::WrongPlanTotals(..) => "has totals that do not agree",
             Fault::NoEnd => "is the last, and no summary came",
             Fault::NoApply =>

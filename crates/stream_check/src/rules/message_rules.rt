@@ -38,7 +38,7 @@ impl Checker {
                 stage,
             } => self.step(alloc, address, action, stage),
             Message::Provision { address, stage } => self.provision(alloc, address, stage),
-            Message::Planned { intent } => self.plan(intent),
+            Message::Planned { intent, address } => self.plan(alloc, intent, address),
             Message::PlanSummary { totals } => self.plan_summary(totals),
             Message::Summary { totals } => self.summary(totals),
             Message::Diagnostic { is_error, address } => self.diagnostic(alloc, is_error, address),
@@ -138,6 +138,7 @@ impl Checker {
         let Ok(()) = self.pending.set(alloc, address, state) else {
             return Err(Fault::Memory);
         };
+        self.unbegun.step(address, action, stage);
         self.tally = self.tally.with_step(action, stage);
         Ok(())
     }
@@ -162,13 +163,18 @@ impl Checker {
     }
 
     /// Checks a planned change.
-    fn plan(&mut self, intent: Intent) -> Result<(), Fault>
+    fn plan(&mut self, alloc: Global, intent: Intent, address: Option<&str>) -> Result<(), Fault>
         requires { lines_read self.old < 2 ^ 32 }
-        ensures { Continues self.old self.new (λ messages. after_version messages 0 (planned intent)) result }
+        ensures { Continues self.old self.new (λ messages. after_version messages 0 (planned intent (option_copied address.entry))) result }
     {
         if let Some(line) = self.tally.summary {
             return Err(Fault::AfterSummary(line));
         }
+        let counts = self.tally.awaits_create(intent);
+        let line = self.tally.lines + 1;
+        let Ok(()) = self.unbegun.plan(alloc, counts, address, line) else {
+            return Err(Fault::Memory);
+        };
         self.tally = self.tally.with_planned(intent);
         Ok(())
     }

@@ -6,6 +6,7 @@ ghost use Rattle.std.specs.Cmp.Lexicographic.{slice_cmp};
 ghost use Rattle.std.specs.List.{flat_map};
 ghost use Rattle.std.specs.List.Sorted.{IsStrictlySortedBy};
 ghost use Rattle.std.specs.Ordering.{nat_cmp};
+ghost use Rattle.std.specs.Option.{option_and_then};
 ghost use Rattle.std.specs.Str.{bytes_eq};
 ghost use Rattle.stream_check.specs.Addresses.{addresses_in};
 ghost use Rattle.stream_check.specs.Open.{stands_open};
@@ -69,6 +70,19 @@ impl OpenSteps {
             self.states.insert(key, state)?;
         }
         Ok(())
+    }
+
+    /// Changes the state of the address, if something stands open there.
+    pub fn change(&mut self, address: &str, state: AddressState)
+        ensures { (other : List ℕ) → get_by_text self.new.states other
+            ≡ (if bytes_eq address.now other then option_and_then (λ _. unless_idle state) (get_by_text self.old.states address.now)
+            else get_by_text self.old.states other) }
+    {
+        if is_idle(&state) {
+            let _ = self.states.remove(address);
+        } else if let Some(kept) = self.states.get_mut(address) {
+            *kept = state;
+        }
     }
 
     /// Changes the state of the address by a progress on that line. `Err` with the fault of the

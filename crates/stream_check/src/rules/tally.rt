@@ -1,6 +1,6 @@
 //! Counts the lines of a stream.
 
-ghost use Rattle.std.specs.Prelude.{◌≡◌, ◌<◌, ◌^◌, ◌&&◌, ◌||◌, is_some, []};
+ghost use Rattle.std.specs.Prelude.{◌≡◌, ◌<◌, ◌^◌, ◌&&◌, ◌||◌, is_some, not, []};
 ghost use Rattle.stream_check.specs.Counted.{failures_counted, is_used_up};
 
 use crate::messages::action::Action;
@@ -40,7 +40,7 @@ pub struct Tally {
 
 impl Tally {
     ghost use Rattle.stream_check.specs.Small.{IsSmall};
-    ghost use Rattle.stream_check.specs.Tallied.{has_nothing_begun, is_beyond, no_end_fault, tally_of, with_error, with_error_at, with_foreign, with_line, with_outputs, with_plan_summary, with_planned, with_step, with_summary, with_version};
+    ghost use Rattle.stream_check.specs.Tallied.{awaits_create, has_nothing_begun, is_beyond, no_end_fault, tally_of, with_error, with_error_at, with_foreign, with_line, with_outputs, with_plan_summary, with_planned, with_step, with_summary, with_version};
 
     /// The tally of no line.
     pub fn new() -> Tally
@@ -209,6 +209,21 @@ impl Tally {
                 && is_used_up(share_of(action, self.begun), share_of(action, self.planned)),
             TimedStage::Progress(_) | TimedStage::Complete(_) | TimedStage::Errored(_) => false,
         }
+    }
+
+    /// Whether a change of this intent is a create that waits until it begins: no create has begun,
+    /// since a plan comes before its apply.
+    pub fn awaits_create(&self, intent: Intent) -> bool
+        ensures { result ≡ awaits_create intent self.now }
+    {
+        intent.creates() && self.begun.added == 0
+    }
+
+    /// Whether an apply was summed up, and no error was reported.
+    pub fn ends_without_error(&self) -> bool
+        ensures { result ≡ (is_some self.now.summary && not self.now.has_failed) }
+    {
+        self.summary.is_some() && !self.has_failed
     }
 
     /// Whether the lines are those of a plan: its summary was read, no summary of an apply, and no

@@ -26,9 +26,22 @@ pub enum ReadFault {
     /// A read failed.
     #[error("the stream could not be read")]
     Unread(FailedRead),
+    /// The file for the messages could not be made.
+    #[error("the file for the messages could not be created")]
+    Uncreated(FailedCreation),
+    /// The messages could not be written into their file.
+    #[error("the messages could not be written")]
+    Unwritten,
     /// Memory was refused.
     #[error("out of memory")]
     Memory,
+}
+
+/// A file could not be made.
+#[derive(Clone, Copy, Debug, PartialEq, Eq)]
+pub struct FailedCreation {
+    /// The system's number of the error, where the error has one.
+    pub number: Option<i32>,
 }
 
 impl From<LineFault> for ReadFault {

@@ -106,6 +106,7 @@ fn of_input(form: Form) -> Settings {
     Settings {
         mode: Mode::PLAIN,
         run: None,
+        write: None,
         form,
         file: None,
     }

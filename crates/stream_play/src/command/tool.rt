@@ -1,6 +1,6 @@
 //! The tool `play`.
 
-ghost use Rattle.stream_play.specs.CommandLine.{HasPlayed, IsSilent, arguments, is_fault};
+ghost use Rattle.stream_play.specs.CommandLine.{HasPlayed, IsQuiet, arguments, is_fault};
 
 use crate::command::arguments::{command, settings_of};
 use crate::command::choosing::play_input;
@@ -42,9 +42,7 @@ impl<C: Clock> Tool for Play<'_, C> {
 
     ghost reads_on = { is_fault };
 
-    ghost most_quiet = { 0 };
-
-    ghost is_silent = { IsSilent };
+    ghost is_quiet = { IsQuiet };
 
     ghost most_status = { 3 };
 

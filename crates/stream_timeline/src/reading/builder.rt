@@ -36,7 +36,7 @@ pub struct TimelineBuilder {
 
 impl TimelineBuilder {
     ghost use Rattle.stream_timeline.specs.Messages.{message_of};
-    ghost use Rattle.stream_timeline.specs.TimelineRead.{max_lines, empty_timeline, with_line, with_message_or_passed_over, with_content};
+    ghost use Rattle.stream_timeline.specs.TimelineRead.{max_lines, counted_line, empty_timeline, with_line, with_message_or_passed_over, with_content};
     ghost use Rattle.stream_timeline.specs.Building.{ReadsMore, HasRead, IsReadingLine};
     ghost use Rattle.stream_timeline.specs.ContentViews.{content_view};
     ghost use Rattle.stream_timeline.specs.SlotContents.{message_in};
@@ -69,8 +69,8 @@ impl TimelineBuilder {
         requires { self.old.timeline.lines < max_lines }
         ensures { ReadsMore (HasRead self.old) self.new (with_line line.now) result }
     {
-        self.timeline.count_line();
         if is_blank_line(line) {
+            self.timeline.count_line(false);
             return Ok(());
         }
         // A message borrows from the scratch while it is applied to the builder.
@@ -87,10 +87,12 @@ impl TimelineBuilder {
         scratch: &mut Scratch,
         line: &[u8],
     ) -> Result<(), TimelineFault>
-        ensures { ReadsMore (IsReadingLine self.old) self.new (with_message_or_passed_over (message_of line.now)) result }
+        requires { self.old.timeline.lines < max_lines }
+        ensures { ReadsMore (HasRead self.old) self.new (λ timeline. with_message_or_passed_over (message_of line.now) (counted_line line.now timeline)) result }
     {
         match time_in(alloc, scratch, line) {
             Some(time) => {
+                self.timeline.count_line(false);
                 self.timeline.add_time(time);
                 Ok(())
             }
@@ -106,13 +108,18 @@ impl TimelineBuilder {
         scratch: &mut Scratch,
         line: &[u8],
     ) -> Result<(), TimelineFault>
-        ensures { ReadsMore (IsReadingLine self.old) self.new (with_message_or_passed_over (message_of line.now)) result }
+        requires { self.old.timeline.lines < max_lines }
+        ensures { ReadsMore (HasRead self.old) self.new (λ timeline. with_message_or_passed_over (message_of line.now) (counted_line line.now timeline)) result }
     {
         let mut slots = LineSlots::new(SELECTION);
         match read_line(alloc, scratch, line, &mut slots) {
-            Ok(()) => self.message(alloc, &slots),
+            Ok(()) => {
+                self.timeline.count_line(slots.head.is_version());
+                self.message(alloc, &slots)
+            }
             Err(JsonFault::Memory) => Err(TimelineFault::Memory),
             Err(JsonFault::TooLarge | JsonFault::NotJson) => {
+                self.timeline.count_line(false);
                 self.timeline.pass_over();
                 Ok(())
             }

@@ -1,6 +1,7 @@
 //! Reads lines that only contribute their timestamp, such as those of progress.
 
-ghost use Rattle.std.specs.Prelude.{◌≡◌, IfSome, Some};
+ghost use Rattle.std.specs.Prelude.{◌≡◌, IfSome, Some, false};
+ghost use Rattle.stream_message.specs.Runs.{is_version_text};
 ghost use Rattle.stream_timeline.specs.Messages.{message_of};
 ghost use Rattle.stream_timeline.specs.SlotContents.{is_progress, is_time_only, time_only, time_only_in};
 
@@ -15,7 +16,8 @@ const MAX_LEN: usize = 65_536;
 /// start of 1970. `None` if the line has to be read with all members: because its message states
 /// more, because it is no message, because it is long, or because memory was refused.
 pub fn time_in(alloc: Global, scratch: &mut Scratch, line: &[u8]) -> Option<i64>
-    ensures { IfSome result (λ time. message_of line.now ≡ Some (time_only time)) }
+    ensures time { IfSome result (λ time. message_of line.now ≡ Some (time_only time)) }
+    ensures no_run { IfSome result (λ time. is_version_text line.now ≡ false) }
 {
     if line.len() > MAX_LEN {
         return None;

@@ -1,12 +1,12 @@
 //! The time line of a stream.
 
-ghost use Rattle.std.specs.Prelude.{◌≡◌, ◌<◌, ◌+◌, ◌^◌, is_some, min, nat_le, option_map, OnOk, Some};
+ghost use Rattle.std.specs.Prelude.{◌≡◌, ◌<◌, ◌+◌, ◌^◌, if◌then◌else◌, is_some, min, nat_le, option_map, OnOk, Some};
 ghost use Rattle.std.specs.Str.{bytes_eq};
 ghost use Rattle.stream_timeline.specs.SlotContents.{diagnostic_in};
 ghost use Rattle.stream_timeline.specs.TimeRange.{with_time};
 ghost use Rattle.stream_timeline.specs.Steps.{StepRead, at_place, ended, marked, passes_at, has_open_provisioner, with_provisioner, with_provisioner_ended};
 ghost use Rattle.stream_timeline.specs.TimelineRead.{max_steps, empty_timeline, with_begin};
-ghost use Rattle.stream_timeline.specs.Building.{added, marked_at};
+ghost use Rattle.stream_timeline.specs.Building.{added, counted_up, marked_at};
 
 use crate::reading::diagnostics::Diagnostics;
 use crate::reading::limits::MAX_STEPS;
@@ -23,6 +23,7 @@ use stream_message::DiagnosticSlots;
 #[derive(Drop)]
 pub struct Timeline {
     pub(crate) lines: u64,
+    pub(crate) runs: u64,
     pub(crate) passed_over: u64,
     pub(crate) version: Option<Version>,
     pub(crate) totals: Option<Totals>,
@@ -41,6 +42,7 @@ impl Model for Timeline {
 
     ghost view = { λ t. record {
       lines = t.lines;
+      runs = t.runs;
       passed_over = t.passed_over;
       version = t.version;
       totals = t.totals;
@@ -61,6 +63,7 @@ impl Timeline {
     {
         Timeline {
             lines: 0,
+            runs: 0,
             passed_over: 0,
             version: None,
             totals: None,
@@ -73,12 +76,13 @@ impl Timeline {
         }
     }
 
-    /// Counts a line.
-    pub(crate) fn count_line(&mut self)
+    /// Counts a line, and the run that begins with it.
+    pub(crate) fn count_line(&mut self, begins_run: bool)
         requires { self.old.lines < 2 ^ 63 }
-        ensures { self.new ≡ record self.old { lines = self.old.lines + 1 } }
+        ensures { self.new ≡ counted_up begins_run self.old }
     {
         self.lines += 1;
+        self.runs = with_run(self.runs, begins_run);
     }
 
     /// Counts a line that was passed over.
@@ -241,6 +245,14 @@ impl Timeline {
         self.lines
     }
 
+    /// How many runs of Terraform begin in the lines: how many of them are `version` messages, with
+    /// or without a valid timestamp.
+    pub fn runs(&self) -> u64
+        ensures { result ≡ self.now.runs }
+    {
+        self.runs
+    }
+
     /// How many lines were passed over:
     /// - lines that are neither blank nor a message,
     /// - messages about a step or a provisioner without an address or action,
@@ -310,5 +322,16 @@ impl Timeline {
         ensures { result.now ≡ self.now.warnings }
     {
         &self.warnings
+    }
+}
+
+/// The number of runs after a line with which one begins or not. It stops at its greatest value.
+fn with_run(runs: u64, begins_run: bool) -> u64
+    ensures { result ≡ (if begins_run then min (runs + 1) u64.MAX else runs) }
+{
+    if begins_run {
+        runs.saturating_add(1)
+    } else {
+        runs
     }
 }

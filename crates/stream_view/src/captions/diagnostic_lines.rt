@@ -3,7 +3,7 @@
 ghost use Rattle.std.specs.Prelude.{◌≤◌};
 
 use crate::picture::Picture;
-use crate::words::message_text::MessageText;
+use term_words::MessageText;
 use crate::words::within::shown_within;
 use std::alloc::Global;
 use stream_timeline::Diagnostic;

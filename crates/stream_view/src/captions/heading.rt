@@ -3,11 +3,11 @@
 ghost use Rattle.std.specs.Prelude.{◌≡◌, ◌++◌, [], codes, if◌then◌else◌, length};
 ghost use Rattle.std.specs.List.{count_by, list_any};
 ghost use Rattle.stream_timeline.specs.Intervals.{span_of};
-ghost use Rattle.stream_view.specs.Heading.{agrees, completed_words, disagreement_words, done_words, error_words, heading_words, imported_words, is_change, is_not_ended, lacks_summary, only_plan, plan_words, read_words, steps_words, summary_words, total_words, uncompleted_words, version_words, words_if_any};
-ghost use Rattle.stream_view.specs.MessageTexts.{HasText, AppendsText};
+ghost use Rattle.stream_view.specs.Heading.{agrees, completed_words, disagreement_words, done_words, error_words, heading_words, headline_words, imported_words, is_change, is_not_ended, lacks_summary, only_plan, plan_words, read_words, steps_words, summary_words, total_words, uncompleted_words, version_words, words_if_any};
+ghost use Rattle.term_words.specs.MessageTexts.{HasText, AppendsText};
 
 use crate::picture::Picture;
-use crate::words::message_text::MessageText;
+use term_words::MessageText;
 use std::alloc::Global;
 use stream_timeline::{Numbers, Step, Totals};
 
@@ -18,11 +18,27 @@ pub fn heading(alloc: Global, picture: &Picture<'_>) -> MessageText
 {
     let mut text = MessageText::new(alloc);
     push_version(&mut text, picture);
-    push_done(&mut text, picture);
-    push_uncompleted(&mut text, picture);
-    push_errors(&mut text, picture);
-    push_summary(&mut text, picture);
+    push_headline(&mut text, picture);
     text
+}
+
+/// The heading without the version of Terraform. It has no text of the stream.
+pub fn headline(alloc: Global, picture: &Picture<'_>) -> MessageText
+    ensures { HasText result (headline_words picture.now.time_range picture.now.timeline.now picture.now.numbers) }
+{
+    let mut text = MessageText::new(alloc);
+    push_headline(&mut text, picture);
+    text
+}
+
+/// Adds all but the version of Terraform.
+fn push_headline(text: &mut MessageText, picture: &Picture<'_>)
+    ensures { AppendsText text.old text.new (headline_words picture.now.time_range picture.now.timeline.now picture.now.numbers) }
+{
+    push_done(text, picture);
+    push_uncompleted(text, picture);
+    push_errors(text, picture);
+    push_summary(text, picture);
 }
 
 fn push_version(text: &mut MessageText, picture: &Picture<'_>)

@@ -2,10 +2,10 @@
 
 ghost use Rattle.std.specs.Prelude.{◌≡◌, None};
 ghost use Rattle.stream_view.specs.LeftOut.{left_out_words};
-ghost use Rattle.stream_view.specs.MessageTexts.{HasText};
+ghost use Rattle.term_words.specs.MessageTexts.{HasText};
 
 use crate::picture::Picture;
-use crate::words::message_text::MessageText;
+use term_words::MessageText;
 use std::alloc::Global;
 
 /// How many steps have no row, their greatest length, and the sum of their lengths.

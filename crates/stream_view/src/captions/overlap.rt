@@ -1,7 +1,7 @@
 //! The second line of a picture: how many steps ran at once.
 
 use crate::picture::Picture;
-use crate::words::message_text::MessageText;
+use term_words::MessageText;
 use std::alloc::Global;
 
 /// Idle time is shown from one second on, if it is at least a 50th of the span. In microseconds.

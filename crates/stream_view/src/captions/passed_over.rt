@@ -1,7 +1,7 @@
 //! The line about lines that were passed over.
 
 use crate::picture::Picture;
-use crate::words::message_text::MessageText;
+use term_words::MessageText;
 use std::alloc::Global;
 
 /// How many lines were passed over. `None` if none was.

@@ -1,7 +1,7 @@
 //! The steps that ran alone while everything else waited.
 
 use crate::picture::Picture;
-use crate::words::message_text::MessageText;
+use term_words::MessageText;
 use std::alloc::{AllocError, Global};
 use std::cmp::Reverse;
 use stream_timeline::Step;

@@ -5,15 +5,16 @@ ghost use Rattle.clap.specs.Faults.{is_simple_and_free};
 ghost use Rattle.clap.specs.Matches.{found_of};
 ghost use Rattle.clap.specs.Simple.{app_of, is_simple};
 ghost use Rattle.clap.specs.Walk.{one_of, rows_of as matched_rows, rule_of};
-ghost use Rattle.stream_view.specs.CommandLine.{AreRowsStated, AreStated, IsCommand, IsNumber, IsTextStated, TakesColours, TakesSorts, colour_of_word, colour_rule, sort_of_word, sort_rule, stated_colour, stated_sort, number_named, option_named, rows_of_form, width_rule};
+ghost use Rattle.stream_view.specs.CommandLine.{AreRowsStated, AreStated, IsCommand, IsFormButSvg, IsFormForPeople, IsNumber, TakesColours, TakesSorts, colour_of_word, colour_rule, sort_of_word, sort_rule, stated_colour, stated_sort, number_named, option_named, rows_of_form, width_rule};
 ghost use Rattle.stream_tool.specs.Words.{flag_rule};
 ghost use Rattle.stream_view.specs.declared.command.settings.Form.TheVariants as form;
 
-use crate::command::colour::Colour;
+use crate::command::form::form_of;
 use crate::command::settings::{Form, Settings};
 use crate::row_choice::{RowChoice, Sort};
 use clap::{Arg, ArgMatches, Command, value_parser};
 use std::alloc::{AllocError, Global};
+use stream_runs::{run_of, run_option};
 use stream_tool::{FIND, file, file_of, flag, is_given, with_option};
 
 /// The values of `--color`.
@@ -27,21 +28,21 @@ const TEXT_ROWS: u32 = 40;
 
 const SVG_ROWS: u32 = 200;
 
-/// The default width of a text.
-const WIDTH: u32 = 120;
-
 const ABOUT: &str =
     "Draws where the time of an apply went: which steps ran when, which ran at once, and what failed.
 
 Standard input: the stream of `terraform apply -json`, whole or cut off, unless FILE is named. It is read to its end.
-Standard output: the picture, as text, or as SVG with --svg. One JSON object with --json.
-Standard error: errors.";
+Standard output: the picture, as text, or as SVG with --svg. One JSON object with --json, Markdown with --markdown.
+Standard error: errors, and a line where several runs were drawn as one.";
 
 const AFTER: &str = r#"Example:
   applystream view stream.jsonl
 
 Example of a picture to keep with the stream:
   applystream view --svg stream.jsonl > stream.svg
+
+Example of a comment on a pull request:
+  applystream view --markdown stream.jsonl | gh pr comment --body-file -
 
 Example of what a program compares:
   applystream view --json stream.jsonl | jq '.steps | max_by(.length)'
@@ -51,7 +52,7 @@ Example of a job's log:
 
 Exit status:
   0  the picture was written; or help was printed
-  2  wrong options, a file or a stream that can't be read, or a stream without a message
+  2  wrong options, no such run, a file or a stream that can't be read, or a stream without a message
   3  out of memory, or the output could not be written"#;
 
 /// Defines the options and their help. `Err` where memory is refused.
@@ -60,7 +61,7 @@ pub(crate) fn command<'a>(alloc: Global) -> Result<Command<'a>, AllocError>
     ensures simple { IfOk result (λ command. is_simple (app_of command) ≡ true) }
     ensures free { IfOk result (λ command. is_simple_and_free (app_of command) ≡ true) }
 {
-    command_of(alloc, svg(alloc), json(alloc), all(alloc))
+    command_of(alloc, svg(alloc), json(alloc), markdown(alloc), all(alloc))
 }
 
 /// The command with these options and the others. `Err` where memory is refused.
@@ -68,10 +69,12 @@ pub(crate) fn command_of<'a>(
     alloc: Global,
     svg: Arg<'a>,
     json: Arg<'a>,
+    markdown: Arg<'a>,
     all: Arg<'a>,
 ) -> Result<Command<'a>, AllocError>
     ensures { rule_of svg.entry ≡ flag_rule (codes "svg") → svg.entry.global ≡ false
         → rule_of json.entry ≡ flag_rule (codes "json") → json.entry.global ≡ false
+        → rule_of markdown.entry ≡ flag_rule (codes "markdown") → markdown.entry.global ≡ false
         → rule_of all.entry ≡ flag_rule (codes "all") → all.entry.global ≡ false
         → IfOk result (λ command. IsCommand (app_of command)) }
 {
@@ -83,12 +86,14 @@ pub(crate) fn command_of<'a>(
     );
     let line = with_option(line, svg);
     let line = with_option(line, json);
+    let line = with_option(line, markdown);
     let line = with_option(line, rows(alloc));
     let line = with_option(line, all);
     let line = with_option(line, sort(alloc));
     let line = with_option(line, width(alloc));
     let line = with_option(line, color(alloc));
     let line = with_option(line, flag(alloc, "find", FIND));
+    let line = with_option(line, run_option(alloc));
     with_option(line, file(alloc))
 }
 
@@ -115,6 +120,16 @@ pub(crate) fn json<'a>(alloc: Global) -> Arg<'a>
         alloc,
         "json",
         "Print one JSON object of the time line in place of text",
+    )
+}
+
+pub(crate) fn markdown<'a>(alloc: Global) -> Arg<'a>
+    ensures { (rule_of result ≡ flag_rule (codes "markdown")) × (result.global ≡ false) }
+{
+    flag(
+        alloc,
+        "markdown",
+        "Print the comment of a pull request in place of text",
     )
 }
 
@@ -171,71 +186,9 @@ pub(crate) fn settings_of(alloc: Global, matches: &ArgMatches<'_>) -> Result<Set
             limit: rows_of(matches, form),
         },
         find: is_given(matches, "find"),
+        run: run_of(matches),
         file,
     })
-}
-
-/// The output: an SVG, an object or a text.
-fn form_of(matches: &ArgMatches<'_>) -> Form
-    ensures svg { one_of (codes "svg") (matched_rows (found_of matches.now)) ≡ Some (codes "true") → result ≡ form.Svg }
-    ensures json { one_of (codes "svg") (matched_rows (found_of matches.now)) ≡ Some (codes "false")
-        → one_of (codes "json") (matched_rows (found_of matches.now)) ≡ Some (codes "true") → result ≡ form.Json }
-    ensures text { one_of (codes "svg") (matched_rows (found_of matches.now)) ≡ Some (codes "false")
-        → one_of (codes "json") (matched_rows (found_of matches.now)) ≡ Some (codes "false")
-        → IsTextStated (matched_rows (found_of matches.now)) result }
-{
-    if is_given(matches, "svg") {
-        Form::Svg
-    } else {
-        form_but_svg(matches)
-    }
-}
-
-/// The output where no SVG is asked for: an object or a text.
-fn form_but_svg(matches: &ArgMatches<'_>) -> Form
-    ensures json { one_of (codes "json") (matched_rows (found_of matches.now)) ≡ Some (codes "true") → result ≡ form.Json }
-    ensures text { one_of (codes "json") (matched_rows (found_of matches.now)) ≡ Some (codes "false")
-        → IsTextStated (matched_rows (found_of matches.now)) result }
-{
-    if is_given(matches, "json") {
-        Form::Json
-    } else {
-        Form::Text {
-            width: width_of(matches),
-            colour: colour_of(matches),
-        }
-    }
-}
-
-/// The width of the text. The parser has checked the number, so the bounds here don't change it.
-fn width_of(matches: &ArgMatches<'_>) -> u32
-    ensures { IfSome (one_of (codes "width") (matched_rows (found_of matches.now))) (λ text. IsNumber 60 400 text result) }
-{
-    matches
-        .get_one::<u32>("width")
-        .unwrap_or(WIDTH)
-        .clamp(60, 400)
-}
-
-/// When the text has colours.
-fn colour_of(matches: &ArgMatches<'_>) -> Colour
-    ensures { result ≡ stated_colour (matched_rows (found_of matches.now)) }
-{
-    match matches.get_str("color") {
-        Some(choice) => colour_named(choice),
-        None => Colour::Auto,
-    }
-}
-
-/// The meaning of a value of `--color`. The parser accepts only three values.
-fn colour_named(choice: &str) -> Colour
-    ensures { result ≡ colour_of_word choice.now }
-{
-    match choice {
-        "always" => Colour::Always,
-        "never" => Colour::Never,
-        _ => Colour::Auto,
-    }
 }
 
 /// The order of the rows.
@@ -288,7 +241,7 @@ fn rows_in(form: Form) -> u32
     ensures { result ≡ rows_of_form form }
 {
     match form {
-        Form::Text { .. } | Form::Json => TEXT_ROWS,
+        Form::Text { .. } | Form::Json | Form::Markdown => TEXT_ROWS,
         Form::Svg => SVG_ROWS,
     }
 }

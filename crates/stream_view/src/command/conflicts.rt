@@ -4,22 +4,24 @@ ghost use Rattle.std.specs.Prelude.{◌≡◌};
 ghost use Rattle.clap.specs.Matches.{found_of};
 ghost use Rattle.clap.specs.Walk.{rows_of as matched_rows};
 ghost use Rattle.stream_tool.specs.Refused.{IsConflict, IsRefusal};
-ghost use Rattle.stream_view.specs.CommandLine.{are_conflicting, is_given, is_json_conflicting};
+ghost use Rattle.stream_view.specs.CommandLine.{are_conflicting, are_exclusive, is_given, is_json_conflicting, is_markdown_conflicting};
 
-use crate::command::arguments::{all, command_of, json, svg};
+use crate::command::arguments::{all, command_of, json, markdown, svg};
 use clap::parser::ValueSource;
 use clap::{ArgMatches, Command};
 use std::alloc::{AllocError, Global};
+use stream_runs::run_refusal;
 use stream_tool::{Usage, matches_of};
 
-/// Returns the message about options that exclude each other, where such options were given.
+/// Returns why the arguments are refused, where options were given that exclude each other, or the
+/// value of `--run` names no run.
 pub(crate) fn conflict(alloc: Global, words: &[String], matches: &ArgMatches<'_>) -> Option<Usage>
     ensures { IsConflict (are_conflicting (matched_rows (found_of matches.now))) result }
 {
-    if are_conflicting(matches) {
+    if are_exclusive(matches) {
         Some(conflict_usage(alloc, words))
     } else {
-        None
+        run_refusal(alloc, matches)
     }
 }
 
@@ -48,16 +50,22 @@ fn strict_command<'a>(alloc: Global) -> Result<Command<'a>, AllocError> {
         .conflicts_with("sort")?
         .conflicts_with("width")?
         .conflicts_with("color")?;
+    let markdown = markdown(alloc)
+        .conflicts_with("svg")?
+        .conflicts_with("json")?
+        .conflicts_with("width")?
+        .conflicts_with("color")?;
     let all = all(alloc).conflicts_with("rows")?;
-    command_of(alloc, svg, json, all)
+    command_of(alloc, svg, json, markdown, all)
 }
 
 /// Whether options were given that exclude each other.
-fn are_conflicting(matches: &ArgMatches<'_>) -> bool
-    ensures { result ≡ are_conflicting (matched_rows (found_of matches.now)) }
+fn are_exclusive(matches: &ArgMatches<'_>) -> bool
+    ensures { result ≡ are_exclusive (matched_rows (found_of matches.now)) }
 {
     stands(matches, "svg") && (stands(matches, "width") || stands(matches, "color"))
         || is_json_conflicting(matches)
+        || is_markdown_conflicting(matches)
         || stands(matches, "all") && stands(matches, "rows")
 }
 
@@ -70,6 +78,17 @@ fn is_json_conflicting(matches: &ArgMatches<'_>) -> bool
             || stands(matches, "rows")
             || stands(matches, "all")
             || stands(matches, "sort")
+            || stands(matches, "width")
+            || stands(matches, "color"))
+}
+
+/// Whether Markdown was asked for, and another output or an option for texts only was given.
+fn is_markdown_conflicting(matches: &ArgMatches<'_>) -> bool
+    ensures { result ≡ is_markdown_conflicting (matched_rows (found_of matches.now)) }
+{
+    stands(matches, "markdown")
+        && (stands(matches, "svg")
+            || stands(matches, "json")
             || stands(matches, "width")
             || stands(matches, "color"))
 }

@@ -44,6 +44,6 @@ fn fault_status(fault: PictureFault) -> u8
 {
     match fault {
         PictureFault::NoTimeline(TimelineFault::Memory) | PictureFault::Undrawn(_) => FAILED,
-        PictureFault::NoTimeline(_) => REFUSED,
+        PictureFault::NoTimeline(_) | PictureFault::NoRun(_) => REFUSED,
     }
 }

@@ -5,6 +5,7 @@ ghost use Rattle.std.specs.Option.{option_copied};
 
 use crate::command::colour::Colour;
 use crate::row_choice::RowChoice;
+use stream_runs::RunChoice;
 
 /// What is drawn.
 #[derive(Clone, Copy, Debug, PartialEq, Eq)]
@@ -15,6 +16,8 @@ pub enum Form {
     Svg,
     /// One JSON object, for programs.
     Json,
+    /// Markdown, for the comment of a pull request.
+    Markdown,
 }
 
 /// The settings that the arguments after `view` give.
@@ -25,6 +28,8 @@ pub struct Settings {
     pub rows: RowChoice,
     /// Whether the lines are those of a log, in which the messages are found.
     pub find: bool,
+    /// The run that is drawn, of several in the input. `None` draws the whole input.
+    pub run: Option<RunChoice>,
     /// The file with the stream. `None`: standard input, which `-` names too.
     pub file: Option<String>,
 }

@@ -7,7 +7,7 @@ ghost use Rattle.stream_view.specs.Json.{JsonWritten, StepsWritten, figures_text
 use crate::draw_fault::DrawFault;
 use crate::json::objects::{push_figures, push_step};
 use crate::picture::Picture;
-use crate::words::message_text::MessageText;
+use term_words::MessageText;
 use crate::writing::{flush, write_message, write_text};
 use std::alloc::Global;
 use std::io::Write;

@@ -3,9 +3,9 @@
 ghost use Rattle.std.specs.Prelude.{option_map};
 ghost use Rattle.serde_json.specs.Data.{boolean, null, string};
 ghost use Rattle.stream_view.specs.Json.{count_data, named, number_data, version_data};
-ghost use Rattle.stream_view.specs.MessageTexts.{AppendsText};
+ghost use Rattle.term_words.specs.MessageTexts.{AppendsText};
 
-use crate::words::message_text::MessageText;
+use term_words::MessageText;
 
 /// Adds the text `before`, and a number.
 pub fn push_number(text: &mut MessageText, before: &str, number: u128)

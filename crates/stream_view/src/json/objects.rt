@@ -1,16 +1,16 @@
 //! The objects of a time line and of its steps.
 
-ghost use Rattle.std.specs.Prelude.{Some};
+ghost use Rattle.std.specs.Prelude.{◌≡◌, ◌+◌, Some};
 ghost use Rattle.serde_json.specs.Written.{compact_text};
 ghost use Rattle.stream_view.specs.Json.{figures_text, named, step_data, summary_data};
-ghost use Rattle.stream_view.specs.MessageTexts.{AppendsText};
+ghost use Rattle.term_words.specs.MessageTexts.{AppendsText};
 
 use crate::captions::heading::{failed_count, open_count};
 use crate::json::members::{
     push_count, push_flag, push_null, push_number, push_optional, push_string,
 };
 use crate::picture::Picture;
-use crate::words::message_text::MessageText;
+use term_words::MessageText;
 use stream_timeline::{Step, Totals};
 
 /// Adds the front of the object of a time line: its figures, its version and its summary.
@@ -56,13 +56,20 @@ fn push_totals(text: &mut MessageText, before: &str, totals: Totals)
     text.text("}");
 }
 
+/// The line of the input that begins the step.
+fn line_of(picture: &Picture<'_>, step: &Step) -> u128
+    ensures { result ≡ picture.now.lines_before + step.now.line }
+{
+    picture.lines_before as u128 + step.line() as u128
+}
+
 /// Adds the object of the step at index `place`.
 pub fn push_step(text: &mut MessageText, picture: &Picture<'_>, place: usize, step: &Step)
     ensures { AppendsText text.old text.new (compact_text (step_data picture.now place step.now)) }
 {
     push_string(text, "{\"address\":", step.address());
     push_string(text, ",\"action\":", step.action());
-    push_number(text, ",\"line\":", step.line() as u128);
+    push_number(text, ",\"line\":", line_of(picture, step));
     push_number(text, ",\"begin\":", picture.begin_of(step) as u128);
     push_number(
         text,

@@ -5,7 +5,7 @@ use crate::svg::fragment::Fragment;
 use crate::svg::markup::Markup;
 use crate::svg::markup_part::MarkupPart;
 use crate::svg::scale::Scale;
-use crate::words::message_text::MessageText;
+use term_words::MessageText;
 use stream_timeline::levels_of;
 
 /// The height of the area, in pixels.

@@ -15,7 +15,7 @@ use crate::svg::fragment::Fragment;
 use crate::svg::header::push_ticks;
 use crate::svg::markup::Markup;
 use crate::svg::scale::Scale;
-use crate::words::message_text::MessageText;
+use term_words::MessageText;
 use std::alloc::Global;
 use std::cmp::Reverse;
 use std::io::Write;

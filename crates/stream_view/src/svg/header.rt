@@ -10,7 +10,7 @@ use crate::svg::legend::push_legend;
 use crate::svg::markup::Markup;
 use crate::svg::markup_part::MarkupPart;
 use crate::svg::scale::Scale;
-use crate::words::message_text::MessageText;
+use term_words::MessageText;
 
 /// Adds the markup above the rows. Returns the height at which the rows begin.
 pub fn push_header(markup: &mut Markup, picture: &Picture<'_>, scale: Scale) -> u64 {

@@ -5,13 +5,13 @@ ghost use Rattle.std.specs.List.{flat_map};
 ghost use Rattle.term_text.specs.Fitted.{shown_characters};
 ghost use Rattle.stream_view.specs.Growth.{HasParts, box_begin};
 ghost use Rattle.stream_view.specs.Markup.{PartsWritten, line_begin, line_parts, markup_part_bytes, shown_parts, text_parts};
-ghost use Rattle.stream_view.specs.MessageTexts.{HasText};
+ghost use Rattle.term_words.specs.MessageTexts.{HasText};
 ghost use Rattle.stream_view.specs.declared.svg.markup_part.MarkupPart.TheVariants as markup_part;
 
 use crate::draw_fault::DrawFault;
 use crate::svg::fragment::Fragment;
 use crate::svg::markup_part::MarkupPart;
-use crate::words::message_text::MessageText;
+use term_words::MessageText;
 use crate::writing::write_text;
 use std::alloc::{AllocError, Global};
 use std::io::Write;

@@ -13,7 +13,7 @@ use crate::svg::fragment::Fragment;
 use crate::svg::markup::Markup;
 use crate::svg::markup_part::MarkupPart;
 use crate::svg::scale::Scale;
-use crate::words::message_text::MessageText;
+use term_words::MessageText;
 use stream_timeline::{Provisioner, Step};
 
 /// Where the bar of a step stands. `left` and `width` are in tenths of a pixel, `top` is in pixels.

@@ -8,7 +8,7 @@ use crate::picture::Picture;
 use crate::text::chart::Chart;
 use crate::text::line::Line;
 use crate::text::line_buffer::LineBuffer;
-use crate::words::message_text::MessageText;
+use term_words::MessageText;
 use std::alloc::{AllocError, Global};
 use term_text::without_blanks;
 

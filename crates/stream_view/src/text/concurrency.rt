@@ -6,7 +6,7 @@ use crate::picture::Picture;
 use crate::text::chart::{Chart, DURATION};
 use crate::text::line::Line;
 use crate::text::line_buffer::LineBuffer;
-use crate::words::message_text::MessageText;
+use term_words::MessageText;
 use std::alloc::{AllocError, Global};
 use stream_timeline::levels_of;
 use term_text::without_blanks;

@@ -21,10 +21,10 @@ use crate::text::chart::Chart;
 use crate::text::concurrency::push_concurrency;
 use crate::text::line::Line;
 use crate::text::line_buffer::{LineBuffer, Style};
+use crate::text::longest::push_longest;
 use crate::text::rendition::Rendition;
 use crate::text::row::row_of;
 use crate::text::writing::write_line;
-use crate::words::message_text::MessageText;
 use crate::writing::flush;
 use std::alloc::Global;
 use std::cmp::Reverse;
@@ -53,7 +53,7 @@ pub fn draw_text<W: Write>(
     draw_head(alloc, picture, &chart, style, out)?;
     draw_rows(alloc, picture, &chart, style, out)?;
     draw_left_out(alloc, picture, &chart, style, out)?;
-    draw_tail(alloc, picture, &chart, style, out)?;
+    draw_tail(alloc, picture, &chart, style, false, out)?;
     flush(out)?;
     Ok(())
 }
@@ -75,7 +75,7 @@ fn draw_head<W: Write>(
 }
 
 /// Writes the line about the steps without a row.
-fn draw_left_out<W: Write>(
+pub fn draw_left_out<W: Write>(
     alloc: Global,
     picture: &Picture<'_>,
     chart: &Chart,
@@ -89,12 +89,13 @@ fn draw_left_out<W: Write>(
     line_buffer.send(out)
 }
 
-/// Writes the lines below the rows.
-fn draw_tail<W: Write>(
+/// Writes the lines below the rows. The longest steps are among them, if they are wanted.
+pub fn draw_tail<W: Write>(
     alloc: Global,
     picture: &Picture<'_>,
     chart: &Chart,
     style: Style,
+    is_longest_wanted: bool,
     out: &mut W,
 ) -> Result<(), DrawFault>
     ensures { OnOk result (LinesWritten style.width style.has_colour (W.contents out.old) (W.contents out.new)) }
@@ -102,6 +103,7 @@ fn draw_tail<W: Write>(
     let mut line_buffer = LineBuffer::new(alloc, style);
     push_concurrency(&mut line_buffer, picture, chart);
     push_alone(&mut line_buffer, picture);
+    push_longest(&mut line_buffer, picture, is_longest_wanted);
     push_diagnostics(&mut line_buffer, picture);
     push_passed(&mut line_buffer, picture);
     line_buffer.send(out)
@@ -119,7 +121,7 @@ fn push_head(line_buffer: &mut LineBuffer, picture: &Picture<'_>)
 }
 
 /// Adds how many steps ran at once.
-fn push_overlap(line_buffer: &mut LineBuffer, picture: &Picture<'_>)
+pub fn push_overlap(line_buffer: &mut LineBuffer, picture: &Picture<'_>)
     ensures style { line_buffer.new.style ≡ line_buffer.old.style }
     ensures more { HasMoreLines line_buffer.old line_buffer.new }
 {
@@ -129,7 +131,7 @@ fn push_overlap(line_buffer: &mut LineBuffer, picture: &Picture<'_>)
 }
 
 /// Writes the rows, one line each.
-fn draw_rows<W: Write>(
+pub fn draw_rows<W: Write>(
     alloc: Global,
     picture: &Picture<'_>,
     chart: &Chart,
@@ -201,10 +203,7 @@ fn push_alone_lines(
     if listed.is_empty() {
         return;
     }
-    let mut title = MessageText::new(line_buffer.alloc());
-    title.text("Running alone");
-    line_buffer.push_empty();
-    line_buffer.push_message(0, &title, Some(Rendition::Bold));
+    line_buffer.push_title("Running alone");
     for (_, place) in listed {
         push_alone_line(line_buffer, picture, *place);
     }
@@ -214,12 +213,8 @@ fn push_alone_lines(
 fn push_alone_line(line_buffer: &mut LineBuffer, picture: &Picture<'_>, place: usize)
     ensures { line_buffer.new.style ≡ line_buffer.old.style }
 {
-    let Some(step) = picture.timeline.steps().get(place) else {
-        return;
-    };
-    match alone_line(line_buffer.alloc(), picture, place, step).within(line_buffer.width()) {
-        Ok(line) => line_buffer.push_text(0, &line, None),
-        Err(_) => line_buffer.merge_whole(false),
+    if let Some(step) = picture.timeline.steps().get(place) {
+        line_buffer.push_fitted(&alone_line(line_buffer.alloc(), picture, place, step));
     }
 }
 

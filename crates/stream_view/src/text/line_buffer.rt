@@ -6,13 +6,13 @@ ghost use Rattle.std.specs.List.{list_all};
 ghost use Rattle.term_text.specs.Columns.{columns_of};
 ghost use Rattle.term_text.specs.Fitted.{shown_characters};
 ghost use Rattle.stream_view.specs.Lines.{text_line};
-ghost use Rattle.stream_view.specs.MessageTexts.{HasText};
+ghost use Rattle.term_words.specs.MessageTexts.{HasText};
 
 use crate::draw_fault::DrawFault;
 use crate::text::line::Line;
 use crate::text::rendition::Rendition;
 use crate::text::writing::write_lines;
-use crate::words::message_text::MessageText;
+use term_words::MessageText;
 use std::alloc::Global;
 use std::io::Write;
 use term_text::{ShownText, without_blanks, wrapped};
@@ -65,11 +65,6 @@ impl LineBuffer {
         ensures { self.new.style ≡ self.old.style }
     {
         self.is_whole &= is_whole;
-    }
-
-    /// The greatest width of a line, in columns.
-    pub fn width(&self) -> usize {
-        self.style.width
     }
 
     /// An empty line of the greatest width.
@@ -145,6 +140,26 @@ impl LineBuffer {
     {
         match message.shown() {
             Ok(text) => self.push_wrapped(indent, &text, rendition),
+            Err(_) => self.is_whole = false,
+        }
+    }
+
+    /// Adds an empty line and a title.
+    pub fn push_title(&mut self, title: &str)
+        ensures { self.new.style ≡ self.old.style }
+    {
+        let mut text = MessageText::new(self.alloc);
+        text.text(title);
+        self.push_empty();
+        self.push_message(0, &text, Some(Rendition::Bold));
+    }
+
+    /// Adds a message on one line, fitted to the width.
+    pub fn push_fitted(&mut self, message: &MessageText)
+        ensures { self.new.style ≡ self.old.style }
+    {
+        match message.within(self.style.width) {
+            Ok(line) => self.push_text(0, &line, None),
             Err(_) => self.is_whole = false,
         }
     }

@@ -6,7 +6,7 @@ ghost use Rattle.term_text.specs.Fitting.{at_left, fitted};
 ghost use Rattle.stream_view.specs.Growth.{GrewTo, HasPieces};
 ghost use Rattle.stream_view.specs.Lines.{with_characters};
 ghost use Rattle.stream_view.specs.Rows.{bar_of, bound_words, end_half_of, first_half_of, length_characters, length_words, mark_of, rendition_of, with_bar, with_dim, with_length, with_names, with_row};
-ghost use Rattle.stream_view.specs.MessageTexts.{HasText};
+ghost use Rattle.term_words.specs.MessageTexts.{HasText};
 ghost use Rattle.term_text.specs.Fitted.{shown_characters};
 
 use crate::kind::Kind;
@@ -15,7 +15,7 @@ use crate::text::bar::Bar;
 use crate::text::chart::{Chart, DURATION};
 use crate::text::line::Line;
 use crate::text::rendition::Rendition;
-use crate::words::message_text::MessageText;
+use term_words::MessageText;
 use crate::words::within::shown_within;
 use std::alloc::Global;
 use stream_timeline::{Step, halves_of};
@@ -119,7 +119,7 @@ fn mark_of(step: &Step) -> char
 }
 
 /// The length of a step, with the sign of a bound.
-fn length_of(alloc: Global, picture: &Picture<'_>, step: &Step) -> MessageText
+pub fn length_of(alloc: Global, picture: &Picture<'_>, step: &Step) -> MessageText
     ensures { HasText result (length_words picture.now.time_range step.now) }
 {
     let mut length = MessageText::new(alloc);

@@ -15,10 +15,10 @@ const HOSTILE_JSON: &str =
 
 #[test]
 fn one_create_as_an_object(rt: HostRuntime) {
-    draws(&rt, rt.alloc(), Form::Json, ONE_CREATE, ONE_CREATE_JSON);
+    draws(&rt, rt.alloc(), Form::Json, ONE_CREATE, 1, ONE_CREATE_JSON);
 }
 
 #[test]
 fn step_without_an_end_as_an_object(rt: HostRuntime) {
-    draws(&rt, rt.alloc(), Form::Json, HOSTILE, HOSTILE_JSON);
+    draws(&rt, rt.alloc(), Form::Json, HOSTILE, 0, HOSTILE_JSON);
 }

@@ -80,7 +80,7 @@ returns-in-Err g c =
       unchanged = λ is. unchanged_by_refused_in_form given c.args.lanes settings.at settings.operation c.args.form c.in-Err.refusal before after (sym status_is ∙ is) ended;
       cut_off = λ _. begun_by_refused_in_form given c.args.lanes settings.at settings.operation c.args.form c.in-Err.refusal before after after (Keeps-refl after.bytes) (omega arith) ended;
       large = λ long. status_is ∙ large_by_refused_in_form given c.args.lanes settings.at settings.operation c.args.form c.in-Err.refusal before after ended long;
-      quiet = λ good. absurd (omega arith);
+      reported = λ good. absurd (omega arith);
       gone = λ is. search rules;
       statuses = omega arith;
     }

@@ -6,6 +6,7 @@ use Rattle.apply_cli_args.specs.Invocation.{IsOfWords}
 use Rattle.apply_cli.specs.Command.{sink_state}
 use Rattle.apply_cli.specs.Invocation.{unfailed}
 use Rattle.apply_cli.proofs.Followed.{followed, followed_in_part}
+use Rattle.apply_cli.proofs.Reports.{quiet_of_matched}
 use Rattle.apply_cli.proofs.Usages.{alone_is_not_followed, asked, few_statuses, help_is_answered, is_answered, unchanged, not_answered, version_is_answered}
 use Rattle.apply_cli.proofs.program.follow.Goals as goal
 
@@ -23,6 +24,18 @@ returns-in-Ok-clause-cut_off g c = λ bad.
     ⊎_elim (λ unchanged. inl unchanged) (λ begun. inr (inl begun))
     (followed_in_part g.W.Write.contents g.F.File.Read.remaining words c.in-Ok.invocation (g.R.Read.remaining c.args.input) c.args.output
     c.new.result c.follow_invocation.result.0 is_of_words c.new.ensures (c.follow_invocation.ensures.cut_off bad))
+
+pub returns-in-Ok-clause-reported : goal.returns-in-Ok-clause-reported
+returns-in-Ok-clause-reported g c = λ good.
+    let is_of_words : IsOfWords (map string_bytes c.args.words.now) c.in-Ok.invocation = record { stated = c.in-Ok.ensures.stated; in_range = c.in-Ok.ensures.in_range } in
+    inr (record { invocation = c.in-Ok.invocation; is_of_words = is_of_words; reported = c.follow_invocation.ensures.reported good })
+
+pub returns-in-Ok-clause-quiet : goal.returns-in-Ok-clause-quiet
+returns-in-Ok-clause-quiet g c = λ good.
+    let words : List Text = map string_bytes c.args.words.now in
+    let is_of_words : IsOfWords words c.in-Ok.invocation = record { stated = c.in-Ok.ensures.stated; in_range = c.in-Ok.ensures.in_range } in
+    quiet_of_matched words (g.R.Read.remaining c.args.input) (g.E.Write.contents c.args.faults.now) (g.E.Write.contents c.follow_invocation.new.faults)
+    (inr (record { invocation = c.in-Ok.invocation; is_of_words = is_of_words; reported = c.follow_invocation.ensures.reported good }))
 
 pub returns-in-Ok-clause-help : goal.returns-in-Ok-clause-help
 returns-in-Ok-clause-help g c = λ alone.
@@ -51,7 +64,8 @@ returns-in-Err g c =
       help = λ alone. help_is_answered words why before after status is alone refused;
       refused = λ bad. unchanged why before after status is bad;
       cut_off = λ bad. ⊎_elim (λ same. inl same) (λ version_answered. inr (inr version_answered)) (not_answered words why before after status is bad refused);
-      quiet = λ good. c.answer_unfollowed.ensures.quiet (asked words why before after status is good refused).0;
+      quiet = λ good _. c.answer_unfollowed.ensures.quiet (asked words why before after status is good refused).0;
+      reported = λ good. inl (c.answer_unfollowed.ensures.quiet (asked words why before after status is good refused).0);
       gone = c.answer_unfollowed.ensures.gone;
       statuses = few_statuses why before after status is;
     }

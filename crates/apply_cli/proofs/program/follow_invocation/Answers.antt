@@ -3,7 +3,9 @@ use Rattle.std.specs.Io.KnownBytes.{Keeps}
 use Rattle.std.proofs.KnownBytes.{Keeps-refl}
 use Rattle.apply_hooks.specs.declared.hook_error.HookError.{HookError}
 use Rattle.apply_hooks.specs.declared.hook_error.HookError.TheVariants.{Full, Memory}
+use Rattle.apply_cli.specs.Command.{OfInput}
 use Rattle.apply_cli.specs.Status.{hook_status_of}
+use Rattle.apply_cli.specs.Unmatched.{AreReported, unmatched_of}
 use Rattle.apply_cli.proofs.program.follow_invocation.Goals as goal
 
 -- a refused hook gives status 2 or 3
@@ -19,7 +21,7 @@ returns-in_default g c =
       applied = λ good. absurd (omega (arith, is, good));
       refused = λ _. Keeps-refl (g.W.Write.contents c.args.output.writer);
       cut_off = λ _. inl (Keeps-refl (g.W.Write.contents c.args.output.writer));
-      quiet = λ good. absurd (omega (arith, is, good));
+      reported = λ good. absurd (omega (arith, is, good));
       gone = λ no yes. absurd (true≢false (sym yes ∙ no));
       statuses = omega (arith, is);
     }
@@ -32,7 +34,7 @@ returns-in_default-new g c =
       applied = λ good. absurd (omega (arith, is, good));
       refused = λ _. Keeps-refl (g.W.Write.contents c.args.output.writer);
       cut_off = λ _. inl (Keeps-refl (g.W.Write.contents c.args.output.writer));
-      quiet = λ good. absurd (omega (arith, is, good));
+      reported = λ good. absurd (omega (arith, is, good));
       gone = λ no yes. absurd (true≢false (sym yes ∙ no));
       statuses = omega (arith, is);
     }
@@ -46,7 +48,7 @@ returns-in-Err g c =
       applied = λ good. absurd (omega (arith, is, few.0, good));
       refused = λ _. Keeps-refl (g.W.Write.contents c.args.output.writer);
       cut_off = λ _. inl (Keeps-refl (g.W.Write.contents c.args.output.writer));
-      quiet = λ good. absurd (omega (arith, is, few.0, good));
+      reported = λ good. absurd (omega (arith, is, few.0, good));
       gone = λ no yes. absurd (true≢false (sym yes ∙ no));
       statuses = omega (arith, is, few.1);
     }
@@ -61,7 +63,8 @@ returns g c =
       applied = run.applied;
       refused = run.refused;
       cut_off = run.cut_off;
-      quiet = λ good. subst (λ (faults : g.row.E.Denot). Keeps (g.E.Write.contents faults) after) silent (run.quiet good);
+      reported = λ good. subst (λ (faults : g.row.E.Denot). OfInput (g.R.Read.remaining c.args.input)
+          (λ plan. AreReported (unmatched_of plan c.args.settings.now.halts.items) (g.E.Write.contents faults) after)) silent (run.reported good);
       gone = λ no yes. subst (λ (faults : g.row.E.Denot). Keeps (g.E.Write.contents faults) after) silent (run.gone no yes);
       statuses = run.statuses;
     }

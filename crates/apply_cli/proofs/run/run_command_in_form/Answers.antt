@@ -5,7 +5,9 @@ use Rattle.apply_cli.specs.Command.{sink_state}
 use Rattle.apply_cli.specs.CommandInForm.{HasAppliedInForm, HasBegunInForm}
 use Rattle.apply_cli.specs.Options.{options_of}
 use Rattle.apply_cli.proofs.InForm.{plan_of_applied, plan_of_begun}
-use Rattle.apply_cli.proofs.Statuses.{of_input, of_input_in_part}
+use Rattle.apply_cli.specs.Unmatched.{AreReported, unmatched_of}
+use Rattle.apply_cli.proofs.Reports.{reported_kept}
+use Rattle.apply_cli.proofs.Statuses.{of_input, of_input_in_part, reported_of_input}
 use Rattle.apply_cli.proofs.run.run_command_in_form.Goals as goal
 
 pub returns-clause-applied : goal.returns-clause-applied
@@ -21,3 +23,16 @@ returns-clause-cut_off g c =
     (λ bytes. HasBegunInForm c.args.form (record { plan = bytes; script = option_copied c.args.script; hooks = rules_of c.args.registry.now }) (options_of c.args.settings.now) (sink_state g.W.Write.contents c.args.output) (sink_state g.W.Write.contents c.run_input-output.result.0))
     (λ bytes h. plan_of_begun (record { plan = bytes; script = option_copied c.args.script; hooks = rules_of c.args.registry.now }) (options_of c.args.settings.now) c.args.form (sink_state g.W.Write.contents c.args.output) (sink_state g.W.Write.contents c.run_input-output.result.0) h)
     c.read_input-plan.ensures.bytes c.run_input-output.ensures.cut_off c.run_input-output.ensures.untouched
+
+-- what reads the rest of the input reports nothing
+pub returns-clause-reported : goal.returns-clause-reported
+returns-clause-reported g c = λ good.
+    let before = g.E.Write.contents c.args.faults.now in
+    let after = g.E.Write.contents c.run_input-output.new.faults in
+    let halts = c.args.settings.now.halts.items in
+    let reported = reported_of_input c.read_input-plan.result.0 (g.R.Read.remaining c.args.input) c.run_input-output.result.1
+    (λ bytes. HasAppliedInForm c.args.form (record { plan = bytes; script = option_copied c.args.script; hooks = rules_of c.args.registry.now }) (options_of c.args.settings.now) (sink_state g.W.Write.contents c.args.output) (sink_state g.W.Write.contents c.run_input-output.result.0) c.run_input-output.result.1)
+    (λ bytes. AreReported (unmatched_of bytes halts) before after)
+    (λ bytes h. plan_of_applied (record { plan = bytes; script = option_copied c.args.script; hooks = rules_of c.args.registry.now }) (options_of c.args.settings.now) c.args.form (sink_state g.W.Write.contents c.args.output) (sink_state g.W.Write.contents c.run_input-output.result.0) c.run_input-output.result.1 h)
+    c.read_input-plan.ensures.bytes c.run_input-output.ensures.applied c.run_input-output.ensures.reported c.run_input-output.ensures.unread good in
+    (reported.0, reported_kept (unmatched_of reported.0 halts) before after (g.E.Write.contents c.finish_reading.new.faults) reported.1 c.finish_reading.ensures.quiet, reported.2)

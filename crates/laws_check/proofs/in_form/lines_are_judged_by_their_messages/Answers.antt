@@ -1,5 +1,8 @@
-use Rattle.laws_check.proofs.LinesAccepted.{lines_accepted}
+use Rattle.laws_check.proofs.LinesAccepted.{lines_judged}
 use Rattle.laws_check.proofs.in_form.lines_are_judged_by_their_messages.Goals as goal
 
-pub returns : goal.returns
-returns c plans lines messages whole say short is = lines_accepted plans lines messages whole say short is
+pub returns-clause-verdict : goal.returns-clause-verdict
+returns-clause-verdict c plans lines messages all say short is = (lines_judged plans lines messages all say short is).0
+
+pub returns-clause-messages : goal.returns-clause-messages
+returns-clause-messages c plans lines messages all say short is = (lines_judged plans lines messages all say short is).1

@@ -3,7 +3,7 @@ use Rattle.std.proofs.Common.{◌≡◌, ◌≤◌, ◌+◌, ◌∙◌, ℕ, Boo
 use Rattle.std.specs.Prelude.{IfSome}
 use Rattle.stream_lines.specs.Reading.{Gives}
 use Rattle.stream_lines.specs.declared.line.LineEnd.{LineEnd}
-use Rattle.stream_runs.specs.Runs.{begins_run}
+use Rattle.stream_message.specs.Runs.{begins_run}
 use Rattle.stream_runs.proofs.Runs.{counts_none, counts_on, counts_out, counts_too_long}
 use Rattle.stream_runs.proofs.counting.count_runs.Goals as goal
 

@@ -4,7 +4,7 @@ use Rattle.std.specs.Prelude.{IfSome}
 use Rattle.stream_lines.specs.Reading.{Gives}
 use Rattle.stream_lines.specs.declared.line.LineEnd.{LineEnd}
 use Rattle.stream_runs.specs.Collected.{Lines, piece_of, with_line}
-use Rattle.stream_runs.specs.Runs.{begins_run}
+use Rattle.stream_message.specs.Runs.{begins_run}
 use Rattle.stream_runs.proofs.Leading.{Leads, ends_there, leads_nowhere, leads_on, leads_too_far, leads_too_long, leads_out, lines_more, runs_within, starts}
 use Rattle.stream_runs.proofs.selecting.select_run.Goals as goal
 

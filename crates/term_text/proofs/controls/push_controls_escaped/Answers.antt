@@ -13,7 +13,7 @@ truncate-requires c = λ short.
 
 pub returns-in-Ok-clause-ok : goal.returns-in-Ok-clause-ok
 returns-in-Ok-clause-ok c =
-    all_added _ _ _ (none_left _ (λ some. let past = c.in-Ok.ensures.enough some in omega arith)) c.in-Ok.ensures.added
+    all_added c.in-Ok.ensures.added.0 _ _ _ (none_left _ (λ some. let past = c.in-Ok.ensures.enough some in omega arith)) c.in-Ok.ensures.added.1
 
 -- what was added before memory was refused is cut off again
 pub returns-in-Err-clause-err : goal.returns-in-Err-clause-err

@@ -8,12 +8,12 @@ use Rattle.term_text.proofs.cutting.escape_controls_within.Goals as goal
 pub returns-then-len-limit : goal.returns-then-len-limit
 returns-then-len-limit c =
     let size : string_len c.push_until.new.text ≡ length (string_bytes c.push_until.new.text) = search rules in
-    let whole = c.in_ok-push_until.ensures.added ∙ ap (λ t. t ++ shown_text c.args.bytes.now) c.new-text.ensures.bytes in
-    cut_text-short c.args.limit _ _ (omega (arith, c.len.ensures)) (all_added _ _ _ (none_left _ (λ some. let past = c.in_ok-push_until.ensures.enough some in omega (arith, c.len.ensures))) whole)
+    let whole = c.in_ok-push_until.ensures.added.1 ∙ ap (λ t. t ++ shown_text c.args.bytes.now) c.new-text.ensures.bytes in
+    cut_text-short c.args.limit _ _ (omega (arith, c.len.ensures)) (all_added c.in_ok-push_until.ensures.added.0 _ _ _ (none_left _ (λ some. let past = c.in_ok-push_until.ensures.enough some in omega (arith, c.len.ensures))) whole)
 
 pub returns : goal.returns
 returns c =
     let size : string_len c.push_until.new.text ≡ length (string_bytes c.push_until.new.text) = search rules in
-    let whole = c.in_ok-push_until.ensures.added ∙ ap (λ t. t ++ shown_text c.args.bytes.now) c.new-text.ensures.bytes in
+    let whole = c.in_ok-push_until.ensures.added.1 ∙ ap (λ t. t ++ shown_text c.args.bytes.now) c.new-text.ensures.bytes in
     let cut = cut_text-long c.args.limit _ _ _ (IsUtf8-string_bytes c.push_until.new.text) (omega (arith, c.len.ensures)) whole in
     subst (λ (bytes : List ℕ). IfOk c.cut.result (λ text. string_bytes text ≡ bytes)) cut c.cut.ensures

@@ -1,5 +1,5 @@
-use Rattle.term_text.proofs.Plain.{readable_text-same, shown_text-same}
+use Rattle.term_text.proofs.Plain.{readable_text-same, shown_text-same, shown_text-twice}
 use Rattle.term_text.proofs.laws.text_stands_as_it_is.Goals as goal
 
 pub returns : goal.returns
-returns c = record { readable = readable_text-same; shown = shown_text-same }
+returns c = record { readable = readable_text-same; shown = shown_text-same; twice = shown_text-twice }

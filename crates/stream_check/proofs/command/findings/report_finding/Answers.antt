@@ -5,8 +5,7 @@ use Rattle.stream_check.specs.declared.command.unreported.Unreported.TheVariants
 use Rattle.stream_check.specs.declared.command.settings.Form.{Form}
 use Rattle.stream_check.specs.declared.rules.open_entry.OpenEntry.{OpenEntry}
 use Rattle.stream_check.specs.declared.verdict.read_fault.ReadFault.TheVariants as read
-use Rattle.stream_check.specs.Reports.{IsReported}
-use Rattle.stream_check.specs.Unended.{AreAllOpen}
+use Rattle.stream_check.specs.Reports.{AreListed, IsReported}
 use Rattle.stream_check.proofs.FromReader.{report_holds_if_known}
 use Rattle.stream_check.proofs.Statuses.{memory_reported, not_gone, text_reported}
 use Rattle.stream_check.proofs.command.findings.report_finding.Goals as goal
@@ -19,9 +18,9 @@ returns-in_err-object g c =
       gone = not_gone (Err unreported.Memory) refl;
     })
 
-pub returns-in_err-open : goal.returns-in_err-open
-returns-in_err-open g c =
-    let p = err_from_is_err_and c.from_residual-in_err-open.result c.from_residual-in_err-open.ensures.1 in
+pub returns-in_err-listed : goal.returns-in_err-listed
+returns-in_err-listed g c =
+    let p = err_from_is_err_and c.from_residual-in_err-listed.result c.from_residual-in_err-listed.ensures.1 in
     rw (p.1, p.2) (record {
       reported = λ seen stops is_named. memory_reported is_named c.args.mode seen c.args.form (Err (read.Found c.args.finding.now)) (g.W.Write.contents c.args.out.now) tt;
       gone = not_gone (Err unreported.Memory) refl;
@@ -41,7 +40,7 @@ returns g c = record {
       (sym c.in-Json.is)
       (c.report_finding_object.ensures seen c.args.mode
       (report_holds_if_known c.args.mode seen c.args.finding.now c.args.checker.now c.args.line.now.text.items c.args.line.now.has_feed (g.R.Read.remaining c.args.reader.now) _ refl c.deref.ensures.value c.is_cut_off.ensures c.in_ok-object.ensures
-      (λ is messages has_read. subst (λ (entries : List OpenEntry). AreAllOpen messages entries) (sym c.deref-2.ensures.value) (c.in_ok-open.ensures is messages has_read)) refl c.in_ok-runs.ensures stops) is_named);
+      (λ messages has_read. subst (λ (entries : List OpenEntry). AreListed c.args.finding.now.fault messages entries) (sym c.deref-2.ensures.value) (c.in_ok-listed.ensures messages has_read)) refl c.in_ok-runs.ensures stops) is_named);
   gone = λ gone. Keeps-refl (g.E.Write.contents c.args.faults.now);
 }
 

@@ -1,4 +1,4 @@
-use Rattle.std.proofs.Common.{codes, refl}
+use Rattle.std.proofs.Common.{refl}
 use Rattle.stream_message.proofs.line_slots.LineSlots.new.Goals as goal
 
 pub returns : goal.returns
@@ -7,7 +7,7 @@ returns c = record {
   head = c.new.ensures;
   terraform = λ selected. refl;
   hook = λ selected. (c.new-2.ensures.is, c.new-2.ensures.holds);
-  change = λ selected. c.new-3.ensures (codes "action");
+  change = λ selected. (c.new-3.ensures.is, c.new-3.ensures.holds);
   changes = λ selected. (c.new-4.ensures.is, c.new-4.ensures.holds);
   diagnostic = λ selected. (c.new-5.ensures.is, c.new-5.ensures.holds c.args.selection.diagnostic_texts);
 }

@@ -1,4 +1,4 @@
-use Rattle.stream_view.proofs.MessageText.{text_then}
+use Rattle.term_words.proofs.Appended.{text_then}
 use Rattle.stream_view.proofs.captions.heading.push_completed.Goals as goal
 
 pub returns : goal.returns

@@ -1,7 +1,7 @@
 use Rattle.std.proofs.Common.{◌∙◌, ℕ, [], ◌++◌, List, Bool, ap, codes, sym}
 use Rattle.std.specs.Prelude.{if◌then◌else◌}
 use Rattle.stream_view.specs.Heading.{total_words}
-use Rattle.stream_view.proofs.MessageText.{text_as, text_then}
+use Rattle.term_words.proofs.Appended.{text_as, text_then}
 use Rattle.stream_view.proofs.captions.heading.push_disagreement.Goals as goal
 
 pub returns : goal.returns

@@ -1,6 +1,6 @@
 use Rattle.std.proofs.Common.{ap, length}
 use Rattle.stream_view.proofs.Headings.{completed_is_done, plan_is_done}
-use Rattle.stream_view.proofs.MessageText.{text_as}
+use Rattle.term_words.proofs.Appended.{text_as}
 use Rattle.stream_view.proofs.captions.heading.push_done.Goals as goal
 
 pub returns-in-Some : goal.returns-in-Some

@@ -1,7 +1,7 @@
 use Rattle.std.proofs.Common.{ap, codes}
 use Rattle.std.specs.Prelude.{unwrap_or}
 use Rattle.stream_view.specs.Heading.{words_if_any}
-use Rattle.stream_view.proofs.MessageText.{text_as, text_then}
+use Rattle.term_words.proofs.Appended.{text_as, text_then}
 use Rattle.stream_view.proofs.captions.heading.push_planned.Goals as goal
 
 pub returns : goal.returns

@@ -2,7 +2,7 @@ use Rattle.std.proofs.Common.{◌∙◌, ℕ, ◌++◌, List, ap, ap₂, codes}
 use Rattle.std.specs.List.{count_by}
 use Rattle.stream_timeline.specs.Steps.{StepRead}
 use Rattle.stream_view.specs.Heading.{is_not_ended, uncompleted_words, words_if_any}
-use Rattle.stream_view.proofs.MessageText.{text_as, text_then}
+use Rattle.term_words.proofs.Appended.{text_as, text_then}
 use Rattle.stream_view.proofs.captions.heading.push_uncompleted.Goals as goal
 
 pub returns : goal.returns

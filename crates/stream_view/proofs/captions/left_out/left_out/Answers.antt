@@ -1,4 +1,4 @@
-use Rattle.stream_view.proofs.MessageText.{text_all, text_then}
+use Rattle.term_words.proofs.Appended.{text_all, text_then}
 use Rattle.stream_view.proofs.captions.left_out.left_out.Goals as goal
 
 pub returns : goal.returns

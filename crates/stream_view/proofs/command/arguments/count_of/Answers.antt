@@ -14,6 +14,7 @@ within : (asked : Form) → max 1 (min (rows_of_form asked) 100000) ≡ rows_of_
 within (form.Text width colour) = omega arith
 within form.Svg = omega arith
 within form.Json = omega arith
+within form.Markdown = omega arith
 
 pub returns-clause-stated : goal.returns-clause-stated
 returns-clause-stated c =

@@ -1,6 +1,6 @@
-use Rattle.std.proofs.Common.{◌≡◌, ◌∙◌, ◌<◌, ◌≤◌, List, ap, get_or, length, sym, arith}
+use Rattle.std.proofs.Common.{◌≡◌, ◌∙◌, ◌<◌, ◌≤◌, List, ap, get_or, length, arith}
 use Rattle.stream_timeline.specs.Steps.{StepRead}
-use Rattle.stream_view.proofs.Objects.{no_steps, step_more, steps_all}
+use Rattle.stream_view.proofs.Objects.{step_more, steps_all}
 use Rattle.stream_view.proofs.json.drawing.draw_steps.Goals as goal
 
 pub loop-place-preserved : goal.loop-place-preserved

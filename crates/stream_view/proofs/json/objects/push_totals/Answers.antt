@@ -1,5 +1,4 @@
-use Rattle.std.proofs.Common.{ap, ◌++◌}
-use Rattle.stream_view.proofs.MessageText.{text_as, text_then}
+use Rattle.term_words.proofs.Appended.{text_as, text_then}
 use Rattle.stream_view.proofs.Objects.{totals_is}
 use Rattle.stream_view.proofs.json.objects.push_totals.Goals as goal
 

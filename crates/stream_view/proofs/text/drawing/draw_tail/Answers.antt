@@ -7,5 +7,5 @@ use Rattle.stream_view.proofs.text.drawing.draw_tail.Goals as goal
 pub returns : goal.returns
 returns g c =
     let line_buffer = c.push_passed.new.line_buffer in
-    let style = c.push_passed.ensures ∙ c.push_diagnostics.ensures ∙ c.push_alone.ensures ∙ c.push_concurrency.ensures ∙ c.new-line_buffer.ensures.style in
+    let style = c.push_passed.ensures ∙ c.push_diagnostics.ensures ∙ c.push_longest.ensures ∙ c.push_alone.ensures ∙ c.push_concurrency.ensures ∙ c.new-line_buffer.ensures.style in
     on_ok c.send.result (λ sent. buffer_written c.args.style _ _ (lines_in line_buffer) line_buffer.style style sent.1 sent.2) c.send.ensures

@@ -1,6 +1,6 @@
 use Rattle.std.proofs.Common.{◌++◌, ap₂}
-use Rattle.stream_view.specs.Words.{duration_words}
-use Rattle.stream_view.proofs.MessageText.{text_all, text_as, text_then}
+use Rattle.term_words.specs.Words.{duration_words}
+use Rattle.term_words.proofs.Appended.{text_all, text_as, text_then}
 use Rattle.stream_view.proofs.text.row.length_of.Goals as goal
 
 pub returns : goal.returns

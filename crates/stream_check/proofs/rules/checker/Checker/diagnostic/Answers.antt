@@ -12,7 +12,7 @@ returns-in-None c = λ messages read.
     let error : c.args.is_error ≡ true = c.if-not-is_error.false in (
       diagnostic true None ∷ messages,
       rw (none, error) refl,
-      plain_read c.args.self.now _ (diagnostic true None) messages with_error read (λ b. refl) c.with_error-self.ensures.value (error_tallied messages) (still_error messages),
+      plain_read c.args.self.now _ (diagnostic true None) messages with_error read (λ b. refl) (λ b. refl) c.with_error-self.ensures.value (error_tallied messages) (still_error messages),
     )
 
 pub with_error-self-requires : goal.with_error-self-requires

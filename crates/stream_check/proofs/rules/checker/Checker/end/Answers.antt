@@ -6,7 +6,7 @@ use Rattle.stream_check.specs.declared.verdict.whole.Whole.{Whole}
 use Rattle.stream_check.specs.Lines.{whole_with}
 use Rattle.stream_check.specs.Open.{any_open}
 use Rattle.stream_check.specs.Tallied.{has_nothing_begun}
-use Rattle.stream_check.proofs.Held.{ends_as_plan, ends_badly, ends_open, ends_well}
+use Rattle.stream_check.proofs.Held.{ends_as_plan, ends_badly, ends_open, ends_planned, ends_well}
 use Rattle.stream_check.proofs.rules.checker.Checker.end.Goals as goal
 
 abbrev done : Whole → Result Whole Fault
@@ -29,14 +29,19 @@ returns-then-ends_as_plan c = λ messages read.
     ap done (c.whole.ensures messages read ∙ ap (λ (t : Tally). whole_with c.args.mode true t.planned messages) read.tally)
     ∙ sym (ends_as_plan c.args.mode c.args.self.now messages read closed both.0 both.1)
 
+pub returns-then-leaves_planned : goal.returns-then-leaves_planned
+returns-then-leaves_planned c = λ messages read.
+    let closed : any_open messages ≡ false = sym (c.is_open.ensures messages read) ∙ c.if-is_open.false in
+    sym (ends_planned c.args.mode c.args.self.now messages read closed (sym c.ends_as_plan.ensures ∙ c.if-ends_as_plan.false) (sym (c.leaves_planned.ensures messages read) ∙ c.if-leaves_planned.true))
+
 pub returns-then-ends_as_apply : goal.returns-then-ends_as_apply
 returns-then-ends_as_apply c = λ messages read.
     let closed : any_open messages ≡ false = sym (c.is_open.ensures messages read) ∙ c.if-is_open.false in
     ap done (c.whole-then-ends_as_apply.ensures messages read ∙ ap (λ (t : Tally). whole_with c.args.mode false t.completed messages) read.tally)
-    ∙ sym (ends_well c.args.mode c.args.self.now messages read closed (sym c.ends_as_plan.ensures ∙ c.if-ends_as_plan.false) (sym c.ends_as_apply.ensures ∙ c.if-ends_as_apply.true))
+    ∙ sym (ends_well c.args.mode c.args.self.now messages read closed (sym c.ends_as_plan.ensures ∙ c.if-ends_as_plan.false) (sym (c.leaves_planned.ensures messages read) ∙ c.if-leaves_planned.false) (sym c.ends_as_apply.ensures ∙ c.if-ends_as_apply.true))
 
 pub returns : goal.returns
 returns c = λ messages read.
     let closed : any_open messages ≡ false = sym (c.is_open.ensures messages read) ∙ c.if-is_open.false in
     ap faulty c.why_no_end.ensures
-    ∙ sym (ends_badly c.args.mode c.args.self.now messages read closed (sym c.ends_as_plan.ensures ∙ c.if-ends_as_plan.false) (sym c.ends_as_apply.ensures ∙ c.if-ends_as_apply.false))
+    ∙ sym (ends_badly c.args.mode c.args.self.now messages read closed (sym c.ends_as_plan.ensures ∙ c.if-ends_as_plan.false) (sym (c.leaves_planned.ensures messages read) ∙ c.if-leaves_planned.false) (sym c.ends_as_apply.ensures ∙ c.if-ends_as_apply.false))

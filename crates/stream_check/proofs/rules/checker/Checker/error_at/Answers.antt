@@ -19,6 +19,7 @@ returns c = λ messages read.
       refl,
       error_read c.args.self.now _ messages a read
           (λ b. c.in-Ok.ensures.ok b ∙ ap (λ (s : AddressState). cond (bytes_eq a b) (unless_idle s) (get_by_text c.args.self.now.pending.states b)) there)
+          (λ b. refl)
           (c.with_error_at-self.ensures.value ∙ ap (λ (n : ℕ). with_error_at n c.args.self.now.tally) count),
     )
 

@@ -10,5 +10,5 @@ pub returns : goal.returns
 returns c = λ messages read. (
   foreign ∷ messages,
   next_foreign messages,
-  plain_read c.args.self.now _ foreign messages with_foreign read (λ b. refl) c.with_foreign-self.ensures.value (foreign_tallied messages) (still_foreign messages),
+  plain_read c.args.self.now _ foreign messages with_foreign read (λ b. refl) (λ b. refl) c.with_foreign-self.ensures.value (foreign_tallied messages) (still_foreign messages),
 )

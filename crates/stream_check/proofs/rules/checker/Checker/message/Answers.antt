@@ -12,14 +12,14 @@ pub returns-in-Other : goal.returns-in-Other
 returns-in-Other c = λ messages read. (
   other ∷ messages,
   next_after messages (message_view c.args.message) c.in-Some.first (version_line c.args.self.now messages (Some c.in-Some.first) read (sym c.in-Some.is)) ∙ ap (λ m. after_version messages c.in-Some.first (message_view m)) c.in-Other.is,
-  plain_read c.args.self.now _ other messages with_line read (λ b. refl) c.with_line-self.ensures.value (other_tallied messages) (still_other messages),
+  plain_read c.args.self.now _ other messages with_line read (λ b. refl) (λ b. refl) c.with_line-self.ensures.value (other_tallied messages) (still_other messages),
 )
 
 pub returns-in-Foreign : goal.returns-in-Foreign
 returns-in-Foreign c = λ messages read. (
   foreign ∷ messages,
   next_after messages (message_view c.args.message) c.in-Some.first (version_line c.args.self.now messages (Some c.in-Some.first) read (sym c.in-Some.is)) ∙ ap (λ m. after_version messages c.in-Some.first (message_view m)) c.in-Foreign.is,
-  plain_read c.args.self.now _ foreign messages with_foreign read (λ b. refl) c.with_foreign-self.ensures.value (foreign_tallied messages) (still_foreign messages),
+  plain_read c.args.self.now _ foreign messages with_foreign read (λ b. refl) (λ b. refl) c.with_foreign-self.ensures.value (foreign_tallied messages) (still_foreign messages),
 )
 
 pub returns-in_default : goal.returns-in_default
@@ -61,7 +61,7 @@ returns-in-Provision c =
 
 pub returns-in-Planned : goal.returns-in-Planned
 returns-in-Planned c =
-    continues_after c.args.self.now c.plan.new.self (message_view c.args.message) c.in-Some.first (λ messages. after_version messages 0 (planned c.in-Planned.intent)) c.plan.result c.in-Some.is
+    continues_after c.args.self.now c.plan.new.self (message_view c.args.message) c.in-Some.first (λ messages. after_version messages 0 (planned c.in-Planned.intent (option_copied c.in-Planned.address))) c.plan.result c.in-Some.is
     (λ messages. ap (λ m. after_version messages c.in-Some.first (message_view m)) c.in-Planned.is) c.plan.ensures
 
 pub returns-in-PlanSummary : goal.returns-in-PlanSummary

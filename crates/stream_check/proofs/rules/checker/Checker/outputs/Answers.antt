@@ -13,7 +13,7 @@ returns-then-self c = λ messages read.
     let await : awaits_outputs messages ≡ true = ap (λ (t : Tally). t.awaits_outputs) (sym read.tally) ∙ c.if-self.true in (
       outputs ∷ messages,
       outputs_fit messages await,
-      plain_read c.args.self.now _ outputs messages with_outputs read (λ b. refl) c.with_outputs-self.ensures.value (outputs_tallied messages) (still_outputs messages),
+      plain_read c.args.self.now _ outputs messages with_outputs read (λ b. refl) (λ b. refl) c.with_outputs-self.ensures.value (outputs_tallied messages) (still_outputs messages),
     )
 
 pub returns-else-self : goal.returns-else-self

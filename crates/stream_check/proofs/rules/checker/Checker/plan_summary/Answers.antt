@@ -13,7 +13,7 @@ returns c = λ messages read.
     let right : same_totals c.args.totals (planned_totals messages) ≡ true = ap (λ (t : Tally). same_totals c.args.totals t.planned) (sym read.tally) ∙ sym c.if-not-agree.ensures in (
       plan_summary c.args.totals ∷ messages,
       foreseen_right messages c.args.totals (no_summary c.args.self.now messages read c.in_default.not-Some) (no_plan_summary c.args.self.now messages read c.in_default-plan_summary.not-Some) right,
-      plain_read c.args.self.now _ (plan_summary c.args.totals) messages with_plan_summary read (λ b. refl) c.with_plan_summary-self.ensures.value (plan_summary_tallied c.args.totals messages) (still_plan_summary c.args.totals messages),
+      plain_read c.args.self.now _ (plan_summary c.args.totals) messages with_plan_summary read (λ b. refl) (λ b. refl) c.with_plan_summary-self.ensures.value (plan_summary_tallied c.args.totals messages) (still_plan_summary c.args.totals messages),
     )
 
 pub returns-in-Some : goal.returns-in-Some

@@ -15,7 +15,7 @@ returns-in-Err c = λ messages read.
     let stage = Progress c.args.seconds in
     let s = unwrap_or (get_by_text c.args.self.now.pending.states a) idle in
     let told = c.in-Err.ensures.err in (
-      record { tally = read.tally; state = λ b. told.1 b ∙ read.state b },
+      record { tally = read.tally; state = λ b. told.1 b ∙ read.state b; unbegun = read.unbegun },
       λ memory. step_faulty messages a k stage c.in-Err.fault (no_summary c.args.self.now messages read c.in_default.not-Some)
           (step_after c.args.self.now messages a k stage s (Err c.in-Err.fault) read refl (sym told.0)),
     )
@@ -30,7 +30,7 @@ returns-in-Ok c = λ messages read.
     let e : step_on k stage (length messages + 1) (state_of a messages) ≡ Ok told.0 = step_after c.args.self.now messages a k stage s (Ok told.0) read refl (sym told.1) in (
       step a k stage ∷ messages,
       step_fits messages a k stage told.0 (no_summary c.args.self.now messages read c.in_default.not-Some) e refl,
-      step_read c.args.self.now _ messages a k stage told.0 read told.2 c.with_line-self.ensures.value e,
+      step_read c.args.self.now _ messages a k stage told.0 read told.2 (λ b. refl) c.with_line-self.ensures.value e,
     )
 
 pub returns-in-Some : goal.returns-in-Some

@@ -1,4 +1,4 @@
-use Rattle.std.proofs.Common.{◌≡◌, ◌+◌, ◌∷◌, ◌∙◌, length, Ok}
+use Rattle.std.proofs.Common.{◌≡◌, ◌+◌, ◌∷◌, ◌∙◌, length, refl, Ok}
 use Rattle.stream_check.specs.Message.{provision}
 use Rattle.stream_check.specs.AddressState.{provision_on, state_of}
 use Rattle.stream_check.proofs.Continuing.{after_summary, no_summary, with_one, provision_after, provision_read}
@@ -19,7 +19,7 @@ returns c = λ messages read.
     provision_after c.args.self.now messages a c.args.stage c.at.result c.provision_on.result read c.at.ensures c.provision_on.ensures ∙ c.in-Ok.is in (
       provision a c.args.stage ∷ messages,
       provision_fits messages a c.args.stage c.in-Ok.state (no_summary c.args.self.now messages read c.in_default.not-Some) e,
-      provision_read c.args.self.now _ messages a c.args.stage c.in-Ok.state read c.in-Ok-set.ensures.ok c.with_line-self.ensures.value e,
+      provision_read c.args.self.now _ messages a c.args.stage c.in-Ok.state read c.in-Ok-set.ensures.ok (λ b. refl) c.with_line-self.ensures.value e,
     )
 
 pub returns-in-Some : goal.returns-in-Some

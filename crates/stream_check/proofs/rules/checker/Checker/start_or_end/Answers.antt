@@ -30,7 +30,7 @@ returns c = λ messages read.
     let within : is_beyond_plan c.args.action c.args.stage messages ≡ false = ap (λ (t : Tally). is_beyond c.args.action c.args.stage t) (sym read.tally) ∙ sym c.is_beyond.ensures ∙ c.if-is_beyond.false in (
       step a c.args.action c.args.stage ∷ messages,
       step_fits messages a c.args.action c.args.stage c.in-Ok.state (no_summary c.args.self.now messages read c.in_default.not-Some) e within,
-      step_read c.args.self.now _ messages a c.args.action c.args.stage c.in-Ok.state read c.in-Ok-set.ensures.ok c.with_step-self.ensures.value e,
+      step_read c.args.self.now _ messages a c.args.action c.args.stage c.in-Ok.state read c.in-Ok-set.ensures.ok c.step.ensures c.with_step-self.ensures.value e,
     )
 
 pub returns-in-Some : goal.returns-in-Some

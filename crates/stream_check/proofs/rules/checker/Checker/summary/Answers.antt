@@ -15,7 +15,7 @@ returns c = λ messages read.
     let right : same_totals c.args.totals (completed_totals messages) ≡ true = ap (λ (t : Tally). same_totals c.args.totals t.completed) (sym read.tally) ∙ sym c.if-not-agree.ensures in (
       summary c.args.totals ∷ messages,
       summed_right messages c.args.totals (no_summary c.args.self.now messages read c.in_default.not-Some) closed right,
-      plain_read c.args.self.now _ (summary c.args.totals) messages with_summary read (λ b. refl) c.with_summary-self.ensures.value (summary_tallied c.args.totals messages) (still_summary c.args.totals messages),
+      plain_read c.args.self.now _ (summary c.args.totals) messages with_summary read (λ b. refl) (λ b. refl) c.with_summary-self.ensures.value (summary_tallied c.args.totals messages) (still_summary c.args.totals messages),
     )
 
 pub returns-in-Some : goal.returns-in-Some

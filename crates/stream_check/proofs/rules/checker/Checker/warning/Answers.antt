@@ -11,5 +11,5 @@ returns c = λ messages read.
     let address = option_copied c.args.address in (
       diagnostic false address ∷ messages,
       refl,
-      plain_read c.args.self.now _ (diagnostic false address) messages with_line read (λ b. refl) c.with_line-self.ensures.value (warning_tallied address messages) (still_warning address messages),
+      plain_read c.args.self.now _ (diagnostic false address) messages with_line read (λ b. refl) (λ b. refl) c.with_line-self.ensures.value (warning_tallied address messages) (still_warning address messages),
     )

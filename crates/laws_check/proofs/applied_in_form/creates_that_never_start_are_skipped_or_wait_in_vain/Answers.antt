@@ -1,0 +1,15 @@
+use Rattle.std.proofs.Common.{◌<◌, arith, ap, ◌∙◌}
+use Rattle.std.specs.Prelude.{nat_lt}
+use Rattle.apply_events.specs.Totals.{is_halted}
+use Rattle.apply_run.specs.InForm.{work_of}
+use Rattle.laws_check.proofs.Errors.{any_counted}
+use Rattle.laws_check.proofs.LeftOut.{left_out}
+use Rattle.laws_check.proofs.applied_in_form.creates_that_never_start_are_skipped_or_wait_in_vain.Goals as goal
+
+pub returns : goal.returns
+returns c given lanes start operation report before after applied none =
+    let some : 0 < lanes = (let low = applied.sizes.some in omega arith) in
+    let events = applied.streamed.events in
+    left_out (work_of given applied.stated) events (c.steps_are_whole.ensures (work_of given applied.stated) lanes events some applied.streamed.time_line)
+    (any_counted (λ e. is_halted e.what) events ∙ ap (nat_lt 0) none)
+    (c.lanes_leave_out_what_waits_in_vain.ensures.terraforms_form given lanes start operation report before after applied)

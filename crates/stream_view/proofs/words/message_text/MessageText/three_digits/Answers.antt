@@ -1,8 +1,0 @@
-use Rattle.stream_view.proofs.MessageText.{text_then}
-use Rattle.stream_view.proofs.words.message_text.MessageText.three_digits.Goals as goal
-
-pub returns : goal.returns
-returns c =
-    let s1 = text_then c.args.self.now c.number.new.self c.number-2.new.self _ _ c.number.ensures c.number-2.ensures in
-    let s2 = text_then c.args.self.now c.number-2.new.self c.number-3.new.self _ _ s1 c.number-3.ensures in
-    s2

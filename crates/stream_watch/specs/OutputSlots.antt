@@ -1,0 +1,45 @@
+-- What the slots of outputs hold, for private clauses.
+use Rattle.std.specs.Prelude.{◌≡◌, ℕ, List, codes, map, Bool, false, option_map, String, string_bytes}
+use Rattle.std.specs.declared.alloc.Global.{Global}
+use Rattle.serde_json.specs.Data.{Members}
+use Rattle.serde_json.specs.Find.{as_str, get_member}
+use Rattle.apply_json.specs.ShallowView.{ShallowView, absent, truth, number, text, an_array, an_object, shallow_of, shallow_view}
+use Rattle.apply_json.specs.Tree.{◌>>=◌}
+use Rattle.stream_watch.specs.declared.message.outputs.output_slots.OutputSlots.{OutputSlots}
+use Rattle.stream_watch.specs.declared.message.outputs.statement.Statement.{Statement}
+use Rattle.stream_watch.specs.declared.message.outputs.text_slot.TextSlot.{TextSlot}
+use Rattle.stream_watch.specs.Outputs.{OutputView}
+
+-- the slot holds the JSON text of `outputs`
+abbrev pub HoldsText : TextSlot → Members → Type 0
+HoldsText slot ms = option_map string_bytes slot.text ≡ (get_member (codes "outputs") ms >>= as_str)
+
+pub record HoldsOutput (slots : OutputSlots) (ms : Members) : Type 0 where
+  pub action : shallow_view slots.action ≡ shallow_of (get_member (codes "action") ms)
+  pub sensitive : shallow_view slots.sensitive ≡ shallow_of (get_member (codes "sensitive") ms)
+  pub value : option_map string_bytes slots.value ≡ (get_member (codes "value") ms >>= as_str)
+
+abbrev pub is_true_view : ShallowView → Bool
+is_true_view absent = false
+is_true_view (truth b) = b
+is_true_view (number n) = false
+is_true_view (text s) = false
+is_true_view an_array = false
+is_true_view an_object = false
+
+-- ---- outputs by name
+
+-- the output of that name
+abbrev pub statement_view : (name : List ℕ) → Statement → OutputView
+statement_view name statement = record {
+  name = name;
+  action = option_map string_bytes statement.action;
+  is_sensitive = statement.is_sensitive;
+  value = option_map string_bytes statement.value;
+}
+
+abbrev pub entry_view : String Global × Statement → OutputView
+entry_view entry = statement_view (string_bytes entry.0) entry.1
+
+abbrev pub entries_view : List (String Global × Statement) → List OutputView
+entries_view entries = map entry_view entries

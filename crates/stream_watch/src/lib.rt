@@ -1,0 +1,30 @@
+//! `applystream watch`: shows an apply to people while it is under way, and judges its stream.
+#![tactic(auto)]
+
+mod clock;
+mod command;
+mod counts;
+mod ending;
+mod lines;
+mod looks;
+mod mark;
+mod message;
+mod printer;
+mod progress;
+mod refreshes;
+mod rows;
+mod steps;
+mod telling;
+mod watch_fault;
+mod watcher;
+mod watching;
+mod words;
+
+pub use command::colour::Colour;
+pub use command::settings::Settings;
+pub use command::tool::Watch;
+pub use looks::Looks;
+pub use message::laws::a_line_has_a_message_where_check_finds_one;
+pub use watch_fault::WatchFault;
+pub use watcher::Watcher;
+pub use watching::watch;

@@ -1,0 +1,6 @@
+//! The message of a line, and its outputs.
+
+pub mod laws;
+pub mod outputs;
+pub mod reading;
+pub mod shape;

@@ -1,0 +1,8 @@
+use Rattle.term_words.proofs.Appended.{text_then}
+use Rattle.term_words.proofs.message_text.MessageText.three_digits.Goals as goal
+
+pub returns : goal.returns
+returns c =
+    let s1 = text_then c.args.self.now c.number.new.self c.number-2.new.self _ _ c.number.ensures c.number-2.ensures in
+    let s2 = text_then c.args.self.now c.number-2.new.self c.number-3.new.self _ _ s1 c.number-3.ensures in
+    s2
