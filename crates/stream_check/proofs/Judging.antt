@@ -98,9 +98,9 @@ after_fault mode judge new checker texts text fault none same refuses finds judg
     let known = messages_of mode judge texts none judged in
     let refused = refuses known.0 known.1 in
     let is_found : IsFoundAfter mode known.0 (length known.0 + 1) fault new.found =
-        subst (λ (m : Mode). IsFoundAfter m known.0 (length known.0 + 1) fault new.found) judged.mode_is (finds known.0 refused.0) in
+    subst (λ (m : Mode). IsFoundAfter m known.0 (length known.0 + 1) fault new.found) judged.mode_is (finds known.0 refused.0) in
     let read : read_line mode.find known.0 text ≡ Err fault =
-        ap (λ (m : Mode). read_line m.find known.0 text) (sym judged.mode_is) ∙ refused.1 (not_memory mode known.0 (length known.0 + 1) fault new.found is_found) in
+    ap (λ (m : Mode). read_line m.find known.0 text) (sym judged.mode_is) ∙ refused.1 (not_memory mode known.0 (length known.0 + 1) fault new.found is_found) in
     with_fault mode new texts known.0 text fault (same ∙ judged.mode_is) known.2 read is_found
 
 -- the verdict at the end of a stream without a fault before

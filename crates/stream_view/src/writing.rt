@@ -5,9 +5,9 @@ ghost use Rattle.std.specs.Io.KnownBytes.{Appends, Keeps};
 ghost use Rattle.term_words.specs.MessageTexts.{HasText};
 
 use crate::draw_fault::DrawFault;
-use term_words::MessageText;
 use std::io::Write;
 use stream_tool::write_whole;
+use term_words::MessageText;
 
 /// Writes the text. `DrawFault::Gone` if the reader of the output is gone, and
 /// `DrawFault::Unwritten` if the write fails otherwise. After an `Err`, `out` may have the first

@@ -3,11 +3,11 @@
 ghost use Rattle.std.specs.Prelude.{◌≤◌};
 
 use crate::picture::Picture;
-use term_words::MessageText;
 use crate::words::within::shown_within;
 use std::alloc::Global;
 use stream_timeline::Diagnostic;
 use term_text::ShownText;
+use term_words::MessageText;
 
 /// The kind of a line. It decides the indent, the colour and the gap before the line.
 #[derive(Clone, Copy)]

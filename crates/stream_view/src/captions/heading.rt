@@ -7,9 +7,9 @@ ghost use Rattle.stream_view.specs.Heading.{agrees, completed_words, disagreemen
 ghost use Rattle.term_words.specs.MessageTexts.{HasText, AppendsText};
 
 use crate::picture::Picture;
-use term_words::MessageText;
 use std::alloc::Global;
 use stream_timeline::{Numbers, Step, Totals};
+use term_words::MessageText;
 
 /// The first line of a picture: the version of Terraform, the number of steps and the span, what
 /// was completed, and what was not. Of a stream that is only a plan, what the plan would do.

@@ -5,8 +5,8 @@ ghost use Rattle.stream_view.specs.LeftOut.{left_out_words};
 ghost use Rattle.term_words.specs.MessageTexts.{HasText};
 
 use crate::picture::Picture;
-use term_words::MessageText;
 use std::alloc::Global;
+use term_words::MessageText;
 
 /// How many steps have no row, their greatest length, and the sum of their lengths.
 pub fn left_out(alloc: Global, picture: &Picture<'_>) -> MessageText

@@ -1,8 +1,8 @@
 //! The second line of a picture: how many steps ran at once.
 
 use crate::picture::Picture;
-use term_words::MessageText;
 use std::alloc::Global;
+use term_words::MessageText;
 
 /// Idle time is shown from one second on, if it is at least a 50th of the span. In microseconds.
 const IDLE: u64 = 1_000_000;

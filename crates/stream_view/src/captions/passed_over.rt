@@ -1,8 +1,8 @@
 //! The line about lines that were passed over.
 
 use crate::picture::Picture;
-use term_words::MessageText;
 use std::alloc::Global;
+use term_words::MessageText;
 
 /// How many lines were passed over. `None` if none was.
 pub fn passed_over(alloc: Global, picture: &Picture<'_>) -> Option<MessageText> {

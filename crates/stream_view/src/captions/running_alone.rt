@@ -1,10 +1,10 @@
 //! The steps that ran alone while everything else waited.
 
 use crate::picture::Picture;
-use term_words::MessageText;
 use std::alloc::{AllocError, Global};
 use std::cmp::Reverse;
 use stream_timeline::Step;
+use term_words::MessageText;
 
 /// A step is listed from one millisecond alone on, if that is at least a 100th of the span. In
 /// microseconds.

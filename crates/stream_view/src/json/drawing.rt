@@ -7,11 +7,11 @@ ghost use Rattle.stream_view.specs.Json.{JsonWritten, StepsWritten, figures_text
 use crate::draw_fault::DrawFault;
 use crate::json::objects::{push_figures, push_step};
 use crate::picture::Picture;
-use term_words::MessageText;
 use crate::writing::{flush, write_message, write_text};
 use std::alloc::Global;
 use std::io::Write;
 use stream_timeline::Step;
+use term_words::MessageText;
 
 /// Writes the time line of the picture as one JSON object, and a line feed. The object has the
 /// figures of the stream and all of its steps, in the order of their lines. Times are in

@@ -10,8 +10,8 @@ use crate::json::members::{
     push_count, push_flag, push_null, push_number, push_optional, push_string,
 };
 use crate::picture::Picture;
-use term_words::MessageText;
 use stream_timeline::{Step, Totals};
+use term_words::MessageText;
 
 /// Adds the front of the object of a time line: its figures, its version and its summary.
 pub fn push_figures(text: &mut MessageText, picture: &Picture<'_>)

@@ -5,8 +5,8 @@ ghost use Rattle.std.specs.Prelude.{◌≡◌};
 ghost use Rattle.stream_view.specs.Markdown.{back_bytes, fence_bytes, front_bytes, more_line};
 ghost use Rattle.term_words.specs.MessageTexts.{AppendsText, HasText};
 
-use term_words::MessageText;
 use std::alloc::Global;
+use term_words::MessageText;
 
 /// What stands before the text: the headline in bold, and the fence.
 pub fn front_of(alloc: Global, headline: &[u8], fence: usize) -> MessageText

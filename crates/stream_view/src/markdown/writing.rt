@@ -9,10 +9,10 @@ use crate::draw_fault::DrawFault;
 use crate::markdown::cutting::kept_of;
 use crate::markdown::extent::{Extent, extent_of, fence_len};
 use crate::markdown::fence::{back_of, front_of};
-use term_words::MessageText;
 use crate::writing::{write_bytes, write_message};
 use std::alloc::Global;
 use std::io::Write;
+use term_words::MessageText;
 
 /// Writes the headline, and the text in its fence, cut if there is no room. The errors are those of
 /// `draw_markdown`.

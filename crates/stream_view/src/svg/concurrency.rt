@@ -5,8 +5,8 @@ use crate::svg::fragment::Fragment;
 use crate::svg::markup::Markup;
 use crate::svg::markup_part::MarkupPart;
 use crate::svg::scale::Scale;
-use term_words::MessageText;
 use stream_timeline::levels_of;
+use term_words::MessageText;
 
 /// The height of the area, in pixels.
 const AREA_HEIGHT: u64 = 30;

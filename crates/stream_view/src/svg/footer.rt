@@ -15,12 +15,12 @@ use crate::svg::fragment::Fragment;
 use crate::svg::header::push_ticks;
 use crate::svg::markup::Markup;
 use crate::svg::scale::Scale;
-use term_words::MessageText;
 use std::alloc::Global;
 use std::cmp::Reverse;
 use std::io::Write;
 use stream_timeline::Step;
 use term_text::{ShownText, wrapped};
+use term_words::MessageText;
 
 /// Where a line about a step that ran alone has the end of its duration and the begin of its text.
 /// In tenths of a pixel from the margin.

@@ -11,11 +11,11 @@ ghost use Rattle.stream_view.specs.declared.svg.markup_part.MarkupPart.TheVarian
 use crate::draw_fault::DrawFault;
 use crate::svg::fragment::Fragment;
 use crate::svg::markup_part::MarkupPart;
-use term_words::MessageText;
 use crate::writing::write_text;
 use std::alloc::{AllocError, Global};
 use std::io::Write;
 use term_text::ShownText;
+use term_words::MessageText;
 
 /// Parts of the SVG that have not been written yet. If memory is refused, `is_whole` records that
 /// until they are written, so that adding a part can't fail.

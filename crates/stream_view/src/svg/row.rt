@@ -13,8 +13,8 @@ use crate::svg::fragment::Fragment;
 use crate::svg::markup::Markup;
 use crate::svg::markup_part::MarkupPart;
 use crate::svg::scale::Scale;
-use term_words::MessageText;
 use stream_timeline::{Provisioner, Step};
+use term_words::MessageText;
 
 /// Where the bar of a step stands. `left` and `width` are in tenths of a pixel, `top` is in pixels.
 #[derive(Clone, Copy)]

@@ -8,9 +8,9 @@ use crate::picture::Picture;
 use crate::text::chart::Chart;
 use crate::text::line::Line;
 use crate::text::line_buffer::LineBuffer;
-use term_words::MessageText;
 use std::alloc::{AllocError, Global};
 use term_text::without_blanks;
+use term_words::MessageText;
 
 /// How many ticks an axis has at most.
 const MOST_TICKS: u64 = 1_000;

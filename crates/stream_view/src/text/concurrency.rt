@@ -6,10 +6,10 @@ use crate::picture::Picture;
 use crate::text::chart::{Chart, DURATION};
 use crate::text::line::Line;
 use crate::text::line_buffer::LineBuffer;
-use term_words::MessageText;
 use std::alloc::{AllocError, Global};
 use stream_timeline::levels_of;
 use term_text::without_blanks;
+use term_words::MessageText;
 
 /// The characters for 0 to 8 eighths of a cell.
 const LEVEL_EIGHTHS: [char; 9] = [' ', '▁', '▂', '▃', '▄', '▅', '▆', '▇', '█'];

@@ -12,10 +12,10 @@ use crate::draw_fault::DrawFault;
 use crate::text::line::Line;
 use crate::text::rendition::Rendition;
 use crate::text::writing::write_lines;
-use term_words::MessageText;
 use std::alloc::Global;
 use std::io::Write;
 use term_text::{ShownText, without_blanks, wrapped};
+use term_words::MessageText;
 
 /// How a text may look.
 #[derive(Clone, Copy)]

@@ -5,9 +5,9 @@ ghost use Rattle.std.specs.Prelude.{◌≡◌};
 use crate::picture::Picture;
 use crate::text::line_buffer::LineBuffer;
 use crate::text::row::length_of;
-use term_words::MessageText;
 use std::alloc::Global;
 use stream_timeline::{Step, rows_by_length};
+use term_words::MessageText;
 
 /// How many steps are listed.
 const MOST: usize = 5;

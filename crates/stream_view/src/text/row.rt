@@ -15,11 +15,11 @@ use crate::text::bar::Bar;
 use crate::text::chart::{Chart, DURATION};
 use crate::text::line::Line;
 use crate::text::rendition::Rendition;
-use term_words::MessageText;
 use crate::words::within::shown_within;
 use std::alloc::Global;
 use stream_timeline::{Step, halves_of};
 use term_text::without_blanks;
+use term_words::MessageText;
 
 /// The row of a step: its action, address, mark, duration and bar. `ticks` are the characters in
 /// the cells that no bar covers.

@@ -10,7 +10,7 @@ returns-then-is_some c = λ mode texts judged. still_found mode c.args.self.now 
 pub returns-in-Ok : goal.returns-in-Ok
 returns-in-Ok c = λ mode texts judged.
     let goes = subst (λ (text : List ℕ). Continues c.args.self.now.checker c.line.new.self (λ messages. read_line c.args.self.now.mode.find messages text) (Ok c.in-Ok.field-0)) c.deref.ensures.value c.in-Ok.ensures in
-    with_line mode c.args.self.now (record {alloc = c.args.self.now.alloc; mode = c.args.self.now.mode; checker = c.line.new.self; found = c.args.self.now.found}) texts c.args.line.now.text.items c.in-Ok.field-0
+    with_line mode c.args.self.now (record { alloc = c.args.self.now.alloc; mode = c.args.self.now.mode; checker = c.line.new.self; found = c.args.self.now.found }) texts c.args.line.now.text.items c.in-Ok.field-0
     (none_of c.args.self.now.found (sym c.is_some.ensures ∙ c.if-is_some.false)) refl refl goes judged
 
 pub returns-in-Err : goal.returns-in-Err
