@@ -1,8 +1,8 @@
 -- What the messages of an object name: `hook`, and the address of its resource.
-use Rattle.std.specs.Prelude.{ℕ, List, Option, codes, option_map}
+use Rattle.std.specs.Prelude.{ℕ, List, [], Option, codes, option_map, unwrap_or}
 use Rattle.serde_json.specs.Data.{Data}
 use Rattle.serde_json.specs.View.{view}
-use Rattle.apply_json.specs.Tree.{◌>>=◌, member_of, non_empty_text_of}
+use Rattle.apply_json.specs.Tree.{◌>>=◌, member_of, non_empty_text_of, text_of}
 use Rattle.stream_watch.specs.declared.rows.step.HookMessage.{HookMessage}
 
 pub record Hook : Type 0 where
@@ -17,3 +17,7 @@ hook_of tree =
 -- what was read of a message
 abbrev pub hook_view : HookMessage → Hook
 hook_view message = record { hook = view message.hook.now; address = message.address.now }
+
+-- the type of the resource, or nothing
+unfoldable pub kind_of : (hook : Data) → List ℕ
+kind_of hook = unwrap_or (member_of (codes "resource") hook >>= λ resource. text_of (codes "resource_type") resource) []

@@ -8,8 +8,10 @@ pub mod Ending
 pub mod FurtherLines
 pub mod Hooks
 pub mod Joined
+pub mod Lengths
 pub mod Marks
 pub mod MessageLaws
+pub mod Noted
 pub mod OutputRows
 pub mod OutputSlots
 pub mod Outputs

@@ -1,11 +1,17 @@
 -- The signs of marks, and how they and the texts after them are rendered where lines have colours.
-use Rattle.std.specs.Prelude.{ℕ, List, Option, None, Some, codes, if◌then◌else◌}
+use Rattle.std.specs.Prelude.{ℕ, Bool, List, Option, None, Some, codes, false, if◌then◌else◌, true}
 use Rattle.std.specs.Str.{bytes_eq}
 use Rattle.term_text.specs.declared.rendition.Rendition.{Rendition}
 use Rattle.term_text.specs.declared.rendition.Rendition.TheVariants as rendition
 use Rattle.stream_watch.specs.declared.mark.Mark.{Mark}
 use Rattle.stream_watch.specs.declared.mark.Mark.TheVariants as mark
 use Rattle.stream_watch.specs.declared.mark.Sign.{Sign}
+
+-- the panel shows begins of steps, and what is under way
+abbrev pub is_in_panel : Mark → Bool
+is_in_panel mark.Begin = true
+is_in_panel mark.UnderWay = true
+is_in_panel _ = false
 
 abbrev pub plain_sign : (character : ℕ) → Sign
 plain_sign character = record { character = character; rendition = None }

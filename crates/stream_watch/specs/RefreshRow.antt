@@ -4,7 +4,8 @@ use Rattle.serde_json.specs.Data.{Data}
 use Rattle.stream_message.specs.declared.stage.Stage.{Stage}
 use Rattle.stream_message.specs.declared.stage.Stage.TheVariants as stage
 use Rattle.term_words.specs.Words.{number_words}
-use Rattle.stream_watch.specs.Hooks.{Hook, hook_of}
+use Rattle.stream_watch.specs.Hooks.{Hook, hook_of, kind_of}
+use Rattle.stream_watch.specs.Noted.{with_noted}
 use Rattle.stream_watch.specs.Refreshes.{length_of, none_after, with_begin, with_end}
 use Rattle.stream_watch.specs.State.{State, Told, line_told, nothing}
 use Rattle.stream_watch.specs.Steps.{is_step, new_step, without_first}
@@ -27,9 +28,9 @@ reported_told looks state =
 -- ---- what messages change
 
 -- the state after a refresh began
-abbrev pub refresh_began : (address : List ℕ) (moment : ℤ) → State → State
-refresh_began address moment state = record state {
-  steps = state.steps ++ new_step address (codes "refresh") true moment ∷ [];
+abbrev pub refresh_began : (address kind : List ℕ) (moment : ℤ) → State → State
+refresh_began address kind moment state = record state {
+  steps = state.steps ++ new_step address (codes "refresh") kind true moment ∷ [];
   refreshes = with_begin moment state.refreshes;
 }
 
@@ -40,8 +41,13 @@ refresh_ended address moment state = record state {
   refreshes = with_end moment state.refreshes;
 }
 
+-- the time of a refresh that is open is kept
+abbrev pub noted_refresh : (address : List ℕ) (moment : ℤ) → State → State
+noted_refresh address moment state = with_noted (is_step address (codes "refresh") true) moment state
+
 abbrev pub refresh_state : State → Stage → (moment : ℤ) → Hook → State
-refresh_state state stage.Start moment named = refresh_began named.address moment state
+refresh_state state stage.Start moment named = refresh_began named.address (kind_of named.hook) moment state
+refresh_state state stage.Complete moment named = refresh_ended named.address moment (noted_refresh named.address moment state)
 refresh_state state _ moment named = refresh_ended named.address moment state
 
 -- nothing is told of a refresh by itself; none if the message lacks the address

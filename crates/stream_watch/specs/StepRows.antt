@@ -10,8 +10,9 @@ use Rattle.stream_message.specs.declared.stage.Stage.TheVariants as stage
 use Rattle.term_text.specs.Shown.{shown_text}
 use Rattle.term_words.specs.Words.{grouped}
 use Rattle.stream_watch.specs.Counts.{is_change, with_begun, with_done, with_failed}
-use Rattle.stream_watch.specs.Hooks.{Hook, hook_of}
+use Rattle.stream_watch.specs.Hooks.{Hook, hook_of, kind_of}
 use Rattle.stream_watch.specs.RefreshRow.{reported_told}
+use Rattle.stream_watch.specs.Noted.{with_noted}
 use Rattle.stream_watch.specs.State.{State, Told, line_told, nothing, told_then}
 use Rattle.stream_watch.specs.Steps.{Step, begin_of_first, is_step, new_step, without_first}
 use Rattle.stream_watch.specs.Words.{length_since, length_words, step_words, whole_of}
@@ -46,7 +47,7 @@ told_before looks state action = if is_change action then reported_told looks st
 
 abbrev pub with_step : NamedStep → (moment : ℤ) → State → State
 with_step step moment state = record state {
-  steps = state.steps ++ new_step step.address step.action false moment ∷ [];
+  steps = state.steps ++ new_step step.address step.action (kind_of step.hook) false moment ∷ [];
   counts = with_begun step.action state.counts;
 }
 
@@ -109,10 +110,14 @@ failed_told looks state step moment =
 
 -- ---- the row
 
+-- the time of a step that is open is kept
+abbrev pub noted_step : NamedStep → (moment : ℤ) → State → State
+noted_step step moment state = with_noted (is_step step.address step.action false) moment state
+
 abbrev pub told_of_step : Looks → State → Stage → (moment : ℤ) → NamedStep → Told
 told_of_step looks state stage.Start moment step = began_told looks state step moment
 told_of_step looks state stage.Progress moment step = nothing state
-told_of_step looks state stage.Complete moment step = done_told looks state step moment
+told_of_step looks state stage.Complete moment step = done_told looks (noted_step step moment state) step moment
 told_of_step looks state stage.Errored moment step = failed_told looks state step moment
 
 -- what is told of a step; none if the message lacks the action or the address

@@ -16,6 +16,8 @@ pub record Running : Type 0 where
 pub record Step : Type 0 where
   pub address : List ℕ
   pub action : List ℕ
+  -- the type of the resource
+  pub kind : List ℕ
   pub is_refresh : Bool
   pub begin : ℤ
   pub provisioner : Option Running
@@ -27,6 +29,7 @@ abbrev pub step_view : OpenStep → Step
 step_view step = record {
   address = string_bytes step.address;
   action = string_bytes step.action;
+  kind = string_bytes step.kind;
   is_refresh = step.is_refresh;
   begin = step.begin;
   provisioner = option_map running_view step.provisioner;
@@ -40,9 +43,9 @@ steps_of steps = map step_view steps.list.items
 abbrev pub new_running : (name : List ℕ) → (moment : ℤ) → Running
 new_running name moment = record { name = name; begin = moment }
 
-abbrev pub new_step : (address action : List ℕ) → (is_refresh : Bool) → (moment : ℤ) → Step
-new_step address action is_refresh moment =
-    record { address = address; action = action; is_refresh = is_refresh; begin = moment; provisioner = None }
+abbrev pub new_step : (address action kind : List ℕ) → (is_refresh : Bool) → (moment : ℤ) → Step
+new_step address action kind is_refresh moment =
+    record { address = address; action = action; kind = kind; is_refresh = is_refresh; begin = moment; provisioner = None }
 
 -- the step is a refresh, or is none
 abbrev pub has_role : (is_refresh : Bool) → Step → Bool
@@ -56,10 +59,10 @@ is_step address action is_refresh step =
 abbrev pub begin_of_first : (Step → Bool) → List Step → Option ℤ
 begin_of_first holds steps = option_map (λ step. step.begin) (find holds steps)
 
--- the steps without the first one of which this holds
-abbrev pub without_first : (Step → Bool) → List Step → List Step
+-- the list without the first one of which this holds
+abbrev pub without_first : {A : Type 0} → (A → Bool) → List A → List A
 without_first holds [] = []
-without_first holds (step ∷ steps) = if holds step then steps else step ∷ without_first holds steps
+without_first holds (first ∷ rest) = if holds first then rest else first ∷ without_first holds rest
 
 -- a provisioner at the address runs in the step
 abbrev pub runs_at : (address : List ℕ) → Step → Bool

@@ -7,4 +7,7 @@ pub struct Looks {
     pub width: Option<usize>,
     /// Whether the lines have the sequences of colours.
     pub has_colour: bool,
+    /// Whether a panel below the lines shows what is under way. Begins and steps under way are then
+    /// not told.
+    pub has_panel: bool,
 }

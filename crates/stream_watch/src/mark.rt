@@ -1,7 +1,7 @@
 //! The marks of lines.
 
 ghost use Rattle.std.specs.Prelude.{◌≡◌};
-ghost use Rattle.stream_watch.specs.Marks.{bar_of, coloured_sign, plain_sign, planned_mark, sign_of, text_rendition};
+ghost use Rattle.stream_watch.specs.Marks.{bar_of, coloured_sign, is_in_panel, plain_sign, planned_mark, sign_of, text_rendition};
 
 use term_text::Rendition;
 
@@ -98,6 +98,13 @@ impl Mark {
             "import" => Mark::Import,
             _ => Mark::OtherPlan,
         }
+    }
+
+    /// Whether the panel shows what lines with the mark tell.
+    pub(crate) fn is_in_panel(self) -> bool
+        ensures { result ≡ is_in_panel self }
+    {
+        matches!(self, Mark::Begin | Mark::UnderWay)
     }
 
     /// The sign of a line with the mark.

@@ -102,7 +102,7 @@ impl Watcher {
     }
 
     /// Adds how many changes are done, failed and under way, to an empty text.
-    fn push_state(&self, text: &mut MessageText)
+    pub fn push_state(&self, text: &mut MessageText)
         ensures { HasText text.old [] → HasText text.new (state_words (state_of self.now)) }
     {
         self.push_done(text);

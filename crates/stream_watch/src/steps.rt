@@ -1,6 +1,6 @@
 //! The steps that are open.
 
-ghost use Rattle.std.specs.Prelude.{◌≡◌, ◌∷◌, ◌++◌, [], filter, map, None, not, OnOk, position, Some, take};
+ghost use Rattle.std.specs.Prelude.{◌≡◌, ◌∷◌, ◌++◌, [], filter, find, map, None, not, OnOk, option_map, position, Some, take};
 ghost use Rattle.stream_watch.specs.Steps.{begin_of_first, begin_of_running, changes, changes_in, has_role, is_step, last_place, new_running, new_step, reads_at, runs_at, step_view, steps_of, with_provisioner, without_first};
 
 use crate::counts::is_change;
@@ -23,6 +23,8 @@ pub struct OpenStep {
     pub address: String,
     /// The action, and `refresh` for a refresh.
     pub action: String,
+    /// The type of the resource.
+    pub kind: String,
     pub is_refresh: bool,
     /// The moment of its begin.
     pub begin: i64,
@@ -95,21 +97,32 @@ impl OpenSteps {
         alloc: Global,
         address: &str,
         action: &str,
+        kind: &str,
         is_refresh: bool,
         moment: i64,
     ) -> Result<(), AllocError>
         ensures { OnOk result (steps_of self.new
-            ≡ steps_of self.old ++ new_step address.now action.now is_refresh moment ∷ []) }
+            ≡ steps_of self.old ++ new_step address.now action.now kind.now is_refresh moment ∷ []) }
     {
         let step = OpenStep {
             address: String::from_str(alloc, address)?,
             action: String::from_str(alloc, action)?,
+            kind: String::from_str(alloc, kind)?,
             is_refresh,
             begin: moment,
             provisioner: None,
         };
         self.list.push(step)?;
         Ok(())
+    }
+
+    /// Returns the step that began first of those with this address and action.
+    pub fn open(&self, address: &str, action: &str, is_refresh: bool) -> Option<&OpenStep>
+        ensures { option_map step_view result.now
+            ≡ find (is_step address.now action.now is_refresh) (steps_of self.now) }
+    {
+        let index = self.first(address, action, is_refresh)?;
+        Some(&self.list[index])
     }
 
     /// Removes the step that began first of those with this address and action. Returns the moment

@@ -8,6 +8,7 @@ ghost use Rattle.term_words.specs.MessageTexts.{AppendsText, HasText};
 
 use crate::clock::Clock;
 use crate::counts::Counts;
+use crate::lengths::Lengths;
 use crate::looks::Looks;
 use crate::mark::Mark;
 use crate::printer::Printer;
@@ -27,9 +28,14 @@ pub struct Watcher {
     pub(crate) steps: OpenSteps,
     pub(crate) counts: Counts,
     pub(crate) refreshes: Refreshes,
+    pub(crate) lengths: Lengths,
     /// How many marks had passed when the steps under way were last told.
     pub(crate) marks: u64,
     pub(crate) printer: Printer,
+    /// Whether a panel shows what is under way.
+    pub(crate) has_panel: bool,
+    /// Whether the last line had a message with a moment.
+    pub(crate) is_timed: bool,
     /// Whether messages are found in the lines of a log.
     pub(crate) find: bool,
     // Stored between lines, so that a line needs no memory of its own.
@@ -50,19 +56,24 @@ impl Watcher {
             steps: OpenSteps::new(alloc),
             counts: Counts::new(),
             refreshes: Refreshes::new(),
+            lengths: Lengths::new(alloc),
             marks: 0,
             printer: Printer::new(alloc, looks.width, looks.has_colour),
+            has_panel: looks.has_panel,
+            is_timed: false,
             find,
             scratch: Scratch::new(alloc),
         }
     }
 
-    /// Tells a text with the time of the stream.
+    /// Tells a text with the time of the stream, unless the panel shows what it tells.
     pub fn line(&mut self, mark: Mark, text: &MessageText)
         ensures { (words : _) → HasText text.now words
             → Tells self.old self.new (line_told (looks_of self.old) (state_of self.old) mark words) }
     {
-        self.printer.line(self.clock.elapsed(), mark, text);
+        if !(self.has_panel && mark.is_in_panel()) {
+            self.printer.line(self.clock.elapsed(), mark, text);
+        }
     }
 
     /// Tells a text that belongs to the line before it, which has this mark.

@@ -85,6 +85,7 @@ impl Tool for Watch {
         let looks = Looks {
             width: settings.width,
             has_colour: settings.colour.is_on(self.is_colour_wanted),
+            has_panel: false,
         };
         let answer = watch(alloc, settings.mode, looks, reader, out);
         let status = match answer {

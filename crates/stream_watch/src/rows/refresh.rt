@@ -5,7 +5,7 @@ ghost use Rattle.serde_json.specs.View.{view};
 ghost use Rattle.stream_watch.specs.RefreshRow.{refresh_began, refresh_ended, refresh_told};
 ghost use Rattle.stream_watch.specs.State.{Tells, nothing, state_of};
 
-use crate::rows::step::hook_in;
+use crate::rows::step::{hook_in, kind_of};
 use crate::steps::REFRESH;
 use crate::watcher::Watcher;
 use serde_json::Value;
@@ -24,18 +24,29 @@ impl Watcher {
             return Ok(false);
         };
         match stage {
-            Stage::Start => self.refresh_began(message.address, moment)?,
+            Stage::Start => {
+                self.refresh_began(message.address, kind_of(message.hook), moment)?;
+            }
+            Stage::Complete => {
+                self.note_length(message.address, REFRESH, true, moment)?;
+                self.refresh_ended(message.address, moment);
+            }
             _ => self.refresh_ended(message.address, moment),
         }
         Ok(true)
     }
 
     /// Counts a refresh that begins. `Err` where memory is refused.
-    fn refresh_began(&mut self, address: &str, moment: i64) -> Result<(), AllocError>
-        ensures { OnOk result (Tells self.old self.new (nothing (refresh_began address.now moment (state_of self.old)))) }
+    fn refresh_began(
+        &mut self,
+        address: &str,
+        kind: &str,
+        moment: i64,
+    ) -> Result<(), AllocError>
+        ensures { OnOk result (Tells self.old self.new (nothing (refresh_began address.now kind.now moment (state_of self.old)))) }
     {
         self.steps
-            .begin(self.alloc, address, REFRESH, true, moment)?;
+            .begin(self.alloc, address, REFRESH, kind, true, moment)?;
         self.refreshes = self.refreshes.with_begin(moment);
         Ok(())
     }

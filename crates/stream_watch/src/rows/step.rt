@@ -3,10 +3,13 @@
 ghost use Rattle.std.specs.Prelude.{◌≡◌, IfOk, OnOk, is_some, option_map, unwrap_or};
 ghost use Rattle.serde_json.specs.View.{view};
 ghost use Rattle.term_words.specs.MessageTexts.{AppendsText};
-ghost use Rattle.stream_watch.specs.Hooks.{hook_of, hook_view};
+ghost use Rattle.stream_watch.specs.Hooks.{hook_of, hook_view, kind_of};
+ghost use Rattle.stream_watch.specs.Noted.{with_noted};
 ghost use Rattle.stream_watch.specs.State.{Tells, looks_of, nothing, state_of};
 ghost use Rattle.stream_watch.specs.StepRows.{began_told, done_told, done_words, failed_told, failed_words, id_words, kept_id_words, named_view, share_words, stated_length, step_length, step_of, step_told, told_before, without_step};
+ghost use Rattle.stream_watch.specs.Steps.{is_step};
 
+use crate::clock::gap;
 use crate::counts::{Counts, is_change};
 use crate::mark::Mark;
 use crate::watcher::Watcher;
@@ -73,7 +76,10 @@ impl Watcher {
         match stage {
             Stage::Start => self.step_began(message, moment)?,
             Stage::Progress => {}
-            Stage::Complete => self.step_ended(message, moment),
+            Stage::Complete => {
+                self.note_length(message.address, message.action, false, moment)?;
+                self.step_ended(message, moment);
+            }
             Stage::Errored => self.step_failed(message, moment),
         }
         Ok(true)
@@ -86,7 +92,14 @@ impl Watcher {
         self.report_before(message.action);
         self.counts = self.counts.with_begun(message.action);
         self.steps
-            .begin(self.alloc, message.address, message.action, false, moment)?;
+            .begin(
+                self.alloc,
+                message.address,
+                message.action,
+                kind_of(message.hook),
+                false,
+                moment,
+            )?;
         let mut text = MessageText::new(self.alloc);
         push_step(&mut text, message.action, message.address);
         self.line(Mark::Begin, &text);
@@ -100,6 +113,25 @@ impl Watcher {
         if is_change(action) {
             self.report_refreshes();
         }
+    }
+
+    /// Keeps how long the open step with this address and action took, where there is one. `Err`
+    /// where memory is refused.
+    pub fn note_length(
+        &mut self,
+        address: &str,
+        action: &str,
+        is_refresh: bool,
+        moment: i64,
+    ) -> Result<(), AllocError>
+        ensures { OnOk result (Tells self.old self.new (nothing (with_noted (is_step address.now action.now is_refresh) moment (state_of self.old)))) }
+    {
+        if let Some(step) = self.steps.open(address, action, is_refresh) {
+            let took = gap(step.begin, moment);
+            self.lengths
+                .add(self.alloc, step.action.as_str(), step.kind.as_str(), took)?;
+        }
+        Ok(())
     }
 
     /// Tells that a step ended well.
@@ -135,6 +167,16 @@ impl Watcher {
             Some(length) => Some(length),
             None => stated_length(message.hook),
         }
+    }
+}
+
+/// Returns the type of the resource. It is empty where the message has none.
+pub fn kind_of<'a>(hook: &'a Value) -> &'a str
+    ensures { result.now ≡ kind_of (view hook.now) }
+{
+    match member(hook, "resource") {
+        Some(resource) => text_member(resource, "resource_type").unwrap_or(""),
+        None => "",
     }
 }
 
