@@ -28,7 +28,7 @@ impl Watcher {
     }
 
     /// The open steps, in the order of the lines that began them.
-    pub fn open_steps(&self) -> &[OpenStep]
+    pub fn steps_under_way(&self) -> &[OpenStep]
         ensures { map step_view result.now ≡ (state_of self.now).steps }
     {
         self.steps.list.as_slice()
