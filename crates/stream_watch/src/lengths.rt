@@ -24,12 +24,7 @@ pub struct KindLengths {
 
 impl KindLengths {
     /// The lengths of a first step. `Err` where memory is refused.
-    fn first(
-        alloc: Global,
-        action: &str,
-        kind: &str,
-        took: u64,
-    ) -> Result<KindLengths, AllocError>
+    fn first(alloc: Global, action: &str, kind: &str, took: u64) -> Result<KindLengths, AllocError>
         ensures { OnOk result (λ first. lengths_view first ≡ one_length action.now kind.now took) }
     {
         Ok(KindLengths {

@@ -22,10 +22,10 @@ mod watcher_state;
 mod watching;
 mod words;
 
+pub use clock::{Clock, gap};
 pub use command::colour::Colour;
 pub use command::settings::Settings;
 pub use command::tool::Watch;
-pub use clock::{Clock, gap};
 pub use counts::Counts;
 pub use lengths::{KindLengths, Lengths};
 pub use lines::push_time;

@@ -37,12 +37,7 @@ impl Watcher {
     }
 
     /// Counts a refresh that begins. `Err` where memory is refused.
-    fn refresh_began(
-        &mut self,
-        address: &str,
-        kind: &str,
-        moment: i64,
-    ) -> Result<(), AllocError>
+    fn refresh_began(&mut self, address: &str, kind: &str, moment: i64) -> Result<(), AllocError>
         ensures { OnOk result (Tells self.old self.new (nothing (refresh_began address.now kind.now moment (state_of self.old)))) }
     {
         self.steps

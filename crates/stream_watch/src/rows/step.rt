@@ -91,15 +91,14 @@ impl Watcher {
     {
         self.report_before(message.action);
         self.counts = self.counts.with_begun(message.action);
-        self.steps
-            .begin(
-                self.alloc,
-                message.address,
-                message.action,
-                kind_of(message.hook),
-                false,
-                moment,
-            )?;
+        self.steps.begin(
+            self.alloc,
+            message.address,
+            message.action,
+            kind_of(message.hook),
+            false,
+            moment,
+        )?;
         let mut text = MessageText::new(self.alloc);
         push_step(&mut text, message.action, message.address);
         self.line(Mark::Begin, &text);
