@@ -5,15 +5,18 @@ use apply_cli::{PromptingReader, Usage, follow_standard, given_words, refuse_sta
 use input_validate_cli::Validate;
 use std::alloc::{AllocError, Global};
 use std::env;
-use std::io::{BufWriter, IsTerminal};
+use std::io::{BufWriter, IsTerminal, Read};
 use std::process::ExitCode;
 use std::sync::Wait;
 use std::thread::Threads;
+use std::time::Clock;
+use stream_ahead::{NoPace, read_ahead};
 use stream_check::Check;
 use stream_play::Play;
-use stream_tool::{Tool, run_tool};
+use stream_panel::Size;
+use stream_tool::{Tool, read_words, run_tool};
 use stream_view::View;
-use stream_watch::Watch;
+use stream_watch_cli::{Terminal, Watch, has_panel};
 
 /// Printed when somebody types `applystream check` alone.
 const NO_STREAM: &str =
@@ -60,11 +63,7 @@ fn use_tool(rt: &HostRuntime, words: &[String]) -> Option<u8> {
             let tool = View { is_colour_wanted };
             Some(run(rt, &tool, words, NO_STREAM_TO_VIEW))
         }
-        "watch" => {
-            let is_colour_wanted = rt.stdout().is_terminal() && wants_colour(rt);
-            let tool = Watch { is_colour_wanted };
-            Some(run(rt, &tool, words, NO_STREAM_TO_WATCH))
-        }
+        "watch" => Some(watch(rt, rt, words)),
         "validate" => Some(run(rt, &Validate, words, NO_PLAN)),
         _ => None,
     }
@@ -90,22 +89,65 @@ fn help_words(alloc: Global) -> Result<Vec<String>, AllocError> {
     Ok(words)
 }
 
-/// Runs the tool with the arguments after its name, and returns the exit status. `prompt` is what a
-/// terminal is told where an input is awaited from it.
+/// Runs `watch`, and returns the exit status. Where it shows a panel, the input is read in a thread.
+fn watch<T: Threads + Wait + Clock + Sync>(rt: &HostRuntime, threads: &T, words: &[String]) -> u8 {
+    let terminal = terminal_of(rt);
+    let mut input = standard_input(rt, NO_STREAM_TO_WATCH);
+    if !shows_panel(rt.alloc(), words, terminal) {
+        let tool = Watch {
+            clock: rt,
+            pace: &NoPace,
+            terminal,
+        };
+        return run_on(rt, &tool, words, &mut input);
+    }
+    let status = read_ahead(threads, rt.alloc(), input, |reader, pace| {
+        let tool = Watch {
+            clock: rt,
+            pace,
+            terminal,
+        };
+        run_on(rt, &tool, words, reader)
+    });
+    match status {
+        Ok(status) => status,
+        Err(_) => refuse_standard(rt, &Usage::Memory),
+    }
+}
+
+/// Whether the arguments of `watch` ask for a panel.
+fn shows_panel(alloc: Global, words: &[String], terminal: Terminal) -> bool {
+    match read_words::<Watch<'_, HostRuntime, NoPace>>(alloc, words.get(2..).unwrap_or(&[])) {
+        Ok(settings) => has_panel(&settings, terminal),
+        Err(_) => false,
+    }
+}
+
+/// Runs the tool with the arguments after its name on standard input, and returns the exit status.
+/// `prompt` is what a terminal is told where an input is awaited from it.
 fn run<T: Tool>(rt: &HostRuntime, tool: &T, words: &[String], prompt: &'static str) -> u8 {
+    run_on(rt, tool, words, &mut standard_input(rt, prompt))
+}
+
+/// Returns standard input. A terminal is told `prompt` before the first read.
+fn standard_input(rt: &HostRuntime, prompt: &'static str) -> PromptingReader<Stdin, Stderr> {
+    let prompt = rt.stdin().is_terminal().then_some(prompt);
+    PromptingReader::new(rt.reader(), rt.stderr(), prompt)
+}
+
+/// Runs the tool with the arguments after its name on this input, and returns the exit status.
+fn run_on<T: Tool, R: Read>(rt: &HostRuntime, tool: &T, words: &[String], input: &mut R) -> u8 {
     let words = words.get(2..).unwrap_or(&[]);
     let Ok(mut output) = BufWriter::with_capacity(rt.alloc(), OUTPUT_ROOM, rt.stdout()) else {
         return refuse_standard(rt, &Usage::Memory);
     };
-    let is_terminal = rt.stdin().is_terminal();
-    let prompt = is_terminal.then_some(prompt);
     let outcome = run_tool(
         tool,
         rt,
         rt.alloc(),
         words,
-        is_terminal,
-        &mut PromptingReader::new(rt.reader(), rt.stderr(), prompt),
+        rt.stdin().is_terminal(),
+        input,
         &mut output,
         &mut rt.stderr(),
     );
@@ -113,6 +155,33 @@ fn run<T: Tool>(rt: &HostRuntime, tool: &T, words: &[String], prompt: &'static s
     // after the error was reported.
     let (_stdout, _unwritten) = output.into_parts();
     outcome.status
+}
+
+/// Returns what is known of the terminal. Its size is that of `COLUMNS` and `LINES`, or 80 and 24.
+fn terminal_of(rt: &HostRuntime) -> Terminal {
+    let is_terminal = rt.stdout().is_terminal();
+    let name = env::var(rt, "TERM");
+    let is_dumb = matches!(&name, Ok(name) if name.as_str() == "dumb");
+    let has_name = matches!(&name, Ok(name) if !name.is_empty());
+    Terminal {
+        is_colour_wanted: is_terminal && !is_dumb && wants_colour(rt),
+        is_panel_wanted: is_terminal && has_name && !is_dumb,
+        size: Size {
+            columns: length_of(rt, "COLUMNS", 80),
+            rows: length_of(rt, "LINES", 24),
+        },
+    }
+}
+
+/// Returns the number from 1 to 9999 that the variable has, or `otherwise`.
+fn length_of(rt: &HostRuntime, name: &str, otherwise: usize) -> usize {
+    let Ok(text) = env::var(rt, name) else {
+        return otherwise;
+    };
+    match text.parse::<usize>() {
+        Ok(length) if 1 <= length && length <= 9999 => length,
+        _ => otherwise,
+    }
 }
 
 /// Whether `NO_COLOR` is absent or empty.

@@ -2,13 +2,12 @@ pub mod ChangedStates
 pub mod Gaps
 pub mod Items
 pub mod Joins
+pub mod LinesAt
 pub mod Numbers
 pub mod OutputLists
 pub mod OutputTexts
 pub mod OutputTurns
 pub mod Outputs
-pub mod Parsed
-pub mod Reached
 pub mod ReadAsMessages
 pub mod RowTellings
 pub mod Signatures

@@ -37,17 +37,17 @@ filter_in {A} {B} f p (x ∷ xs) =
 one_more : (n : ℕ) → 1 + n ≡ suc n
 one_more n = omega arith
 
-without_place : {A : Type 0} (f : A → Step) (holds : Step → Bool) (xs : List A)
+without_place : {A B : Type 0} (f : A → B) (holds : B → Bool) (xs : List A)
     → without_first holds (map f xs) ≡ map f (remove xs (position_or_len holds (map f xs)))
 without_place f holds [] = refl
-without_place f holds (x ∷ xs) =
+without_place {A} {B} f holds (x ∷ xs) =
     ⊎_elim
     (λ (yes : holds (f x) ≡ true). rw yes refl)
     (λ (no : holds (f x) ≡ false).
-    rw (no, one_more (position_or_len holds (map f xs))) (ap (λ (steps : List Step). f x ∷ steps) (without_place f holds xs)))
+    rw (no, one_more (position_or_len holds (map f xs))) (ap (λ (rest : List B). f x ∷ rest) (without_place f holds xs)))
     (cases_Bool (holds (f x)))
 
-find_place : {A : Type 0} (f : A → Step) (holds : Step → Bool) (xs : List A) (d : A) → position_or_len holds (map f xs) < length xs
+find_place : {A B : Type 0} (f : A → B) (holds : B → Bool) (xs : List A) (d : A) → position_or_len holds (map f xs) < length xs
     → find holds (map f xs) ≡ Some (f (get_or xs (position_or_len holds (map f xs)) d))
 find_place f holds xs d within =
     find_at holds (map f xs)
@@ -55,12 +55,12 @@ find_place f holds xs d within =
     ∙ ap (option_map f) (slice_get-get_or xs (position_or_len holds (map f xs)) d within)
 
 -- `i` is the place of the first that passes
-pub record IsFirst {A : Type 0} (f : A → Step) (holds : Step → Bool) (xs : List A) (i : ℕ) (d : A) : Type 0 where
+pub record IsFirst {A B : Type 0} (f : A → B) (holds : B → Bool) (xs : List A) (i : ℕ) (d : A) : Type 0 where
   pub within : i < length xs
   pub found : find holds (map f xs) ≡ Some (f (get_or xs i d))
   pub without : without_first holds (map f xs) ≡ map f (remove xs i)
 
-pub first_is : {A : Type 0} (f : A → Step) (holds : Step → Bool) (xs : List A) (i : ℕ) (d : A) → Some i ≡ position holds (map f xs) → IsFirst f holds xs i d
+pub first_is : {A B : Type 0} (f : A → B) (holds : B → Bool) (xs : List A) (i : ℕ) (d : A) → Some i ≡ position holds (map f xs) → IsFirst f holds xs i d
 first_is f holds xs i d at =
     let n = position_or_len holds (map f xs) in
     let parts = cond_some (ltb n (length (map f xs))) n i (sym at) in
@@ -78,11 +78,11 @@ removed_past : {A : Type 0} (xs : List A) (n : ℕ) → length xs ≤ n → remo
 removed_past xs n past = rw (take_all n xs past, drop_all (suc n) xs (omega arith)) (append-nil xs)
 
 -- none passes
-pub record IsNowhere {A : Type 0} (f : A → Step) (holds : Step → Bool) (xs : List A) : Type 0 where
+pub record IsNowhere {A B : Type 0} (f : A → B) (holds : B → Bool) (xs : List A) : Type 0 where
   pub found : find holds (map f xs) ≡ None
   pub without : without_first holds (map f xs) ≡ map f xs
 
-nowhere_past : {A : Type 0} (f : A → Step) (holds : Step → Bool) (xs : List A) → length (map f xs) ≤ position_or_len holds (map f xs) → IsNowhere f holds xs
+nowhere_past : {A B : Type 0} (f : A → B) (holds : B → Bool) (xs : List A) → length (map f xs) ≤ position_or_len holds (map f xs) → IsNowhere f holds xs
 nowhere_past f holds xs past =
     let n = position_or_len holds (map f xs) in
     record {
@@ -90,7 +90,7 @@ nowhere_past f holds xs past =
       without = without_place f holds xs ∙ ap (map f) (removed_past xs n (omega (arith, past, length-map xs f)));
     }
 
-pub nowhere : {A : Type 0} (f : A → Step) (holds : Step → Bool) (xs : List A) → None ≡ position holds (map f xs) → IsNowhere f holds xs
+pub nowhere : {A B : Type 0} (f : A → B) (holds : B → Bool) (xs : List A) → None ≡ position holds (map f xs) → IsNowhere f holds xs
 nowhere f holds xs at =
     let n = position_or_len holds (map f xs) in
     ⊎_elim
@@ -183,7 +183,7 @@ last_written f holds provisioner xs i x y at last made =
     ∙ sym is.written
 
 any_step : Step
-any_step = record { address = []; action = []; is_refresh = false; begin = pos 0; provisioner = None }
+any_step = record { address = []; action = []; kind = []; is_refresh = false; begin = pos 0; provisioner = None }
 
 pub last_within : {A : Type 0} (f : A → Step) (holds : Step → Bool) (xs : List A) (i : ℕ) → Some i ≡ last_place holds (map f xs) → i < length xs
 last_within f holds xs i last =

@@ -49,7 +49,9 @@ told_behind a b c s next first second =
     tells_then a b c s (next (looks_of a) s.state) first (tells_as b c _ _ same second)
 
 -- a printer that prints tells
-pub looks_same : (a b : Watcher) (bytes : List ℕ) → Prints a.printer b.printer bytes → looks_of b ≡ looks_of a
-looks_same a b bytes prints =
-    let looks_with : Option ℕ → Bool → Looks = λ width has_colour. record { width = width; has_colour = has_colour } in
-    ap (λ (width : Option ℕ). looks_with width b.printer.has_colour) prints.width ∙ ap (looks_with a.printer.width) prints.has_colour
+pub looks_same : (a b : Watcher) (bytes : List ℕ) → b.has_panel ≡ a.has_panel → Prints a.printer b.printer bytes → looks_of b ≡ looks_of a
+looks_same a b bytes panel prints =
+    let looks_with : Option ℕ → Bool → Bool → Looks = λ width has_colour has_panel. record { width = width; has_colour = has_colour; has_panel = has_panel } in
+    ap (λ (width : Option ℕ). looks_with width b.printer.has_colour b.has_panel) prints.width
+    ∙ ap (λ (has_colour : Bool). looks_with a.printer.width has_colour b.has_panel) prints.has_colour
+    ∙ ap (looks_with a.printer.width a.printer.has_colour) panel

@@ -19,5 +19,5 @@ abbrev pub hook_view : HookMessage → Hook
 hook_view message = record { hook = view message.hook.now; address = message.address.now }
 
 -- the type of the resource, or nothing
-unfoldable pub kind_of : (hook : Data) → List ℕ
+abbrev pub kind_of : (hook : Data) → List ℕ
 kind_of hook = unwrap_or (member_of (codes "resource") hook >>= λ resource. text_of (codes "resource_type") resource) []

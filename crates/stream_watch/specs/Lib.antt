@@ -1,7 +1,6 @@
 pub mod AfterRefreshes
 pub mod Changes
 pub mod Clock
-pub mod CommandLine
 pub mod Counts
 pub mod DiagnosticRow
 pub mod Ending
@@ -28,5 +27,5 @@ pub mod StepRows
 pub mod Steps
 pub mod SummaryRow
 pub mod Telling
-pub mod Watched
+pub mod VerdictRow
 pub mod Words

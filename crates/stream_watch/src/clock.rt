@@ -12,8 +12,8 @@ pub struct Clock {
     pub first: i64,
     /// The greatest moment.
     pub now: i64,
-    /// Whether a message had a moment.
-    pub is_set: bool,
+    /// How many messages had a moment. It stays at most `u64::MAX`.
+    pub count: u64,
 }
 
 impl Clock {
@@ -24,7 +24,7 @@ impl Clock {
         Clock {
             first: 0,
             now: 0,
-            is_set: false,
+            count: 0,
         }
     }
 
@@ -42,17 +42,17 @@ impl Clock {
     fn after_moment(self, moment: i64) -> Clock
         ensures { result ≡ after_moment moment self }
     {
-        if self.is_set {
+        if self.count > 0 {
             Clock {
                 first: self.first,
                 now: self.now.max(moment),
-                is_set: true,
+                count: self.count.saturating_add(1),
             }
         } else {
             Clock {
                 first: moment,
                 now: moment,
-                is_set: true,
+                count: 1,
             }
         }
     }

@@ -1,6 +1,7 @@
 //! How long steps took.
 
-ghost use Rattle.std.specs.Prelude.{◌≡◌, [], find, OnOk, option_map, position};
+ghost use Rattle.std.specs.Prelude.{◌≡◌, [], find, IfOk, OnOk, option_map, position};
+ghost use Rattle.std.specs.Option.{option_copied};
 ghost use Rattle.stream_watch.specs.Lengths.{has_room, is_kind, lengths_of, lengths_view, longer_by, one_length, with_first, with_length};
 
 use std::alloc::{AllocError, Global};
@@ -25,7 +26,7 @@ pub struct KindLengths {
 impl KindLengths {
     /// The lengths of a first step. `Err` where memory is refused.
     fn first(alloc: Global, action: &str, kind: &str, took: u64) -> Result<KindLengths, AllocError>
-        ensures { OnOk result (λ first. lengths_view first ≡ one_length action.now kind.now took) }
+        ensures { IfOk result (λ first. lengths_view first ≡ one_length action.now kind.now took) }
     {
         Ok(KindLengths {
             action: String::from_str(alloc, action)?,
@@ -37,7 +38,7 @@ impl KindLengths {
 
     /// The lengths after a further step.
     fn with(self, took: u64) -> KindLengths
-        ensures { lengths_view result ≡ longer_by took (lengths_view self.entry) }
+        ensures { lengths_view result ≡ longer_by took (lengths_view self) }
     {
         KindLengths {
             action: self.action,
@@ -73,7 +74,7 @@ impl Lengths {
 
     /// Returns the lengths of the action and the type, where such a step ended well.
     pub fn of(&self, action: &str, kind: &str) -> Option<&KindLengths>
-        ensures { option_map lengths_view result.now ≡ find (is_kind action.now kind.now) (lengths_of self.now) }
+        ensures { option_map lengths_view (option_copied result) ≡ find (is_kind action.now kind.now) (lengths_of self.now) }
     {
         let index = self.place(action, kind)?;
         Some(&self.list[index])

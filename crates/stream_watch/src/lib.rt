@@ -1,8 +1,7 @@
-//! `applystream watch`: shows an apply to people while it is under way, and judges its stream.
+//! Tells an apply to people, line by line of its stream.
 #![tactic(auto)]
 
 mod clock;
-mod command;
 mod counts;
 mod ending;
 mod lengths;
@@ -16,16 +15,12 @@ mod refreshes;
 mod rows;
 mod steps;
 mod telling;
-mod watch_fault;
+mod verdict;
 mod watcher;
 mod watcher_state;
-mod watching;
 mod words;
 
 pub use clock::{Clock, gap};
-pub use command::colour::Colour;
-pub use command::settings::Settings;
-pub use command::tool::Watch;
 pub use counts::Counts;
 pub use lengths::{KindLengths, Lengths};
 pub use lines::push_time;
@@ -33,7 +28,5 @@ pub use looks::Looks;
 pub use mark::Mark;
 pub use message::laws::a_line_has_a_message_where_check_finds_one;
 pub use steps::{OpenStep, Provisioner};
-pub use watch_fault::WatchFault;
 pub use watcher::Watcher;
-pub use watching::watch;
 pub use words::{push_provisioner_of, push_step};

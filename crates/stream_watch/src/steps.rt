@@ -1,6 +1,7 @@
 //! The steps that are open.
 
 ghost use Rattle.std.specs.Prelude.{◌≡◌, ◌∷◌, ◌++◌, [], filter, find, map, None, not, OnOk, option_map, position, Some, take};
+ghost use Rattle.std.specs.Option.{option_copied};
 ghost use Rattle.stream_watch.specs.Steps.{begin_of_first, begin_of_running, changes, changes_in, has_role, is_step, last_place, new_running, new_step, reads_at, runs_at, step_view, steps_of, with_provisioner, without_first};
 
 use crate::counts::is_change;
@@ -118,7 +119,7 @@ impl OpenSteps {
 
     /// Returns the step that began first of those with this address and action.
     pub fn open(&self, address: &str, action: &str, is_refresh: bool) -> Option<&OpenStep>
-        ensures { option_map step_view result.now
+        ensures { option_map step_view (option_copied result)
             ≡ find (is_step address.now action.now is_refresh) (steps_of self.now) }
     {
         let index = self.first(address, action, is_refresh)?;

@@ -25,7 +25,6 @@ impl Watcher {
     pub fn text(&mut self, line: &[u8]) -> Result<(), AllocError>
         ensures { OnOk result (Tells self.old self.new (text_told (looks_of self.old) (state_of self.old) self.old.find line.now)) }
     {
-        self.is_timed = false;
         match read_message(self.alloc, &mut self.scratch, self.find, line)? {
             Some(tree) => self.message(&tree, line),
             None => self.passed(line),
@@ -38,7 +37,6 @@ impl Watcher {
         ensures { OnOk result (Tells self.old self.new (message_told (looks_of self.old) (state_of self.old) self.old.find line.now (view tree.now))) }
     {
         let moment = moment_of(tree);
-        self.is_timed = moment.is_some();
         self.message_at(moment, tree, line)?;
         self.under_way_if(moment.is_some());
         Ok(())

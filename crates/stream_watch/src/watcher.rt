@@ -1,6 +1,7 @@
 //! The state of an apply, and the lines that tell of it.
 
-ghost use Rattle.std.specs.Prelude.{◌≡◌, []};
+ghost use Rattle.std.specs.Prelude.{◌≡◌, ◌&&◌, []};
+ghost use Rattle.stream_watch.specs.Marks.{is_in_panel};
 ghost use Rattle.stream_watch.specs.Printed.{HasPrinted};
 ghost use Rattle.stream_watch.specs.State.{Tells, beginning, further_told, line_told, looks_of, state_of};
 ghost use Rattle.stream_watch.specs.RefreshRow.{refreshed_words, reported_told};
@@ -34,8 +35,6 @@ pub struct Watcher {
     pub(crate) printer: Printer,
     /// Whether a panel shows what is under way.
     pub(crate) has_panel: bool,
-    /// Whether the last line had a message with a moment.
-    pub(crate) is_timed: bool,
     /// Whether messages are found in the lines of a log.
     pub(crate) find: bool,
     // Stored between lines, so that a line needs no memory of its own.
@@ -60,7 +59,6 @@ impl Watcher {
             marks: 0,
             printer: Printer::new(alloc, looks.width, looks.has_colour),
             has_panel: looks.has_panel,
-            is_timed: false,
             find,
             scratch: Scratch::new(alloc),
         }
@@ -71,9 +69,16 @@ impl Watcher {
         ensures { (words : _) → HasText text.now words
             → Tells self.old self.new (line_told (looks_of self.old) (state_of self.old) mark words) }
     {
-        if !(self.has_panel && mark.is_in_panel()) {
+        if !self.hides(mark) {
             self.printer.line(self.clock.elapsed(), mark, text);
         }
+    }
+
+    /// Whether the panel shows what lines with the mark tell.
+    fn hides(&self, mark: Mark) -> bool
+        ensures { result ≡ (looks_of self.now).has_panel && is_in_panel mark }
+    {
+        self.has_panel && mark.is_in_panel()
     }
 
     /// Tells a text that belongs to the line before it, which has this mark.

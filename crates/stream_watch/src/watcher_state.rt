@@ -48,13 +48,6 @@ impl Watcher {
         &self.lengths
     }
 
-    /// Whether the last line had a message with a moment.
-    pub fn is_timed(&self) -> bool
-        ensures { result ≡ self.now.is_timed }
-    {
-        self.is_timed
-    }
-
     /// What was told since the last `clear`.
     pub fn told(&self) -> &[u8]
         ensures { (bytes : _) → HasPrinted self.now.printer bytes → IsTrue self.now.printer.printed.is_whole → result.now ≡ bytes }

@@ -12,6 +12,7 @@ ghost use Rattle.stream_watch.specs.Steps.{is_step};
 use crate::clock::gap;
 use crate::counts::{Counts, is_change};
 use crate::mark::Mark;
+use crate::rows::diagnostic::text_or_nothing;
 use crate::watcher::Watcher;
 use crate::words::{length_since, push_length, push_step};
 use apply_json_tree::members::{member, non_empty_text_member, text_member};
@@ -174,7 +175,7 @@ pub fn kind_of<'a>(hook: &'a Value) -> &'a str
     ensures { result.now ≡ kind_of (view hook.now) }
 {
     match member(hook, "resource") {
-        Some(resource) => text_member(resource, "resource_type").unwrap_or(""),
+        Some(resource) => text_or_nothing(resource, "resource_type"),
         None => "",
     }
 }

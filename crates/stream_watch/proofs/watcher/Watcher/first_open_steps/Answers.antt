@@ -24,7 +24,7 @@ returns c =
     ∙ ap (flat_map (line c.elapsed.result now)) steps
     ∙ ap (λ (elapsed : ℕ). flat_map (line elapsed now) (take 20 (map step_view before.steps.list.items))) c.elapsed.ensures in
     record {
-      looks = looks_same before after _ told;
+      looks = looks_same before after _ refl told;
       find = refl;
       state = refl;
       bytes = text_as printer.printed after.printer.printed _ _ is told.printed;

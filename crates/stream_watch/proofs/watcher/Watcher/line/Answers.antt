@@ -1,19 +1,31 @@
-use Rattle.std.proofs.Common.{ℕ, Bool, Option, ap, refl, ◌∙◌}
-use Rattle.term_words.proofs.Appended.{text_as}
+use Rattle.std.proofs.Common.{ℕ, ap, refl, sym, ◌∙◌}
+use Rattle.term_words.proofs.Appended.{text_as, text_none}
 use Rattle.stream_watch.specs.Printed.{line_bytes}
-use Rattle.stream_watch.specs.declared.looks.Looks.{Looks}
+use Rattle.stream_watch.specs.State.{looks_of, state_of}
+use Rattle.stream_watch.proofs.LinesAt.{hidden_line, shown_line}
+use Rattle.stream_watch.proofs.Tellings.{looks_same}
 use Rattle.stream_watch.proofs.watcher.Watcher.line.Goals as goal
 
-pub returns : goal.returns
-returns c = λ words has.
-    let old = c.args.self.now.printer in
-    let new = c.line.new.self in
+pub returns-then-not-hides : goal.returns-then-not-hides
+returns-then-not-hides c = λ words has.
+    let old = c.args.self.now in
     let told = c.line.ensures words has in
-    let looks_with : Option ℕ → Bool → Looks = λ width has_colour. record { width = width; has_colour = has_colour } in
+    let shown = shown_line (looks_of old) (state_of old) c.args.mark words (sym c.hides.ensures ∙ c.if-not-hides.true) in
     record {
-      looks = ap (λ (width : Option ℕ). looks_with width new.has_colour) told.width
-          ∙ ap (λ (has_colour : Bool). looks_with old.width has_colour) told.has_colour;
+      looks = looks_same old (record old { printer = c.line.new.self }) _ refl told;
       find = refl;
       state = refl;
-      bytes = text_as old.printed new.printed _ _ (ap (λ (elapsed : ℕ). line_bytes old.width old.has_colour elapsed c.args.mark words) c.elapsed.ensures) told.printed;
+      bytes = text_as old.printer.printed c.line.new.self.printed _ _
+          (ap (λ (elapsed : ℕ). line_bytes old.printer.width old.printer.has_colour elapsed c.args.mark words) c.elapsed.ensures ∙ sym shown) told.printed;
+    }
+
+pub returns-else-not-hides : goal.returns-else-not-hides
+returns-else-not-hides c = λ words has.
+    let old = c.args.self.now in
+    let hidden = hidden_line (looks_of old) (state_of old) c.args.mark words (sym c.hides.ensures ∙ c.if-not-hides.false) in
+    record {
+      looks = refl;
+      find = refl;
+      state = refl;
+      bytes = text_as old.printer.printed old.printer.printed _ _ (sym hidden) (text_none old.printer.printed);
     }

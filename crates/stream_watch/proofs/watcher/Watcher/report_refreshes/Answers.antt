@@ -18,13 +18,13 @@ line_with looks state refreshes = record {
 
 reported_some : (looks : Looks) (state : State) → 0 < state.refreshes.unreported
     → line_with looks state (none_after state.refreshes.ended) ≡ reported_told looks state
-unfolding line_with
+unfolding line_with line_at
 reported_some looks state some =
     let are_some : false ≡ (state.refreshes.unreported == 0) = grind (arith, nat_tests) in
     ap (λ (none : Bool). cond none (nothing state) (line_with looks state (none_after state.refreshes.ended))) are_some
 
 pub returns-then-refreshes-gt0 : goal.returns-then-refreshes-gt0
-unfolding line_with
+unfolding line_with line_at
 returns-then-refreshes-gt0 c =
     let before = c.args.self.now in
     let after = c.line.new.self in

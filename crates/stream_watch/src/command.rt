@@ -1,7 +1,0 @@
-//! The tool `watch`.
-
-pub(crate) mod arguments;
-pub(crate) mod colour;
-pub(crate) mod refusals;
-pub(crate) mod settings;
-pub(crate) mod tool;

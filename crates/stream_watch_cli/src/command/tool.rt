@@ -1,0 +1,153 @@
+//! The tool `watch`.
+
+ghost use Rattle.stream_watch_cli.specs.CommandLine.{HasWatched, IsQuiet, arguments, is_fault};
+
+use crate::command::arguments::{command, settings_of};
+use crate::command::refusals::{refuse, send_on};
+use crate::command::settings::Settings;
+use crate::display::Display;
+use crate::panel::Panel;
+use crate::terminal::Terminal;
+use crate::watch_fault::WatchFault;
+use crate::watching::watch;
+use clap::{ArgMatches, Command};
+use std::alloc::{AllocError, Global};
+use std::io::{BufReader, Read, Write};
+use std::rt::Files;
+use std::time::Clock;
+use stream_ahead::Pace;
+use stream_check::{Finding, Whole};
+use stream_panel::has_room;
+use stream_tool::{Report, Tool, Usage};
+use stream_watch::Looks;
+
+/// The least width of lines above a panel.
+const LEAST_WIDTH: usize = 60;
+
+/// The tool `watch`.
+///
+/// Its exit status is:
+///
+/// - 0: the stream is whole and reports no error, or help was printed.
+/// - 1: the stream is whole and reports an error.
+/// - 2: the arguments are refused, the file can't be opened, a read failed, or the stream has too
+///   many lines.
+/// - 3: memory was refused, or the output could not be written.
+/// - 4: the stream is not whole.
+///
+/// What is told goes to the output, and so does the verdict. Only why there is no verdict goes to
+/// standard error, and nothing where the reader of the output is gone.
+#[derive(Clone, Copy)]
+pub struct Watch<'a, C, P> {
+    /// By this clock a panel says how long steps run.
+    pub clock: &'a C,
+    /// How reads of standard input are awaited.
+    pub pace: &'a P,
+    pub terminal: Terminal,
+}
+
+impl<'a, C: Clock, P: Pace> Watch<'a, C, P> {
+    /// How what was told is shown.
+    fn display(&self, alloc: Global, settings: &Settings) -> Display<'a, C, P> {
+        if !has_panel(settings, self.terminal) {
+            return Display::Lines;
+        }
+        let pace = settings.file().is_none().then_some(self.pace);
+        let has_colour = settings.colour.is_on(self.terminal.is_colour_wanted);
+        let size = self.terminal.size;
+        Display::Panel(Panel::new(
+            alloc,
+            self.clock,
+            pace,
+            size,
+            settings.width,
+            has_colour,
+        ))
+    }
+}
+
+/// Whether a panel stands below the lines.
+pub fn has_panel(settings: &Settings, terminal: Terminal) -> bool {
+    settings.panel.is_on(terminal.is_panel_wanted) && has_room(terminal.size)
+}
+
+/// How the lines look. With a panel, they are no wider than the terminal, or than 60 columns if that
+/// has fewer.
+fn looks_of(settings: &Settings, terminal: Terminal) -> Looks {
+    let has_panel = has_panel(settings, terminal);
+    let width = if has_panel {
+        settings
+            .width
+            .or(Some(terminal.size.columns.max(LEAST_WIDTH)))
+    } else {
+        settings.width
+    };
+    Looks {
+        width,
+        has_colour: settings.colour.is_on(terminal.is_colour_wanted),
+        has_panel,
+    }
+}
+
+impl<C: Clock, P: Pace> Tool for Watch<'_, C, P> {
+    type Settings = Settings;
+
+    type Answer = Result<Result<Whole, Finding>, WatchFault>;
+
+    ghost arguments = { arguments };
+
+    ghost gives = { λ _ _ _. HasWatched };
+
+    ghost reads_on = { is_fault };
+
+    ghost is_quiet = { IsQuiet };
+
+    ghost most_status = { 4 };
+
+    fn command<'a>(alloc: Global) -> Result<Command<'a>, AllocError> {
+        command(alloc)
+    }
+
+    fn conflict(_alloc: Global, _words: &[String], _matches: &ArgMatches<'_>) -> Option<Usage> {
+        None
+    }
+
+    fn settings_of(alloc: Global, matches: &ArgMatches<'_>) -> Result<Settings, AllocError> {
+        settings_of(alloc, matches)
+    }
+
+    fn file(settings: &Settings) -> Option<&str> {
+        settings.file()
+    }
+
+    fn reads_on(answer: Result<Result<Whole, Finding>, WatchFault>) -> bool {
+        answer.is_err()
+    }
+
+    fn without_memory<F: Files>(&self, _files: &F) -> Result<Result<Whole, Finding>, WatchFault> {
+        Err(WatchFault::Memory)
+    }
+
+    fn run<F: Files, R: Read, W: Write, E: Write>(
+        &self,
+        _files: &F,
+        alloc: Global,
+        settings: &Settings,
+        reader: &mut BufReader<R>,
+        out: &mut W,
+        faults: &mut E,
+    ) -> Report<Result<Result<Whole, Finding>, WatchFault>> {
+        let looks = looks_of(settings, self.terminal);
+        let mut display = self.display(alloc, settings);
+        let answer = watch(alloc, settings.mode, looks, &mut display, reader, out);
+        let status = match answer {
+            Ok(Ok(whole)) => if whole.has_errors { 1 } else { 0 },
+            Ok(Err(_)) => 4,
+            Err(fault) => {
+                send_on(&mut display, out, fault);
+                refuse(alloc, faults, settings.file(), fault)
+            }
+        };
+        Report { status, answer }
+    }
+}
