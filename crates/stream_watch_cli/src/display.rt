@@ -13,6 +13,7 @@ use stream_tool::{flush, write_whole};
 use stream_watch::Watcher;
 
 /// How what was told is shown.
+#[derive(Drop)]
 pub enum Display<'a, C, P> {
     /// As lines.
     Lines,

@@ -10,10 +10,11 @@ use stream_tool::{flush, write_whole};
 use stream_watch::Watcher;
 use term_words::MessageText;
 
-/// How long a panel stands before it is drawn anew.
-const TICK: Duration = Duration::from_secs(1);
+/// How many seconds a panel stands before it is drawn anew.
+const TICK: u64 = 1;
 
 /// The panel at a terminal. Between frames, the cursor stands at the start of the line below it.
+#[derive(Drop)]
 pub struct Panel<'a, C, P> {
     alloc: Global,
     clock: &'a C,
@@ -79,7 +80,7 @@ impl<'a, C: Clock, P: Pace> Panel<'a, C, P> {
             return Ok(());
         };
         for _ in 0..u64::MAX {
-            if pace.wait(TICK) {
+            if pace.wait(Duration::from_secs(TICK)) {
                 return Ok(());
             }
             self.draw(watcher, output)?;

@@ -83,7 +83,9 @@ fn color<'a>(alloc: Global) -> Arg<'a>
         .value_name("WHEN")
         .value_parser(WHENS.as_slice())
         .default_value("auto")
-        .help("When the lines have colours; auto: on a terminal, unless NO_COLOR has a value or TERM is dumb")
+        .help(
+            "When the lines have colours; auto: on a terminal, unless NO_COLOR has a value or TERM is dumb",
+        )
 }
 
 /// Defines `--panel WHEN`.
@@ -95,7 +97,9 @@ fn panel<'a>(alloc: Global) -> Arg<'a>
         .value_name("WHEN")
         .value_parser(WHENS.as_slice())
         .default_value("auto")
-        .help("When a panel below the lines shows what is under way; auto: on a terminal, unless TERM is absent, empty or dumb. It needs 40 columns and 8 rows")
+        .help(
+            "When a panel below the lines shows what is under way; auto: on a terminal, unless TERM is absent, empty or dumb. It needs 40 columns and 8 rows",
+        )
 }
 
 /// Returns the settings of parsed arguments. `Err` where memory is refused.

@@ -55,14 +55,7 @@ impl<'a, C: Clock, P: Pace> Watch<'a, C, P> {
         let pace = settings.file().is_none().then_some(self.pace);
         let has_colour = settings.colour.is_on(self.terminal.is_colour_wanted);
         let size = self.terminal.size;
-        Display::Panel(Panel::new(
-            alloc,
-            self.clock,
-            pace,
-            size,
-            settings.width,
-            has_colour,
-        ))
+        Display::Panel(Panel::new(alloc, self.clock, pace, size, settings.width, has_colour))
     }
 }
 

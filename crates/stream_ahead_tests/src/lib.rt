@@ -1,0 +1,5 @@
+//! Tests of `stream_ahead`.
+#![tactic(auto)]
+
+#[cfg(test)]
+mod tests;
