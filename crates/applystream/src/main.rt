@@ -5,7 +5,7 @@ use apply_cli::{PromptingReader, Usage, follow_standard, given_words, refuse_sta
 use input_validate_cli::Validate;
 use std::alloc::{AllocError, Global};
 use std::env;
-use std::io::{BufWriter, IsTerminal, Read};
+use std::io::{BufWriter, IsTerminal, Read, Stderr};
 use std::process::ExitCode;
 use std::sync::Wait;
 use std::thread::Threads;
@@ -43,7 +43,7 @@ const OUTPUT_ROOM: usize = 65_536;
 
 fn main(rt: HostRuntime) -> ExitCode {
     let status = match given_words(&rt) {
-        Ok(words) => match use_tool(&rt, &words) {
+        Ok(words) => match use_tool(&rt, &rt, &words) {
             Some(status) => status,
             None => follow_main(&rt, &rt, words.get(1..).unwrap_or(&[])),
         },
@@ -54,7 +54,11 @@ fn main(rt: HostRuntime) -> ExitCode {
 
 /// Runs the tool that the first argument names, and returns its exit status. `None` if it names no
 /// tool.
-fn use_tool(rt: &HostRuntime, words: &[String]) -> Option<u8> {
+fn use_tool<T: Threads + Wait + Clock + Sync>(
+    rt: &HostRuntime,
+    threads: &T,
+    words: &[String],
+) -> Option<u8> {
     match words.get(1)?.as_str() {
         "check" => Some(run(rt, &Check, words, NO_STREAM)),
         "play" => Some(run(rt, &Play { clock: rt }, words, NO_STREAM_TO_PLAY)),
@@ -63,7 +67,7 @@ fn use_tool(rt: &HostRuntime, words: &[String]) -> Option<u8> {
             let tool = View { is_colour_wanted };
             Some(run(rt, &tool, words, NO_STREAM_TO_VIEW))
         }
-        "watch" => Some(watch(rt, rt, words)),
+        "watch" => Some(watch(rt, threads, words)),
         "validate" => Some(run(rt, &Validate, words, NO_PLAN)),
         _ => None,
     }
@@ -130,7 +134,7 @@ fn run<T: Tool>(rt: &HostRuntime, tool: &T, words: &[String], prompt: &'static s
 }
 
 /// Returns standard input. A terminal is told `prompt` before the first read.
-fn standard_input(rt: &HostRuntime, prompt: &'static str) -> PromptingReader<Stdin, Stderr> {
+fn standard_input(rt: &HostRuntime, prompt: &'static str) -> PromptingReader<<HostRuntime as Input>::Reader, Stderr> {
     let prompt = rt.stdin().is_terminal().then_some(prompt);
     PromptingReader::new(rt.reader(), rt.stderr(), prompt)
 }

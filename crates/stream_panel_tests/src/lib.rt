@@ -1,0 +1,5 @@
+//! Tests of `stream_panel`.
+#![tactic(auto)]
+
+#[cfg(test)]
+mod tests;
