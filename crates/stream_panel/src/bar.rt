@@ -48,9 +48,21 @@ fn push_cells(
     ensures { AppendsText out.old out.new (bytes_of has_colour (bar_up_to done ended begun cells)) }
 {
     push_copies(out, has_colour, Some(Rendition::Green), '█', done);
-    push_copies(out, has_colour, Some(Rendition::Red), '▓', ended.saturating_sub(done));
+    push_copies(
+        out,
+        has_colour,
+        Some(Rendition::Red),
+        '▓',
+        ended.saturating_sub(done),
+    );
     push_copies(out, has_colour, None, '▒', begun.saturating_sub(ended));
-    push_copies(out, has_colour, Some(Rendition::Dim), '░', cells.saturating_sub(begun));
+    push_copies(
+        out,
+        has_colour,
+        Some(Rendition::Dim),
+        '░',
+        cells.saturating_sub(begun),
+    );
 }
 
 /// How many cells a part of all changes fills to their ends.

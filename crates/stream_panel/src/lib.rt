@@ -13,7 +13,10 @@ mod stretch;
 mod view;
 
 pub use frame::push_frame;
-pub use laws::{a_frame_replaces_the_panel, a_panel_has_few_lines, nothing_planned_is_forgotten};
+pub use laws::{
+    a_frame_replaces_the_panel, a_panel_has_few_lines, no_line_is_too_wide,
+    nothing_planned_is_forgotten,
+};
 pub use panel::push_panel;
 pub use size::{Size, has_room};
 pub use view::View;

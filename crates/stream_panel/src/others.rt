@@ -44,7 +44,13 @@ fn push_padded(out: &mut MessageText, has_colour: bool, columns: usize, text: &M
     match text.within(columns) {
         Ok(text) => {
             push_stretch(out, has_colour, None, text.characters());
-            push_copies(out, has_colour, None, ' ', columns.saturating_sub(text.columns()));
+            push_copies(
+                out,
+                has_colour,
+                None,
+                ' ',
+                columns.saturating_sub(text.columns()),
+            );
         }
         Err(_) => out.lose(),
     }

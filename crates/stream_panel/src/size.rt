@@ -5,6 +5,7 @@ ghost use Rattle.stream_panel.specs.Sizes.{has_room, most_lines};
 
 /// The least size with room for a panel.
 const LEAST_COLUMNS: usize = 40;
+
 const LEAST_ROWS: usize = 8;
 
 /// The size of a terminal, in characters.

@@ -13,8 +13,10 @@ returns-then-ne c shorter longer first second =
     let whole_shorter : is_whole_text c.args.shorter.now ≡ true =
     elim c.if-not-is_whole.branch [ then-not-is_whole w ↦ cc | else-not-is_whole w ↦ cc ] in
     let whole_longer : is_whole_text c.args.longer.now ≡ true =
-    elim c.if-not-is_whole.branch [ then-not-is_whole w ↦ cc
-    | else-not-is_whole w ↦ sym w.is_whole-else-not-is_whole.ensures ∙ not_false _ (sym w.value-is ∙ c.if-not-is_whole-2.false) ] in
+    elim c.if-not-is_whole.branch [
+      | then-not-is_whole w ↦ cc
+      | else-not-is_whole w ↦ sym w.is_whole-else-not-is_whole.ensures ∙ not_false _ (sym w.value-is ∙ c.if-not-is_whole-2.false)
+    ] in
     let differ : bytes_eq c.as_bytes.result.now c.as_bytes-else-not-is_whole-2.result.now ≡ false = not_true _ (sym c.ne.ensures ∙ c.if-ne.true) in
     text_as c.args.text.now c.add.new.self (codes " to " ++ longer) (to_words shorter longer)
     (longer_words c.as_bytes.result.now c.as_bytes-else-not-is_whole-2.result.now shorter longer (c.as_bytes.ensures ∙ first whole_shorter)
