@@ -134,7 +134,10 @@ fn run<T: Tool>(rt: &HostRuntime, tool: &T, words: &[String], prompt: &'static s
 }
 
 /// Returns standard input. A terminal is told `prompt` before the first read.
-fn standard_input(rt: &HostRuntime, prompt: &'static str) -> PromptingReader<<HostRuntime as Input>::Reader, Stderr> {
+fn standard_input(
+    rt: &HostRuntime,
+    prompt: &'static str,
+) -> PromptingReader<<HostRuntime as Input>::Reader, Stderr> {
     let prompt = rt.stdin().is_terminal().then_some(prompt);
     PromptingReader::new(rt.reader(), rt.stderr(), prompt)
 }
