@@ -13,8 +13,9 @@ _applystream() {
     case $before in
       --width) return ;;
       --color) COMPREPLY=($(compgen -W "auto always never" -- "$word")); return ;;
+      --panel) COMPREPLY=($(compgen -W "auto always never" -- "$word")); return ;;
     esac
-    COMPREPLY=($(compgen -W "--find --plan --width --color --help" -- "$word") $(compgen -f -- "$word"))
+    COMPREPLY=($(compgen -W "--find --plan --width --color --panel --help" -- "$word") $(compgen -f -- "$word"))
     return
   fi
   if [ "${COMP_WORDS[1]}" = play ] && [ "$COMP_CWORD" -gt 1 ]; then
