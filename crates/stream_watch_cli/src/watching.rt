@@ -52,7 +52,7 @@ pub fn watch<R: Read, W: Write, C: Clock, P: Pace>(
             LineEnd::TooLong => {
                 judge.too_long(&line)?;
                 watcher.too_long(lines + 1);
-                skip_rest(reader, &mut line)?;
+                skip_rest(reader, &mut line, &mut watcher, display, output)?;
             }
             LineEnd::Line { has_feed } => {
                 line.has_feed = has_feed;
@@ -109,8 +109,17 @@ fn read_next<R: Read, W: Write, C: Clock, P: Pace>(
     Ok(next_line(reader, &mut line.text)?)
 }
 
-/// Reads on to the end of a line that is too long. `Err` where a read fails, or memory is refused.
-fn skip_rest<R: Read>(reader: &mut BufReader<R>, line: &mut Line) -> Result<(), WatchFault> {
+/// Shows what was told of a line that is too long, and reads on to its end. `Err` where the read or a
+/// write fails, or memory is refused.
+fn skip_rest<R: Read, W: Write, C: Clock, P: Pace>(
+    reader: &mut BufReader<R>,
+    line: &mut Line,
+    watcher: &mut Watcher,
+    display: &mut Display<'_, C, P>,
+    output: &mut W,
+) -> Result<(), WatchFault> {
+    display.line(watcher, output)?;
+    display.before_read(watcher, output)?;
     'parts: for _ in 0..MAX_LINES {
         match next_line(reader, &mut line.text)? {
             LineEnd::TooLong => {}
