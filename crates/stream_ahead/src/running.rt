@@ -18,9 +18,9 @@ use std::time::Clock;
 /// ahead. Returns what `work` returned.
 ///
 /// The thread reads nothing before the first read or the first wait. It reads one chunk of 64 KiB
-/// ahead of the reader, and takes memory only before it starts. After `work` has returned, no read
-/// of the input begins. But this call waits until a read that has begun has ended, and drops what
-/// that read gave.
+/// ahead of the reader, and takes memory only before it starts. When `work` returns, one read of
+/// the input may be under way or about to begin. This call waits for that read, and drops what the
+/// read gave.
 ///
 /// `Err` if memory or the thread is refused. Then nothing was read, and `work` did not run.
 pub fn read_ahead<T, R, A, W>(rt: &T, alloc: Global, input: R, work: W) -> Result<A, AllocError>
