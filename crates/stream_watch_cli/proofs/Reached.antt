@@ -30,35 +30,32 @@ abbrev pub Known : Mode → (all left : Option (List ℕ)) → Judge → Type 0
 Known mode all left judge =
     IfSome all (λ bytes. HasShortLines bytes → (rest : List ℕ) × (left ≡ Some rest) × Reached mode bytes rest judge)
 
-pub starts : (mode : Mode) (all : Option (List ℕ)) (judge : Judge) → HasJudged mode judge [] → Known mode all all judge
-starts mode None judge judged = tt
-starts mode (Some bytes) judge judged = λ short. (bytes, refl, record { texts = []; cut = refl; judged = judged })
-
-given : (left rest : Option (List ℕ)) (which : LineEnd) (line xs : List ℕ) → left ≡ Some xs → IfSome left (Gives which line rest) → Gives which line rest xs
+pub given : (left rest : Option (List ℕ)) (which : LineEnd) (line xs : List ℕ) → left ≡ Some xs → IfSome left (Gives which line rest) → Gives which line rest xs
 given left rest which line xs is gives = subst (λ (o : Option (List ℕ)). IfSome o (Gives which line rest)) is gives
 
 cut_some : (xs : List ℕ) → xs ≢ [] → cut_lines xs ≡ first_line xs ∷ cut_lines (drop_through 10 xs)
 cut_some [] some = absurd (some refl)
 cut_some (x ∷ xs) some = cut_first x xs
 
--- one more line
-pub one_more : (mode : Mode) (all left rest : Option (List ℕ)) (judge new : Judge) (line : List ℕ) (feed : Bool) → Known mode all left judge
-    → IfSome left (Gives (next.Line feed) line rest)
+-- one more line, from the bytes that are left
+pub next_reached : (mode : Mode) (bytes : List ℕ) (left rest : Option (List ℕ)) (judge new : Judge) (line : List ℕ) (feed : Bool) (xs : List ℕ) → left ≡ Some xs
+    → (at : Reached mode bytes xs judge) → IfSome left (Gives (next.Line feed) line rest)
     → ((mode : Mode) → (texts : List (List ℕ)) → HasJudged mode judge texts → HasJudged mode new (texts ++ line ∷ []))
-    → Known mode all rest new
-one_more mode None left rest judge new line feed known gives more = tt
-one_more mode (Some bytes) left rest judge new line feed known gives more = λ short.
-    let at = known short in
-    let read = given left rest (next.Line feed) line at.0 at.1 gives in
-    let tail = drop_through 10 at.0 in (
+    → (tail : List ℕ) × (rest ≡ Some tail) × ((reached : Reached mode bytes tail new) × (reached.texts ≡ at.texts ++ line ∷ []))
+next_reached mode bytes left rest judge new line feed xs is at gives more =
+    let read = given left rest (next.Line feed) line xs is gives in
+    let tail = drop_through 10 xs in (
       tail,
       read.2,
-      record {
-        texts = at.2.texts ++ line ∷ [];
-        cut = at.2.cut ∙ ap (λ (ls : List (List ℕ)). at.2.texts ++ ls) (cut_some at.0 read.0 ∙ ap (λ (l : List ℕ). l ∷ cut_lines tail) (sym read.1))
-            ∙ sym (append_assoc at.2.texts (line ∷ []) (cut_lines tail));
-        judged = more mode at.2.texts at.2.judged;
-      },
+      (
+        record {
+          texts = at.texts ++ line ∷ [];
+          cut = at.cut ∙ ap (λ (ls : List (List ℕ)). at.texts ++ ls) (cut_some xs read.0 ∙ ap (λ (l : List ℕ). l ∷ cut_lines tail) (sym read.1))
+              ∙ sym (append_assoc at.texts (line ∷ []) (cut_lines tail));
+          judged = more mode at.texts at.judged;
+        },
+        refl,
+      ),
     )
 
 abbrev is_short : List ℕ → Type 0
@@ -71,18 +68,22 @@ all_behind (x ∷ xs) ys all = all_behind xs ys (All-tail is_short x (xs ++ ys) 
 too_short : (n : ℕ) → n ≤ max_bytes → max_bytes < n → ⊥
 too_short n short long = omega arith
 
--- a line that is too long
-pub too_long : (mode : Mode) (all left rest later : Option (List ℕ)) (judge new : Judge) (line : List ℕ) → Known mode all left judge
-    → IfSome left (Gives next.TooLong line rest) → Known mode all later new
-too_long mode None left rest later judge new line known gives = tt
-too_long mode (Some bytes) left rest later judge new line known gives = λ short.
-    let at = known short in
-    let read = given left rest next.TooLong line at.0 at.1 gives in
-    let behind = cut_lines (drop_through 10 at.0) in
-    let all : All is_short (at.2.texts ++ (first_line at.0 ∷ behind)) =
-    subst (λ (ls : List (List ℕ)). All is_short ls) (at.2.cut ∙ ap (λ (ls : List (List ℕ)). at.2.texts ++ ls) (cut_some at.0 read.0)) short in
-    absurd (too_short (length (first_line at.0))
-    (All-head is_short (first_line at.0) behind (all_behind at.2.texts (first_line at.0 ∷ behind) all)) read.1)
+-- a line that is too long is none of short ones
+pub too_short_here : (mode : Mode) (bytes : List ℕ) (left rest : Option (List ℕ)) (judge : Judge) (line : List ℕ) → HasShortLines bytes → (xs : List ℕ) → left ≡ Some xs
+    → Reached mode bytes xs judge → IfSome left (Gives next.TooLong line rest) → ⊥
+too_short_here mode bytes left rest judge line short xs is at gives =
+    let read = given left rest next.TooLong line xs is gives in
+    let behind = cut_lines (drop_through 10 xs) in
+    let all : All is_short (at.texts ++ (first_line xs ∷ behind)) =
+    subst (λ (ls : List (List ℕ)). All is_short ls) (at.cut ∙ ap (λ (ls : List (List ℕ)). at.texts ++ ls) (cut_some xs read.0)) short in
+    too_short (length (first_line xs)) (All-head is_short (first_line xs) behind (all_behind at.texts (first_line xs ∷ behind) all)) read.1
+
+-- at the end, all lines were read
+pub reached_there : (mode : Mode) (bytes : List ℕ) (left rest : Option (List ℕ)) (judge : Judge) (line xs : List ℕ) → left ≡ Some xs
+    → (at : Reached mode bytes xs judge) → IfSome left (Gives next.End line rest) → cut_lines bytes ≡ at.texts
+reached_there mode bytes left rest judge line xs is at gives =
+    let read = given left rest next.End line xs is gives in
+    at.cut ∙ ap (λ (xs : List ℕ). at.texts ++ cut_lines xs) read.0 ∙ append-nil at.texts
 
 -- the end of the stream
 pub verdict_there : (mode : Mode) (all left rest : Option (List ℕ)) (judge : Judge) (line : List ℕ) (answer : Result Whole Finding) → Known mode all left judge

@@ -1,8 +1,8 @@
 -- What the arguments after `watch` mean: the options as `clap` takes them, and the setting that each
 -- gives.
-use Rattle.std.specs.Prelude.{◌≡◌, ◌≤◌, ◌⊎◌, ℕ, Bool, List, [], ◌∷◌, Option, Some, None, IfSome, Result, Ok, Err, true, false, codes, if◌then◌else◌, is_some, option_map, pos, string_bytes}
+use Rattle.std.specs.Prelude.{◌≡◌, ◌≤◌, ◌⊎◌, ◌&&◌, ℕ, Bool, List, [], ◌∷◌, Option, Some, None, IfSome, Result, Ok, Err, true, false, codes, if◌then◌else◌, is_some, max, option_map, pos, string_bytes}
 use Rattle.std.specs.Borrow.{Bor}
-use Rattle.std.specs.Option.{option_map_or}
+use Rattle.std.specs.Option.{option_map_or, option_or}
 use Rattle.std.specs.Str.{bytes_eq}
 use Rattle.std.specs.Str.Parse.{IsNumeral, digits_value, without_leading_plus}
 use Rattle.clap.specs.Simple.{App, new_rule, new_shape}
@@ -14,10 +14,13 @@ use Rattle.stream_check.specs.declared.verdict.finding.Finding.{Finding}
 use Rattle.stream_check.specs.declared.verdict.whole.Whole.{Whole}
 use Rattle.stream_tool.specs.Arguments.{Arguments}
 use Rattle.stream_tool.specs.Words.{file_rule, flag_rule, unless_dash}
-use Rattle.stream_watch_cli.specs.Watched.{HasShortLines, IsVerdictOf}
+use Rattle.stream_panel.specs.Sizes.{has_room}
+use Rattle.stream_watch.specs.declared.looks.Looks.{Looks}
+use Rattle.stream_watch_cli.specs.Watched.{HasShortLines, HasToldAll, IsVerdictOf}
 use Rattle.stream_watch_cli.specs.declared.command.when.When.{When}
 use Rattle.stream_watch_cli.specs.declared.command.when.When.TheVariants as when
 use Rattle.stream_watch_cli.specs.declared.command.settings.Settings.{Settings}
+use Rattle.stream_watch_cli.specs.declared.terminal.Terminal.{Terminal}
 use Rattle.stream_watch_cli.specs.declared.watch_fault.WatchFault.{WatchFault}
 use Rattle.stream_watch_cli.specs.declared.watch_fault.WatchFault.TheVariants as fault
 
@@ -124,9 +127,28 @@ IsStatusOf is_named (Ok (Ok whole)) status = status ≡ whole_status_of whole
 IsStatusOf is_named (Ok (Err finding)) status = status ≡ 4
 IsStatusOf is_named (Err fault) status = IsFaultStatus is_named fault status
 
--- A stream was watched: the verdict, what was written, and the exit status.
-pub record HasWatched (settings : Settings) (given before after : Option (List ℕ)) (answer : Result (Result Whole Finding) WatchFault) (status : ℕ) : Type 0 where
+-- a panel stands below the lines
+abbrev pub shows_panel : Terminal → Settings → Bool
+shows_panel terminal settings = is_on terminal.is_panel_wanted settings.panel && has_room terminal.size
+
+-- how wide lines are; above a panel they are no wider than the terminal
+abbrev pub width_in : Terminal → Settings → Option ℕ
+width_in terminal settings =
+    if shows_panel terminal settings then option_or settings.width (Some (max terminal.size.columns 60)) else settings.width
+
+-- how the lines look
+abbrev pub looks_in : Terminal → Settings → Looks
+looks_in terminal settings = record {
+  width = width_in terminal settings;
+  has_colour = is_on terminal.is_colour_wanted settings.colour;
+  has_panel = shows_panel terminal settings;
+}
+
+-- A stream was watched: the verdict, what was written without a panel, and the exit status.
+pub record HasWatched (terminal : Terminal) (settings : Settings) (given before after : Option (List ℕ)) (answer : Result (Result Whole Finding) WatchFault) (status : ℕ) : Type 0 where
   pub verdict : IfSome given (λ bytes. HasShortLines bytes → IsVerdictOf settings.mode bytes answer)
+  pub told : shows_panel terminal settings ≡ false
+      → IfSome given (λ bytes. HasShortLines bytes → HasToldAll settings.mode (looks_in terminal settings) bytes before after answer)
   pub exit : IsStatusOf (is_some settings.file) answer status
 
 abbrev pub is_fault : Result (Result Whole Finding) WatchFault → Bool

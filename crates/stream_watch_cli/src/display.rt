@@ -1,7 +1,8 @@
 //! How what was told is shown: as lines, or as lines with a panel below them.
 
-ghost use Rattle.std.specs.Prelude.{◌≡◌};
+ghost use Rattle.std.specs.Prelude.{◌≡◌, OnOk};
 ghost use Rattle.std.specs.Io.KnownBytes.{Keeps};
+ghost use Rattle.stream_watch_cli.specs.Watched.{Sends};
 ghost use Rattle.stream_watch_cli.specs.declared.display.Display.TheVariants.{Lines};
 
 use crate::panel::Panel;
@@ -28,7 +29,10 @@ impl<C: Clock, P: Pace> Display<'_, C, P> {
         &mut self,
         watcher: &mut Watcher,
         output: &mut W,
-    ) -> Result<(), WatchFault> {
+    ) -> Result<(), WatchFault>
+        ensures same { self.old ≡ Lines → self.new ≡ Lines }
+        ensures sent { self.old ≡ Lines → OnOk result (Sends watcher.old watcher.new (W.contents output.old) (W.contents output.new)) }
+    {
         match self {
             Display::Lines => send(watcher, output),
             Display::Panel(panel) => {
@@ -45,7 +49,11 @@ impl<C: Clock, P: Pace> Display<'_, C, P> {
         &mut self,
         watcher: &mut Watcher,
         output: &mut W,
-    ) -> Result<(), WatchFault> {
+    ) -> Result<(), WatchFault>
+        ensures same { self.old ≡ Lines → self.new ≡ Lines }
+        ensures watcher { self.old ≡ Lines → watcher.new ≡ watcher.old }
+        ensures kept { self.old ≡ Lines → Keeps (W.contents output.old) (W.contents output.new) }
+    {
         match self {
             Display::Lines => Ok(flush(output)?),
             Display::Panel(panel) => panel.wait(watcher, output),
@@ -54,16 +62,11 @@ impl<C: Clock, P: Pace> Display<'_, C, P> {
 
     /// Shows all that was told, and takes the panel away. `Err` where memory was refused, or a write
     /// or the flush fails.
-    pub fn end<W: Write>(
-        &mut self,
-        watcher: &mut Watcher,
-        output: &mut W,
-    ) -> Result<(), WatchFault> {
+    pub fn end<W: Write>(&mut self, watcher: &mut Watcher, output: &mut W) -> Result<(), WatchFault>
+        ensures { self.old ≡ Lines → OnOk result (Sends watcher.old watcher.new (W.contents output.old) (W.contents output.new)) }
+    {
         match self {
-            Display::Lines => {
-                send(watcher, output)?;
-                Ok(flush(output)?)
-            }
+            Display::Lines => send_all(watcher, output),
             Display::Panel(panel) => panel.end(watcher, output),
         }
     }
@@ -78,8 +81,19 @@ impl<C: Clock, P: Pace> Display<'_, C, P> {
     }
 }
 
+/// Writes and flushes what was told. `Err` where memory was refused for it, or the write or the flush
+/// fails.
+fn send_all<W: Write>(watcher: &mut Watcher, output: &mut W) -> Result<(), WatchFault>
+    ensures { OnOk result (Sends watcher.old watcher.new (W.contents output.old) (W.contents output.new)) }
+{
+    send(watcher, output)?;
+    Ok(flush(output)?)
+}
+
 /// Writes what was told. `Err` where memory was refused for it, or the write fails.
-fn send<W: Write>(watcher: &mut Watcher, output: &mut W) -> Result<(), WatchFault> {
+fn send<W: Write>(watcher: &mut Watcher, output: &mut W) -> Result<(), WatchFault>
+    ensures { OnOk result (Sends watcher.old watcher.new (W.contents output.old) (W.contents output.new)) }
+{
     if !watcher.is_whole() {
         return Err(WatchFault::Memory);
     }

@@ -2,12 +2,13 @@
 
 ghost use Rattle.std.specs.Prelude.{◌≡◌, ℕ, IfOk, IfSome, List, OnOk};
 ghost use Rattle.std.specs.Io.Buffered.{reader_remaining};
-ghost use Rattle.std.specs.Io.KnownBytes.{IsAtEnd};
+ghost use Rattle.std.specs.Io.KnownBytes.{IsAtEnd, Keeps};
 ghost use Rattle.stream_check.specs.Judging.{HasJudged};
 ghost use Rattle.stream_check.specs.Lines.{verdict_of};
 ghost use Rattle.stream_check.specs.declared.rules.mode.Mode.{Mode as mode_type};
 ghost use Rattle.stream_lines.specs.Reading.{Gives};
-ghost use Rattle.stream_watch_cli.specs.Watched.{HasShortLines, IsVerdictOf};
+ghost use Rattle.stream_watch_cli.specs.Watched.{HasEnded, HasShortLines, HasToldAll, IsVerdictOf};
+ghost use Rattle.stream_watch_cli.specs.declared.display.Display.TheVariants.{Lines};
 
 use crate::display::Display;
 use crate::watch_fault::WatchFault;
@@ -42,6 +43,8 @@ pub fn watch<R: Read, W: Write, C: Clock, P: Pace>(
     ensures verdict { IfSome (reader_remaining R.remaining reader.old) (λ bytes. HasShortLines bytes → IsVerdictOf mode bytes result) }
     ensures at_end { IfSome (reader_remaining R.remaining reader.old)
         (λ bytes. HasShortLines bytes → OnOk result (IsAtEnd (reader_remaining R.remaining reader.new))) }
+    ensures told { display.old ≡ Lines → IfSome (reader_remaining R.remaining reader.old)
+        (λ bytes. HasShortLines bytes → HasToldAll mode looks bytes (W.contents output.old) (W.contents output.new) result) }
 {
     let mut watcher = Watcher::new(alloc, mode.find, looks);
     let mut judge = Judge::new(alloc, mode);
@@ -78,8 +81,11 @@ fn read_within<R: Read, W: Write, C: Clock, P: Pace>(
     display: &mut Display<'_, C, P>,
     output: &mut W,
 ) -> Result<LineEnd, WatchFault>
-    ensures { IfOk result (λ next. IfSome (reader_remaining R.remaining reader.old)
+    ensures gives { IfOk result (λ next. IfSome (reader_remaining R.remaining reader.old)
         (Gives next line.new.text.items (reader_remaining R.remaining reader.new))) }
+    ensures same { display.old ≡ Lines → display.new ≡ Lines }
+    ensures watcher { display.old ≡ Lines → watcher.new ≡ watcher.old }
+    ensures kept { display.old ≡ Lines → Keeps (W.contents output.old) (W.contents output.new) }
 {
     let next = read_next(reader, line, watcher, display, output)?;
     match next {
@@ -100,8 +106,11 @@ fn read_next<R: Read, W: Write, C: Clock, P: Pace>(
     display: &mut Display<'_, C, P>,
     output: &mut W,
 ) -> Result<LineEnd, WatchFault>
-    ensures { IfOk result (λ next. IfSome (reader_remaining R.remaining reader.old)
+    ensures gives { IfOk result (λ next. IfSome (reader_remaining R.remaining reader.old)
         (Gives next line.new.text.items (reader_remaining R.remaining reader.new))) }
+    ensures same { display.old ≡ Lines → display.new ≡ Lines }
+    ensures watcher { display.old ≡ Lines → watcher.new ≡ watcher.old }
+    ensures kept { display.old ≡ Lines → Keeps (W.contents output.old) (W.contents output.new) }
 {
     if memchr(b'\n', reader.buffer()).is_none() {
         display.before_read(watcher, output)?;
@@ -117,7 +126,9 @@ fn skip_rest<R: Read, W: Write, C: Clock, P: Pace>(
     watcher: &mut Watcher,
     display: &mut Display<'_, C, P>,
     output: &mut W,
-) -> Result<(), WatchFault> {
+) -> Result<(), WatchFault>
+    ensures { display.old ≡ Lines → display.new ≡ Lines }
+{
     display.line(watcher, output)?;
     display.before_read(watcher, output)?;
     'parts: for _ in 0..MAX_LINES {
@@ -138,7 +149,9 @@ fn end<W: Write, C: Clock, P: Pace>(
     display: &mut Display<'_, C, P>,
     output: &mut W,
 ) -> Result<Result<Whole, Finding>, WatchFault>
-    ensures { IfOk result (λ answer. (mode : mode_type) → (texts : List (List ℕ)) → HasJudged mode judge texts → verdict_of mode texts ≡ answer) }
+    ensures verdict { IfOk result (λ answer. (mode : mode_type) → (texts : List (List ℕ)) → HasJudged mode judge texts → verdict_of mode texts ≡ answer) }
+    ensures told { IfOk result (λ answer. (mode : mode_type) → (texts : List (List ℕ)) → HasJudged mode judge texts
+        → HasEnded mode texts watcher (display.old ≡ Lines) (W.contents output.old) (W.contents output.new) answer) }
 {
     let verdict = judge.verdict(line)?;
     watcher.end(verdict.answer.is_ok());

@@ -1,6 +1,7 @@
 //! The tool `watch`.
 
-ghost use Rattle.stream_watch_cli.specs.CommandLine.{HasWatched, IsQuiet, arguments, is_fault};
+ghost use Rattle.std.specs.Prelude.{◌≡◌};
+ghost use Rattle.stream_watch_cli.specs.CommandLine.{HasWatched, IsQuiet, arguments, is_fault, looks_in, shows_panel, width_in};
 
 use crate::command::arguments::{command, settings_of};
 use crate::command::refusals::{refuse, send_on};
@@ -47,38 +48,59 @@ pub struct Watch<'a, C, P> {
 }
 
 impl<'a, C: Clock, P: Pace> Watch<'a, C, P> {
+    ghost use Rattle.std.specs.Prelude.{◌≡◌, false};
+    ghost use Rattle.stream_watch_cli.specs.CommandLine.{shows_panel};
+    ghost use Rattle.stream_watch_cli.specs.declared.display.Display.TheVariants.{Lines};
+
     /// How what was told is shown.
-    fn display(&self, alloc: Global, settings: &Settings) -> Display<'a, C, P> {
-        if !has_panel(settings, self.terminal) {
-            return Display::Lines;
+    fn display(&self, alloc: Global, settings: &Settings) -> Display<'a, C, P>
+        ensures { shows_panel self.now.terminal settings.now ≡ false → result ≡ Lines }
+    {
+        if has_panel(settings, self.terminal) {
+            Display::Panel(self.panel(alloc, settings))
+        } else {
+            Display::Lines
         }
+    }
+
+    /// The panel. Reads of a named file are not awaited.
+    fn panel(&self, alloc: Global, settings: &Settings) -> Panel<'a, C, P> {
         let pace = settings.file().is_none().then_some(self.pace);
         let has_colour = settings.colour.is_on(self.terminal.is_colour_wanted);
         let size = self.terminal.size;
-        Display::Panel(Panel::new(alloc, self.clock, pace, size, settings.width, has_colour))
+        Panel::new(alloc, self.clock, pace, size, settings.width, has_colour)
     }
 }
 
 /// Whether a panel stands below the lines.
-pub fn has_panel(settings: &Settings, terminal: Terminal) -> bool {
+pub fn has_panel(settings: &Settings, terminal: Terminal) -> bool
+    ensures { result ≡ shows_panel terminal settings.now }
+{
     settings.panel.is_on(terminal.is_panel_wanted) && has_room(terminal.size)
 }
 
 /// How the lines look. With a panel, they are no wider than the terminal, or than 60 columns if that
 /// has fewer.
-fn looks_of(settings: &Settings, terminal: Terminal) -> Looks {
-    let has_panel = has_panel(settings, terminal);
-    let width = if has_panel {
+fn looks_of(settings: &Settings, terminal: Terminal) -> Looks
+    ensures { result ≡ looks_in terminal settings.now }
+{
+    Looks {
+        width: width_of(settings, terminal),
+        has_colour: settings.colour.is_on(terminal.is_colour_wanted),
+        has_panel: has_panel(settings, terminal),
+    }
+}
+
+/// How wide the lines are.
+fn width_of(settings: &Settings, terminal: Terminal) -> Option<usize>
+    ensures { result ≡ width_in terminal settings.now }
+{
+    if has_panel(settings, terminal) {
         settings
             .width
             .or(Some(terminal.size.columns.max(LEAST_WIDTH)))
     } else {
         settings.width
-    };
-    Looks {
-        width,
-        has_colour: settings.colour.is_on(terminal.is_colour_wanted),
-        has_panel,
     }
 }
 
@@ -89,7 +111,7 @@ impl<C: Clock, P: Pace> Tool for Watch<'_, C, P> {
 
     ghost arguments = { arguments };
 
-    ghost gives = { λ _ _ _. HasWatched };
+    ghost gives = { λ watch _ _. HasWatched watch.terminal };
 
     ghost reads_on = { is_fault };
 
