@@ -25,6 +25,7 @@ pub mod SnippetRow
 pub mod State
 pub mod StepRows
 pub mod Steps
+pub mod Stream
 pub mod SummaryRow
 pub mod Telling
 pub mod VerdictRow

@@ -15,10 +15,11 @@ use Rattle.stream_lines.specs.declared.line.LineEnd.TheVariants as next
 use Rattle.term_words.proofs.Appended.{text_all}
 use Rattle.stream_watch.specs.Printed.{HasPrinted}
 use Rattle.stream_watch.specs.State.{State, Tells, Told, beginning, looks_of, state_of}
+use Rattle.stream_watch.specs.Stream.{last_told, lines_told, stream_told}
 use Rattle.stream_watch.specs.Telling.{text_told}
 use Rattle.stream_watch.specs.declared.looks.Looks.{Looks}
 use Rattle.stream_watch.specs.declared.watcher.Watcher.{Watcher}
-use Rattle.stream_watch_cli.specs.Watched.{HasEnded, HasShortLines, HasToldAll, HasToldOf, Sends, last_told, lines_told, stream_told}
+use Rattle.stream_watch_cli.specs.Watched.{HasEnded, HasShortLines, HasToldAll, HasToldOf, Sends}
 use Rattle.stream_watch_cli.specs.declared.watch_fault.WatchFault.{WatchFault}
 use Rattle.stream_watch_cli.proofs.Reached.{Known, Reached, next_reached, reached_there, too_short_here}
 

@@ -1,5 +1,5 @@
 -- What is told of a whole stream.
-use Rattle.std.specs.Prelude.{◌≡◌, ◌≤◌, ⊤, ℕ, List, [], ◌∷◌, All, Bool, Option, Result, Ok, Err, is_ok, length}
+use Rattle.std.specs.Prelude.{◌≡◌, ◌≤◌, ⊤, ℕ, List, [], All, Option, Result, Ok, Err, length}
 use Rattle.std.specs.Io.KnownBytes.{Appends}
 use Rattle.stream_check.specs.Judging.{IsVerdict}
 use Rattle.stream_check.specs.Lines.{verdict_of}
@@ -9,11 +9,9 @@ use Rattle.stream_check.specs.declared.verdict.judge.Verdict.{Verdict}
 use Rattle.stream_check.specs.declared.verdict.whole.Whole.{Whole}
 use Rattle.stream_lines.specs.Cut.{cut_lines}
 use Rattle.stream_lines.specs.Limits.{max_bytes}
-use Rattle.stream_watch.specs.Ending.{end_told}
 use Rattle.stream_watch.specs.Printed.{HasPrinted}
-use Rattle.stream_watch.specs.State.{State, Told, beginning, looks_of, nothing, state_of, told_then}
-use Rattle.stream_watch.specs.Telling.{text_told}
-use Rattle.stream_watch.specs.VerdictRow.{verdict_told}
+use Rattle.stream_watch.specs.State.{looks_of, state_of}
+use Rattle.stream_watch.specs.Stream.{last_told, stream_told}
 use Rattle.stream_watch.specs.declared.looks.Looks.{Looks}
 use Rattle.stream_watch.specs.declared.watcher.Watcher.{Watcher}
 use Rattle.stream_watch_cli.specs.declared.watch_fault.WatchFault.{WatchFault}
@@ -26,19 +24,6 @@ IsVerdictOf mode bytes (Err fault) = ⊤
 -- no line is longer than 67,108,864 bytes
 abbrev pub HasShortLines : List ℕ → Type 0
 HasShortLines bytes = All (λ line. length line ≤ max_bytes) (cut_lines bytes)
-
--- what is told of lines, one after another
-abbrev pub lines_told : Looks → (find : Bool) → (lines : List (List ℕ)) → State → Told
-lines_told looks find [] state = nothing state
-lines_told looks find (line ∷ lines) state = told_then (text_told looks state find line) (lines_told looks find lines)
-
--- what is told at the end: of what is open and what is left, and the verdict
-abbrev pub last_told : Looks → Verdict → State → Told
-last_told looks verdict state = told_then (end_told looks (is_ok verdict.answer) state) (λ state. verdict_told looks state verdict)
-
--- what is told of a stream of these lines with this verdict
-abbrev pub stream_told : Looks → (find : Bool) → (lines : List (List ℕ)) → Verdict → Told
-stream_told looks find lines verdict = told_then (lines_told looks find lines beginning) (last_told looks verdict)
 
 -- the output has what is told of these lines, with the verdict of `check`
 abbrev pub HasToldOf : Mode → Looks → (lines : List (List ℕ)) → (before after : Option (List ℕ)) → Result Whole Finding → Type 0

@@ -3,9 +3,9 @@ use Rattle.std.specs.Prelude.{is_ok}
 use Rattle.term_words.proofs.Appended.{text_all}
 use Rattle.stream_watch.specs.Ending.{end_told}
 use Rattle.stream_watch.specs.State.{looks_of, state_of}
+use Rattle.stream_watch.specs.Stream.{last_told}
 use Rattle.stream_watch.specs.VerdictRow.{verdict_told}
 use Rattle.stream_watch.proofs.Tellings.{tells_as, told_behind}
-use Rattle.stream_watch_cli.specs.Watched.{last_told}
 use Rattle.stream_watch_cli.proofs.watching.end.Goals as goal
 
 pub returns-clause-told : goal.returns-clause-told
