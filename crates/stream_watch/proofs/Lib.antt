@@ -8,6 +8,7 @@ pub mod OutputLists
 pub mod OutputTexts
 pub mod OutputTurns
 pub mod Outputs
+pub mod ProgressMessages
 pub mod ReadAsMessages
 pub mod RowTellings
 pub mod Signatures

@@ -16,6 +16,7 @@ pub mod OutputSlots
 pub mod Outputs
 pub mod Printed
 pub mod Progress
+pub mod ProgressMessage
 pub mod ProvisionerRows
 pub mod Reading
 pub mod RefreshRow

@@ -1,5 +1,5 @@
 -- What is told of a line.
-use Rattle.std.specs.Prelude.{ℕ, ℤ, List, [], ◌∷◌, ◌++◌, Bool, Option, Some, None, codes, if◌then◌else◌, is_some, option_and_then, option_map, unwrap_or}
+use Rattle.std.specs.Prelude.{◌≡◌, ℕ, ℤ, List, [], ◌∷◌, ◌++◌, Bool, Option, Some, None, codes, if◌then◌else◌, is_some, option_and_then, option_map, unwrap_or}
 use Rattle.std.specs.Fmt.{decimal}
 use Rattle.std.specs.Str.{bytes_eq}
 use Rattle.serde_json.specs.Data.{Data}
@@ -128,3 +128,14 @@ message_or_line_told looks state find line (Some tree) = message_told looks stat
 
 unfoldable pub text_told : Looks → State → (find : Bool) → (line : List ℕ) → Told
 text_told looks state find line = message_or_line_told looks state find line (message_of find line)
+
+-- ---- a line of progress
+
+-- nothing is told of progress by itself: only the time goes on
+abbrev pub progress_told : Looks → Option ℤ → State → Told
+progress_told looks moment state = under_way_told_if (is_some moment) looks (at_moment moment state)
+
+-- of this line nothing else is told
+abbrev pub TellsProgress : (find : Bool) → (line : List ℕ) → (moment : Option ℤ) → Type 0
+TellsProgress find line moment =
+    (looks : Looks) (state : State) → text_told looks state find line ≡ progress_told looks moment state

@@ -2,5 +2,6 @@
 
 pub mod laws;
 pub mod outputs;
+pub mod progress;
 pub mod reading;
 pub mod shape;

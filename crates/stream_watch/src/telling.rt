@@ -4,9 +4,10 @@ ghost use Rattle.std.specs.Prelude.{◌≡◌, IfOk, OnOk, is_some, map, option_
 ghost use Rattle.serde_json.specs.View.{view};
 ghost use Rattle.term_words.specs.MessageTexts.{AppendsText, HasText};
 ghost use Rattle.stream_watch.specs.State.{Tells, looks_of, nothing, state_of};
-ghost use Rattle.stream_watch.specs.Telling.{at_moment, kind_told, lines_or_line_told, message_told, moment_of, other_told, passed_text_told, passed_told, row_or_text_told, row_told, text_lines_told, text_told, told_at, too_long_told, too_long_words, under_way_told_if, unknown_told, version_told, version_words};
+ghost use Rattle.stream_watch.specs.Telling.{at_moment, kind_told, lines_or_line_told, message_told, moment_of, other_told, passed_text_told, passed_told, progress_told, row_or_text_told, row_told, text_lines_told, text_told, told_at, too_long_told, too_long_words, under_way_told_if, unknown_told, version_told, version_words};
 
 use crate::mark::Mark;
+use crate::message::progress::read_progress;
 use crate::message::reading::read_message;
 use crate::rows::diagnostic::{text_of, text_or_nothing};
 use crate::watcher::Watcher;
@@ -23,6 +24,27 @@ const MAX_PASSED: usize = 1024;
 impl Watcher {
     /// Tells a line: its message, or the line where it has none. `Err` where memory is refused.
     pub fn text(&mut self, line: &[u8]) -> Result<(), AllocError>
+        ensures { OnOk result (Tells self.old self.new (text_told (looks_of self.old) (state_of self.old) self.old.find line.now)) }
+    {
+        match read_progress(self.alloc, &mut self.scratch, self.find, line)? {
+            Some(message) => {
+                self.progress(message.moment);
+                Ok(())
+            }
+            None => self.message_or_line(line),
+        }
+    }
+
+    /// Tells progress of a step: the time goes on, and a mark may have passed.
+    fn progress(&mut self, moment: Option<i64>)
+        ensures { Tells self.old self.new (progress_told (looks_of self.old) moment (state_of self.old)) }
+    {
+        self.clock = self.clock.after(moment);
+        self.under_way_if(moment.is_some());
+    }
+
+    /// Tells the message of a line, or the line where it has none. `Err` where memory is refused.
+    fn message_or_line(&mut self, line: &[u8]) -> Result<(), AllocError>
         ensures { OnOk result (Tells self.old self.new (text_told (looks_of self.old) (state_of self.old) self.old.find line.now)) }
     {
         match read_message(self.alloc, &mut self.scratch, self.find, line)? {
