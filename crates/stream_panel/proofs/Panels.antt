@@ -1,8 +1,8 @@
--- How many lines a panel has, and their bytes.
-use Rattle.std.proofs.Common.{⊎_elim, false, true, ltb, ◌≡◌, ◌∙◌, ◌+◌, ◌-◌, ◌≤◌, ◌∷◌, ◌++◌, ℕ, List, ap, arith, length, map, min, refl, sym, take}
-use Rattle.std.specs.List.{flat_map, take-map}
+-- The rows of a panel, and how many lines it has.
+use Rattle.std.proofs.Common.{⊎_elim, false, true, ltb, ◌≡◌, ◌∙◌, ◌+◌, ◌-◌, ◌≤◌, ◌∷◌, ℕ, List, ap, arith, length, map, min, sym, take}
+use Rattle.std.specs.List.{take-map}
+use Rattle.std.proofs.lemmas.Simd.{map-map}
 use Rattle.std.proofs.lemmas.List.{length-append, length-map, length-take-le}
-use Rattle.std.proofs.lemmas.List.Folds.{flat_map-map}
 use Rattle.std.proofs.lemmas.Bool.{cases_Bool, ltb-false, ltb-true}
 use Rattle.std.proofs.lemmas.Bool.Decides.{nat_tests}
 use Rattle.stream_watch.specs.State.{State}
@@ -13,12 +13,11 @@ use Rattle.stream_panel.specs.Status.{status_line}
 use Rattle.stream_panel.specs.declared.size.Size.{Size}
 use Rattle.stream_panel.specs.declared.view.View.{View}
 
-pub rows_bytes : {A B L : Type 0} (f : L → List ℕ) (row : B → L) (view : A → B) (n : ℕ) (xs : List A) (ys : List B) → map view xs ≡ ys
-    → flat_map (λ x. f (row (view x))) (take n xs) ≡ flat_map f (map row (take n ys))
-rows_bytes f row view n xs ys same =
-    sym (flat_map-map (λ y. f (row y)) view (take n xs))
-    ∙ sym (flat_map-map f row (map view (take n xs)))
-    ∙ ap (λ zs. flat_map f (map row zs)) (sym (take-map view n xs) ∙ ap (take n) same)
+pub rows_map : {A B L : Type 0} (row : B → L) (view : A → B) (n : ℕ) (xs : List A) (ys : List B) → map view xs ≡ ys
+    → map (λ x. row (view x)) (take n xs) ≡ map row (take n ys)
+rows_map row view n xs ys same =
+    sym (map-map row view (take n xs))
+    ∙ ap (map row) (sym (take-map view n xs) ∙ ap (take n) same)
 
 more_count : (view : View) (n : ℕ) → length (more_lines view n) ≡ min n 1
 more_count view n =

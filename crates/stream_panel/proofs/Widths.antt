@@ -1,10 +1,9 @@
 -- How many columns the lines of a panel have.
-use Rattle.std.proofs.Common.{◌≡◌, ◌∙◌, ◌+◌, ◌-◌, ◌*◌, ◌/◌, ◌<◌, ◌≤◌, ◌∷◌, ◌++◌, [], ℕ, Bool, List, None, Option, Some, ⊎_elim, ap, arith, false, leb, length, ltb, max, min, refl, replicate, sym, take, true}
+use Rattle.std.proofs.Common.{◌≡◌, ◌∙◌, ◌+◌, ◌-◌, ◌*◌, ◌/◌, ◌<◌, ◌≤◌, ◌∷◌, ◌++◌, [], ℕ, List, None, Option, Some, ⊎_elim, ap, arith, false, leb, length, ltb, map, min, refl, replicate, suc, take, true}
 use Rattle.std.specs.Prelude.{All, find, slice_index_or}
-use Rattle.std.specs.List.{sum_by}
 use Rattle.std.proofs.Math.Nat.{div-mul-le_self, mul-le-mul_right, mul-one}
 use Rattle.std.proofs.lemmas.Nat.{le-div}
-use Rattle.std.proofs.lemmas.Bool.{cases_Bool, leb-false, leb-true, ltb-false, ltb-true}
+use Rattle.std.proofs.lemmas.Bool.{cases_Bool, leb-true, ltb-false}
 use Rattle.std.proofs.lemmas.Bool.Decides.{nat_tests}
 use Rattle.std.proofs.lemmas.List.Elements.{All-append, All-cons, All-map}
 use Rattle.std.proofs.lemmas.List.Folds.{sum_by-replicate}
@@ -20,10 +19,11 @@ use Rattle.stream_watch.specs.Printed.{time_text}
 use Rattle.stream_watch.specs.State.{State}
 use Rattle.stream_watch.specs.Steps.{Step, changes_in}
 use Rattle.stream_watch.specs.declared.counts.Counts.{Counts}
+use Rattle.stream_panel.specs.Canvases.{width_in}
 use Rattle.stream_panel.specs.Bar.{bar, bar_up_to, full_cells, reached_cells, total_of}
 use Rattle.stream_panel.specs.Panel.{panel_lines, row_lines, shown_rows}
 use Rattle.stream_panel.specs.Rows.{action_rendition, kind_part, more_line, more_lines, more_words, others_rendition, others_words, padded, row_line, row_part, row_words, words_and_others}
-use Rattle.stream_panel.specs.Sizes.{age, line_columns}
+use Rattle.stream_panel.specs.Sizes.{age, limited, line_columns}
 use Rattle.stream_panel.specs.Status.{bar_cells, bold_within, has_bar, status_line, status_part, status_words}
 use Rattle.stream_panel.specs.Stretches.{Stretch, columns_in, copies, front, plain, rendered, within}
 use Rattle.stream_panel.proofs.Signs.{blank, dark_shade, ellipsis, full_block, light_shade, medium_shade, triangle}
@@ -271,3 +271,22 @@ lines_fit view state wide =
     All-append fits (status_line view state ∷ row_lines view state) (more_lines view (length state.steps - n))
     (All-cons fits (status_line view state) (row_lines view state) (status_line_fits view state wide) rows)
     (more_lines_fit view (length state.steps - n) wide)
+
+-- ---- widths that are kept
+
+same_widths : (limit : ℕ) (lines : List (List Stretch)) → limit ≤ 18446744073709551615 → All (λ line. columns_in line ≤ limit) lines
+    → map width_in lines ≡ map columns_in lines
+same_widths limit [] small fit = refl
+same_widths limit (line ∷ lines) small fit =
+    let first : columns_in line ≤ limit = fit 0 line (omega arith) in
+    let same : width_in line ≡ columns_in line = omega (arith, first, small) in
+    ap (λ (n : ℕ). n ∷ map width_in lines) same
+    ∙ ap (λ (ns : List ℕ). columns_in line ∷ ns) (same_widths limit lines small (λ k d below. fit (suc k) d (omega (arith, below))))
+
+pub known_widths : (view : View) (state : State) → 30 ≤ line_columns view
+    → map width_in (panel_lines view state) ≡ map columns_in (panel_lines view state)
+known_widths view state wide = same_widths (line_columns view) (panel_lines view state) (narrow view.width view.size.columns) (lines_fit view state wide)
+  where
+    narrow : (limit : Option ℕ) (columns : ℕ) → limited limit (min columns 120) - 1 ≤ 18446744073709551615
+    narrow None columns = omega arith
+    narrow (Some limit) columns = omega arith

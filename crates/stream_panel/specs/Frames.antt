@@ -1,7 +1,25 @@
 -- What is written to a terminal at once: told lines in place of the panel that stands, and a new
 -- panel below them.
-use Rattle.std.specs.Prelude.{ℕ, ◌∷◌, ◌++◌, [], List, codes, if◌then◌else◌, nat_lt}
+use Rattle.std.specs.Prelude.{ℕ, ◌∷◌, ◌++◌, [], List, codes, if◌then◌else◌, max, min, nat_lt}
 use Rattle.std.specs.Fmt.{decimal}
+use Rattle.std.specs.Int.{div_ceil}
+use Rattle.std.specs.List.{sum_by}
+
+-- ---- how far a frame goes up
+
+-- How many rows a line takes in a terminal of so many columns. A line without columns takes one too.
+unfoldable pub line_rows : (columns width : ℕ) → ℕ
+line_rows columns width = max (div_ceil width (max columns 1)) 1
+
+-- how many rows lines of these widths take: a terminal that was made narrower has broken them
+abbrev pub rows_taken : (columns : ℕ) → (widths : List ℕ) → ℕ
+rows_taken columns widths = sum_by (line_rows columns) widths
+
+-- the same, as far as a number of 64 bits goes
+abbrev pub rows_up : (columns : ℕ) → (widths : List ℕ) → ℕ
+rows_up columns widths = min (rows_taken columns widths) 18446744073709551615
+
+-- ---- bytes
 
 -- ESC, `[` and the words (ECMA-48, section 5.4)
 abbrev pub control : List ℕ → List ℕ
@@ -20,6 +38,6 @@ abbrev pub unbroken_bytes : (lines : List ℕ) → List ℕ
 unbroken_bytes [] = []
 unbroken_bytes (byte ∷ bytes) = between_modes (byte ∷ bytes)
 
--- A panel of `standing` lines goes, the told lines stand in its place, and a new panel below them.
+-- A panel of `standing` rows goes, the told lines stand in its place, and a new panel below them.
 unfoldable pub frame_bytes : (standing : ℕ) → (told panel : List ℕ) → List ℕ
 frame_bytes standing told panel = codes "\r" ++ up_bytes standing ++ control (codes "J") ++ told ++ unbroken_bytes panel

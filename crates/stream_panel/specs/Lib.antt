@@ -1,4 +1,5 @@
 pub mod Bar
+pub mod Canvases
 pub mod Frames
 pub mod Panel
 pub mod Rows

@@ -1,18 +1,17 @@
 //! The bar that shows how far the changes are.
 
 ghost use Rattle.std.specs.Prelude.{◌≡◌, ◌^◌, ◌<◌, ◌≤◌};
-ghost use Rattle.term_words.specs.MessageTexts.{AppendsText};
 ghost use Rattle.stream_panel.specs.Bar.{bar, bar_up_to, full_cells, reached_cells};
-ghost use Rattle.stream_panel.specs.Stretches.{bytes_of};
+ghost use Rattle.stream_panel.specs.Canvases.{Draws};
 
+use crate::canvas::Canvas;
 use crate::stretch::push_copies;
 use stream_watch::Counts;
 use term_text::Rendition;
-use term_words::MessageText;
 
 /// Adds a bar of so many cells. `open` changes are under way.
 pub(crate) fn push_bar(
-    out: &mut MessageText,
+    out: &mut Canvas,
     has_colour: bool,
     counts: Counts,
     running: u64,
@@ -20,7 +19,7 @@ pub(crate) fn push_bar(
 )
     requires planned { 0 < counts.planned }
     requires few { cells ≤ 20 }
-    ensures { AppendsText out.old out.new (bytes_of has_colour (bar counts running cells)) }
+    ensures { Draws out.old out.new has_colour (bar counts running cells) }
 {
     let done = u128::from(counts.done);
     let ended = done + u128::from(counts.failed);
@@ -38,14 +37,14 @@ pub(crate) fn push_bar(
 
 /// Adds the cells up to `done`, `ended` and `begun`, and the others.
 fn push_cells(
-    out: &mut MessageText,
+    out: &mut Canvas,
     has_colour: bool,
     done: usize,
     ended: usize,
     begun: usize,
     cells: usize,
 )
-    ensures { AppendsText out.old out.new (bytes_of has_colour (bar_up_to done ended begun cells)) }
+    ensures { Draws out.old out.new has_colour (bar_up_to done ended begun cells) }
 {
     push_copies(out, has_colour, Some(Rendition::Green), '█', done);
     push_copies(

@@ -3,9 +3,10 @@
 ghost use Rattle.std.specs.Prelude.{◌≡◌};
 ghost use Rattle.stream_watch.specs.Printed.{time_text};
 ghost use Rattle.term_words.specs.MessageTexts.{AppendsText, HasText};
+ghost use Rattle.stream_panel.specs.Canvases.{Draws};
 ghost use Rattle.stream_panel.specs.Rows.{others_rendition, others_words, padded, to_words, words_and_others};
-ghost use Rattle.stream_panel.specs.Stretches.{bytes_of};
 
+use crate::canvas::Canvas;
 use crate::stretch::{push_copies, push_stretch, push_within};
 use std::alloc::Global;
 use stream_watch::push_time;
@@ -18,7 +19,7 @@ const LEAST_WORDS: usize = 30;
 /// Adds words and, right of them, how long others took. The words have thirty columns at least, or
 /// stand alone.
 pub(crate) fn push_words_and_others(
-    out: &mut MessageText,
+    out: &mut Canvas,
     has_colour: bool,
     room: usize,
     others_as: Rendition,
@@ -26,7 +27,7 @@ pub(crate) fn push_words_and_others(
     text: &MessageText,
 )
     ensures { (words : _) → HasText text.now words
-        → AppendsText out.old out.new (bytes_of has_colour (words_and_others room others_as others.now words)) }
+        → Draws out.old out.new has_colour (words_and_others room others_as others.now words) }
 {
     let left = room.saturating_sub(others.columns());
     if left < LEAST_WORDS {
@@ -38,8 +39,8 @@ pub(crate) fn push_words_and_others(
 }
 
 /// Adds words, padded to so many columns.
-fn push_padded(out: &mut MessageText, has_colour: bool, columns: usize, text: &MessageText)
-    ensures { (words : _) → HasText text.now words → AppendsText out.old out.new (bytes_of has_colour (padded columns words)) }
+fn push_padded(out: &mut Canvas, has_colour: bool, columns: usize, text: &MessageText)
+    ensures { (words : _) → HasText text.now words → Draws out.old out.new has_colour (padded columns words) }
 {
     match text.within(columns) {
         Ok(text) => {

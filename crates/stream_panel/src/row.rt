@@ -1,15 +1,15 @@
 //! The rows of a panel: a line for each open step.
 
-ghost use Rattle.std.specs.Prelude.{◌≡◌, ◌-◌, option_map};
-ghost use Rattle.std.specs.List.{flat_map};
+ghost use Rattle.std.specs.Prelude.{◌≡◌, ◌-◌, ◌∷◌, [], map, option_map};
 ghost use Rattle.std.specs.Option.{option_copied};
 ghost use Rattle.term_words.specs.MessageTexts.{AppendsText, HasText};
 ghost use Rattle.stream_watch.specs.Lengths.{lengths_of, lengths_view};
 ghost use Rattle.stream_watch.specs.State.{state_of};
 ghost use Rattle.stream_watch.specs.Steps.{step_view};
+ghost use Rattle.stream_panel.specs.Canvases.{Draws, DrawsLines};
 ghost use Rattle.stream_panel.specs.Rows.{action_rendition, kind_part, more_line, more_lines, more_words, part_with_others, row_front, row_line, row_of, row_part, row_words};
-ghost use Rattle.stream_panel.specs.Stretches.{bytes_of, line_bytes, panel_bytes};
 
+use crate::canvas::Canvas;
 use crate::others::{others_rendition, push_others, push_words_and_others};
 use crate::stretch::{push_copies, push_front, push_stretch, push_within};
 use crate::view::View;
@@ -24,9 +24,9 @@ const FRONT: usize = 10;
 const LONG: u64 = 1_000_000;
 
 /// Adds the rows of steps.
-pub(crate) fn push_rows(out: &mut MessageText, watcher: &Watcher, view: View, steps: &[OpenStep])
-    ensures { AppendsText out.old out.new
-        (flat_map (λ step. line_bytes view.has_colour (row_line view (state_of watcher.now) (step_view step))) steps.now) }
+pub(crate) fn push_rows(out: &mut Canvas, watcher: &Watcher, view: View, steps: &[OpenStep])
+    ensures { DrawsLines out.old out.new view.has_colour
+        (map (λ step. row_line view (state_of watcher.now) (step_view step)) steps.now) }
 {
     for step in steps {
         push_row(out, watcher, view, step);
@@ -34,17 +34,17 @@ pub(crate) fn push_rows(out: &mut MessageText, watcher: &Watcher, view: View, st
 }
 
 /// Adds the row of a step.
-fn push_row(out: &mut MessageText, watcher: &Watcher, view: View, step: &OpenStep)
-    ensures { AppendsText out.old out.new (line_bytes view.has_colour (row_line view (state_of watcher.now) (step_view step.now))) }
+fn push_row(out: &mut Canvas, watcher: &Watcher, view: View, step: &OpenStep)
+    ensures { DrawsLines out.old out.new view.has_colour (row_line view (state_of watcher.now) (step_view step.now) ∷ []) }
 {
     let age = view.age(step.begin, watcher.clock().now);
     push_row_of(out, watcher.lengths(), view, age, step);
-    out.text("\n");
+    out.end_line();
 }
 
 /// Adds the row of a step of this age, without a line feed.
-fn push_row_of(out: &mut MessageText, lengths: &Lengths, view: View, age: u64, step: &OpenStep)
-    ensures { AppendsText out.old out.new (bytes_of view.has_colour (row_of view (lengths_of lengths.now) age (step_view step.now))) }
+fn push_row_of(out: &mut Canvas, lengths: &Lengths, view: View, age: u64, step: &OpenStep)
+    ensures { Draws out.old out.new view.has_colour (row_of view (lengths_of lengths.now) age (step_view step.now)) }
 {
     let action = step.action.as_str();
     let mut text = MessageText::new(out.alloc());
@@ -61,8 +61,8 @@ fn push_row_of(out: &mut MessageText, lengths: &Lengths, view: View, age: u64, s
 }
 
 /// Adds the time since a step began, and a sign.
-fn push_row_front(out: &mut MessageText, has_colour: bool, action: &str, age: u64)
-    ensures { AppendsText out.old out.new (bytes_of has_colour (row_front action.now age)) }
+fn push_row_front(out: &mut Canvas, has_colour: bool, action: &str, age: u64)
+    ensures { Draws out.old out.new has_colour (row_front action.now age) }
 {
     push_front(out, has_colour, None, age);
     push_stretch(out, has_colour, Some(action_rendition(action)), &['▸']);
@@ -80,7 +80,7 @@ fn push_row_words(text: &mut MessageText, step: &OpenStep)
 
 /// Adds the words of a row and, where the longest of the others took a second, how long they took.
 fn push_row_part(
-    out: &mut MessageText,
+    out: &mut Canvas,
     has_colour: bool,
     room: usize,
     age: u64,
@@ -88,7 +88,7 @@ fn push_row_part(
     text: &MessageText,
 )
     ensures { (words : _) → HasText text.now words
-        → AppendsText out.old out.new (bytes_of has_colour (row_part room age (option_map lengths_view (option_copied lengths.entry)) words)) }
+        → Draws out.old out.new has_colour (row_part room age (option_map lengths_view (option_copied lengths.entry)) words) }
 {
     match lengths {
         Some(lengths) => push_kind_part(out, has_colour, room, age, lengths, text),
@@ -98,7 +98,7 @@ fn push_row_part(
 
 /// Adds the words of a row and, where the longest of the others took a second, how long they took.
 fn push_kind_part(
-    out: &mut MessageText,
+    out: &mut Canvas,
     has_colour: bool,
     room: usize,
     age: u64,
@@ -106,7 +106,7 @@ fn push_kind_part(
     text: &MessageText,
 )
     ensures { (words : _) → HasText text.now words
-        → AppendsText out.old out.new (bytes_of has_colour (kind_part room age (lengths_view lengths.now) words)) }
+        → Draws out.old out.new has_colour (kind_part room age (lengths_view lengths.now) words) }
 {
     if lengths.longest < LONG {
         push_within(out, has_colour, None, room, text);
@@ -117,7 +117,7 @@ fn push_kind_part(
 
 /// Adds the words of a row, and how long others took.
 fn push_long_others(
-    out: &mut MessageText,
+    out: &mut Canvas,
     has_colour: bool,
     room: usize,
     age: u64,
@@ -125,7 +125,7 @@ fn push_long_others(
     text: &MessageText,
 )
     ensures { (words : _) → HasText text.now words
-        → AppendsText out.old out.new (bytes_of has_colour (part_with_others room age (lengths_view lengths.now) words)) }
+        → Draws out.old out.new has_colour (part_with_others room age (lengths_view lengths.now) words) }
 {
     let rendition = others_rendition(age, lengths.longest);
     let mut others = MessageText::new(out.alloc());
@@ -150,8 +150,8 @@ fn action_rendition(action: &str) -> Rendition
 }
 
 /// Adds how many steps have no row, where some have none.
-pub(crate) fn push_more(out: &mut MessageText, view: View, count: usize)
-    ensures { AppendsText out.old out.new (panel_bytes view.has_colour (more_lines view count)) }
+pub(crate) fn push_more(out: &mut Canvas, view: View, count: usize)
+    ensures { DrawsLines out.old out.new view.has_colour (more_lines view count) }
 {
     if count > 0 {
         push_more_line(out, view, count);
@@ -159,8 +159,8 @@ pub(crate) fn push_more(out: &mut MessageText, view: View, count: usize)
 }
 
 /// Adds the line that says how many steps have no row.
-fn push_more_line(out: &mut MessageText, view: View, count: usize)
-    ensures { AppendsText out.old out.new (line_bytes view.has_colour (more_line view count)) }
+fn push_more_line(out: &mut Canvas, view: View, count: usize)
+    ensures { DrawsLines out.old out.new view.has_colour (more_line view count ∷ []) }
 {
     let mut text = MessageText::new(out.alloc());
     push_more_words(&mut text, count);
@@ -172,7 +172,7 @@ fn push_more_line(out: &mut MessageText, view: View, count: usize)
         view.line_columns().saturating_sub(FRONT),
         &text,
     );
-    out.text("\n");
+    out.end_line();
 }
 
 /// Adds how many further steps there are.

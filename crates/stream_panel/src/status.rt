@@ -1,13 +1,14 @@
 //! The first line of a panel: how far the apply is.
 
-ghost use Rattle.std.specs.Prelude.{◌≡◌, ◌≤◌, ◌<◌, [], min};
+ghost use Rattle.std.specs.Prelude.{◌≡◌, ◌≤◌, ◌<◌, ◌∷◌, [], min};
 ghost use Rattle.term_text.specs.Fitted.{shown_characters};
 ghost use Rattle.term_words.specs.MessageTexts.{AppendsText, HasText};
 ghost use Rattle.stream_watch.specs.State.{state_of};
+ghost use Rattle.stream_panel.specs.Canvases.{Draws, DrawsLines};
 ghost use Rattle.stream_panel.specs.Status.{bar_and_status, bar_cells, bold_within, has_bar, left_of, left_words, status_line, status_part, status_words};
-ghost use Rattle.stream_panel.specs.Stretches.{bytes_of, line_bytes};
 
 use crate::bar::push_bar;
+use crate::canvas::Canvas;
 use crate::stretch::{push_front, push_stretch};
 use crate::view::View;
 use std::alloc::{AllocError, Global};
@@ -25,8 +26,8 @@ const LEAST_CELLS: usize = 8;
 const MOST_CELLS: usize = 20;
 
 /// Adds the line that says how far the apply is.
-pub(crate) fn push_status_line(out: &mut MessageText, watcher: &Watcher, view: View)
-    ensures { AppendsText out.old out.new (line_bytes view.has_colour (status_line view (state_of watcher.now))) }
+pub(crate) fn push_status_line(out: &mut Canvas, watcher: &Watcher, view: View)
+    ensures { DrawsLines out.old out.new view.has_colour (status_line view (state_of watcher.now) ∷ []) }
 {
     let clock = watcher.clock();
     let mut status = MessageText::new(out.alloc());
@@ -45,12 +46,12 @@ pub(crate) fn push_status_line(out: &mut MessageText, watcher: &Watcher, view: V
         view.line_columns().saturating_sub(FRONT),
         &status,
     );
-    out.text("\n");
+    out.end_line();
 }
 
 /// Adds the status as it is shown, and a bar before it where there is room, in `room` columns.
 fn push_shown_status(
-    out: &mut MessageText,
+    out: &mut Canvas,
     has_colour: bool,
     counts: Counts,
     running: u64,
@@ -58,7 +59,7 @@ fn push_shown_status(
     status: &MessageText,
 )
     ensures { (words : _) → HasText status.now words
-        → AppendsText out.old out.new (bytes_of has_colour (status_part counts running room (shown_characters words))) }
+        → Draws out.old out.new has_colour (status_part counts running room (shown_characters words)) }
 {
     match status.shown() {
         Ok(status) => push_status_part(out, has_colour, counts, running, room, &status),
@@ -103,14 +104,14 @@ fn left_of(counts: Counts, running: u64) -> u64
 
 /// Adds the status, and a bar before it where there is room, in `room` columns.
 fn push_status_part(
-    out: &mut MessageText,
+    out: &mut Canvas,
     has_colour: bool,
     counts: Counts,
     running: u64,
     room: usize,
     status: &ShownText,
 )
-    ensures { AppendsText out.old out.new (bytes_of has_colour (status_part counts running room status.now)) }
+    ensures { Draws out.old out.new has_colour (status_part counts running room status.now) }
 {
     let cells = bar_cells(room, status);
     if has_bar(counts, cells) {
@@ -137,8 +138,8 @@ fn has_bar(counts: Counts, cells: usize) -> bool
 }
 
 /// Adds the status, fitted to so many columns.
-fn push_fitted(out: &mut MessageText, has_colour: bool, columns: usize, status: &ShownText)
-    ensures { AppendsText out.old out.new (bytes_of has_colour (bold_within columns status.now)) }
+fn push_fitted(out: &mut Canvas, has_colour: bool, columns: usize, status: &ShownText)
+    ensures { Draws out.old out.new has_colour (bold_within columns status.now) }
 {
     match fitted(out.alloc(), status, columns) {
         Ok(status) => push_stretch(out, has_colour, Some(Rendition::Bold), status.characters()),

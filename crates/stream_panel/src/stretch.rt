@@ -2,8 +2,10 @@
 
 ghost use Rattle.std.specs.Prelude.{◌≡◌, IfOk, encode_utf8_all, replicate};
 ghost use Rattle.term_words.specs.MessageTexts.{AppendsText, HasText};
+ghost use Rattle.stream_panel.specs.Canvases.{Draws};
 ghost use Rattle.stream_panel.specs.Stretches.{bytes_of, copies, front, rendered, rendered_bytes, within};
 
+use crate::canvas::{Canvas, columns};
 use std::alloc::{AllocError, Global};
 use stream_watch::push_time;
 use term_text::Rendition;
@@ -14,47 +16,60 @@ const TIME: usize = 6;
 
 /// Adds characters as one stretch, if there are any.
 pub(crate) fn push_stretch(
-    out: &mut MessageText,
+    out: &mut Canvas,
     has_colour: bool,
     rendition: Option<Rendition>,
     characters: &[char],
 )
-    ensures { AppendsText out.old out.new (bytes_of has_colour (rendered rendition characters.now)) }
+    ensures { Draws out.old out.new has_colour (rendered rendition characters.now) }
+{
+    push_characters(&mut out.text, has_colour, rendition, characters);
+    out.columns = out.columns.saturating_add(columns(characters));
+}
+
+/// Adds characters as one stretch, if there are any.
+fn push_characters(
+    text: &mut MessageText,
+    has_colour: bool,
+    rendition: Option<Rendition>,
+    characters: &[char],
+)
+    ensures { AppendsText text.old text.new (bytes_of has_colour (rendered rendition characters.now)) }
 {
     if !characters.is_empty() {
-        push_rendered(out, has_colour, rendition, characters);
+        push_rendered(text, has_colour, rendition, characters);
     }
 }
 
 /// Adds characters with the sequences of a rendition around them, where there is one and lines have
 /// colours.
 fn push_rendered(
-    out: &mut MessageText,
+    text: &mut MessageText,
     has_colour: bool,
     rendition: Option<Rendition>,
     characters: &[char],
 )
-    ensures { AppendsText out.old out.new (rendered_bytes has_colour rendition (encode_utf8_all characters.now)) }
+    ensures { AppendsText text.old text.new (rendered_bytes has_colour rendition (encode_utf8_all characters.now)) }
 {
     match rendition {
         Some(rendition) if has_colour => {
-            out.text(rendition.sequence());
-            out.characters(characters);
-            out.text(Rendition::end());
+            text.text(rendition.sequence());
+            text.characters(characters);
+            text.text(Rendition::end());
         }
-        _ => out.characters(characters),
+        _ => text.characters(characters),
     }
 }
 
 /// Adds a character so many times.
 pub(crate) fn push_copies(
-    out: &mut MessageText,
+    out: &mut Canvas,
     has_colour: bool,
     rendition: Option<Rendition>,
     character: char,
     count: usize,
 )
-    ensures { AppendsText out.old out.new (bytes_of has_colour (copies rendition character count)) }
+    ensures { Draws out.old out.new has_colour (copies rendition character count) }
 {
     match copies_of(out.alloc(), character, count) {
         Ok(characters) => push_stretch(out, has_colour, rendition, &characters),
@@ -71,13 +86,13 @@ fn copies_of(alloc: Global, character: char, count: usize) -> Result<Vec<char>, 
 
 /// Adds a message as it is shown, fitted to so many columns.
 pub(crate) fn push_within(
-    out: &mut MessageText,
+    out: &mut Canvas,
     has_colour: bool,
     rendition: Option<Rendition>,
     columns: usize,
     text: &MessageText,
 )
-    ensures { (words : _) → HasText text.now words → AppendsText out.old out.new (bytes_of has_colour (within rendition columns words)) }
+    ensures { (words : _) → HasText text.now words → Draws out.old out.new has_colour (within rendition columns words) }
 {
     match text.within(columns) {
         Ok(text) => push_stretch(out, has_colour, rendition, text.characters()),
@@ -87,13 +102,8 @@ pub(crate) fn push_within(
 
 /// Adds the front of a line: a duration of so many microseconds, right in six columns, and two
 /// blanks.
-pub(crate) fn push_front(
-    out: &mut MessageText,
-    has_colour: bool,
-    rendition: Option<Rendition>,
-    age: u64,
-)
-    ensures { AppendsText out.old out.new (bytes_of has_colour (front rendition age)) }
+pub(crate) fn push_front(out: &mut Canvas, has_colour: bool, rendition: Option<Rendition>, age: u64)
+    ensures { Draws out.old out.new has_colour (front rendition age) }
 {
     let mut time = MessageText::new(out.alloc());
     push_time(&mut time, age);

@@ -1,5 +1,5 @@
 -- What the parser states of the command, and of its options.
-use Rattle.std.proofs.Common.{◌≡◌, ◌<◌, ◌^◌, ◌∙◌, ℕ, Option, None, Some, Result, Ok, Err, true, ap, arith, refl}
+use Rattle.std.proofs.Common.{◌≡◌, ◌∙◌, ℕ, Option, None, Some, Result, Ok, Err, true, ap, arith, refl}
 use Rattle.std.specs.Prelude.{IfOk, IfSome, max, min}
 use Rattle.std.specs.Str.Parse.{ParsesUnsigned, digits_value, without_leading_plus}
 use Rattle.clap.specs.Faults.{is_simple_and_free}

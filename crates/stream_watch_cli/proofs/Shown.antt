@@ -1,15 +1,13 @@
 -- What was shown of the lines that were read, where lines are shown without a panel.
 use Rattle.std.proofs.Common.{◌≡◌, ◌∙◌, ◌++◌, ◌∷◌, [], ℕ, List, Bool, Option, Some, None, Ok, Err, ap, append-nil, append_assoc, refl, subst, sym}
-use Rattle.std.specs.Prelude.{IfOk, IfSome, Result, is_ok}
+use Rattle.std.specs.Prelude.{IfOk, IfSome, Result}
 use Rattle.std.specs.Io.KnownBytes.{Appends, Keeps}
 use Rattle.std.proofs.KnownBytes.{Appends-kept, Appends-trans}
 use Rattle.stream_check.specs.Judging.{HasJudged}
 use Rattle.stream_check.specs.declared.rules.mode.Mode.{Mode}
 use Rattle.stream_check.specs.declared.verdict.finding.Finding.{Finding}
 use Rattle.stream_check.specs.declared.verdict.judge.Judge.{Judge}
-use Rattle.stream_check.specs.declared.verdict.judge.Verdict.{Verdict}
 use Rattle.stream_check.specs.declared.verdict.whole.Whole.{Whole}
-use Rattle.stream_lines.specs.Cut.{cut_lines}
 use Rattle.stream_lines.specs.Reading.{Gives}
 use Rattle.stream_lines.specs.declared.line.LineEnd.TheVariants as next
 use Rattle.term_words.proofs.Appended.{text_all}

@@ -6,6 +6,7 @@ ghost use Rattle.stream_watch_cli.specs.Watched.{Sends};
 ghost use Rattle.stream_watch_cli.specs.declared.display.Display.TheVariants.{Lines};
 
 use crate::panel::Panel;
+use crate::screen::Screen;
 use crate::watch_fault::WatchFault;
 use std::io::Write;
 use std::time::Clock;
@@ -15,14 +16,14 @@ use stream_watch::Watcher;
 
 /// How what was told is shown.
 #[derive(Drop)]
-pub enum Display<'a, C, P> {
+pub enum Display<'a, C, P, S> {
     /// As lines.
     Lines,
     /// As lines with a panel below them.
-    Panel(Panel<'a, C, P>),
+    Panel(Panel<'a, C, P, S>),
 }
 
-impl<C: Clock, P: Pace> Display<'_, C, P> {
+impl<C: Clock, P: Pace, S: Screen> Display<'_, C, P, S> {
     /// Shows what was told of a line. A panel shows it with its next frame. `Err` where memory was
     /// refused for it, or a write fails.
     pub fn line<W: Write>(

@@ -4,6 +4,7 @@
 mod command;
 mod display;
 mod panel;
+mod screen;
 mod terminal;
 mod watch_fault;
 mod watching;
@@ -13,6 +14,7 @@ pub use command::tool::{Watch, has_panel};
 pub use command::when::When;
 pub use display::Display;
 pub use panel::Panel;
+pub use screen::Screen;
 pub use terminal::Terminal;
 pub use watch_fault::WatchFault;
 pub use watching::watch;

@@ -1,11 +1,12 @@
 //! The panel at a terminal: what stands there, and when it is drawn.
 
+use crate::screen::Screen;
 use crate::watch_fault::WatchFault;
 use std::alloc::Global;
 use std::io::Write;
 use std::time::{Clock, Duration, Instant};
 use stream_ahead::Pace;
-use stream_panel::{Size, View, push_frame, push_panel};
+use stream_panel::{Canvas, Size, View, has_room, push_frame, push_panel};
 use stream_tool::{flush, write_whole};
 use stream_watch::Watcher;
 use term_words::MessageText;
@@ -15,17 +16,18 @@ const TICK: u64 = 1;
 
 /// The panel at a terminal. Between frames, the cursor stands at the start of the line below it.
 #[derive(Drop)]
-pub struct Panel<'a, C, P> {
+pub struct Panel<'a, C, P, S> {
     alloc: Global,
     clock: &'a C,
     /// How reads of the input are awaited. `None` where a read does not have to wait.
     pace: Option<&'a P>,
-    size: Size,
+    /// Where the panel stands.
+    screen: &'a S,
     /// The greatest number of columns that the arguments allow.
     width: Option<usize>,
     has_colour: bool,
-    /// How many lines of it stand at the terminal.
-    standing: usize,
+    /// How many columns each of its lines has that stand on the screen.
+    standing: Vec<usize>,
     /// When the last message with a timestamp was read, or the start. `None` where the clock can't
     /// be read.
     read_at: Option<Instant>,
@@ -35,24 +37,24 @@ pub struct Panel<'a, C, P> {
     is_waiting: bool,
 }
 
-impl<'a, C: Clock, P: Pace> Panel<'a, C, P> {
+impl<'a, C: Clock, P: Pace, S: Screen> Panel<'a, C, P, S> {
     /// A panel that is not drawn yet.
     pub fn new(
         alloc: Global,
         clock: &'a C,
         pace: Option<&'a P>,
-        size: Size,
+        screen: &'a S,
         width: Option<usize>,
         has_colour: bool,
-    ) -> Panel<'a, C, P> {
+    ) -> Panel<'a, C, P, S> {
         Panel {
             alloc,
             clock,
             pace,
-            size,
+            screen,
             width,
             has_colour,
-            standing: 0,
+            standing: Vec::new(alloc),
             read_at: Instant::now(clock).ok(),
             timed: 0,
             is_waiting: true,
@@ -88,13 +90,16 @@ impl<'a, C: Clock, P: Pace> Panel<'a, C, P> {
         Ok(())
     }
 
-    /// Writes what was told, and the panel below it. `Err` where memory was refused, or the write
-    /// fails.
+    /// Writes what was told, and the panel below it, where the screen has room for one now. `Err`
+    /// where memory was refused, or the write fails.
     fn draw<W: Write>(&mut self, watcher: &mut Watcher, output: &mut W) -> Result<(), WatchFault> {
-        let mut panel = MessageText::new(self.alloc);
-        let lines = push_panel(&mut panel, watcher, self.view());
-        self.write(watcher, &panel, output)?;
-        self.standing = lines;
+        let size = self.screen.size();
+        let mut panel = Canvas::new(self.alloc);
+        if has_room(size) {
+            push_panel(&mut panel, watcher, self.view(size));
+        }
+        self.write(watcher, size, panel.text(), output)?;
+        self.standing = panel.into_widths();
         Ok(())
     }
 
@@ -106,8 +111,8 @@ impl<'a, C: Clock, P: Pace> Panel<'a, C, P> {
         output: &mut W,
     ) -> Result<(), WatchFault> {
         let none = MessageText::new(self.alloc);
-        self.write(watcher, &none, output)?;
-        self.standing = 0;
+        self.write(watcher, self.screen.size(), &none, output)?;
+        self.standing = Vec::new(self.alloc);
         Ok(())
     }
 
@@ -115,23 +120,31 @@ impl<'a, C: Clock, P: Pace> Panel<'a, C, P> {
     pub fn leave<W: Write>(&mut self, output: &mut W) {
         let none = MessageText::new(self.alloc);
         let mut frame = MessageText::new(self.alloc);
-        push_frame(&mut frame, self.standing, &[], &none);
+        let size = self.screen.size();
+        push_frame(&mut frame, size.columns, &self.standing, &[], &none);
         if frame.is_whole() && write_whole(output, frame.as_bytes()).is_ok() {
             let _ = output.flush();
         }
-        self.standing = 0;
+        self.standing = Vec::new(self.alloc);
     }
 
-    /// Writes a frame with what was told, which is then taken from the watcher. `Err` where memory
-    /// was refused, or the write fails.
+    /// Writes a frame with what was told, which is then taken from the watcher. The screen has this
+    /// size now. `Err` where memory was refused, or the write fails.
     fn write<W: Write>(
         &self,
         watcher: &mut Watcher,
+        size: Size,
         panel: &MessageText,
         output: &mut W,
     ) -> Result<(), WatchFault> {
         let mut frame = MessageText::new(self.alloc);
-        push_frame(&mut frame, self.standing, watcher.told(), panel);
+        push_frame(
+            &mut frame,
+            size.columns,
+            &self.standing,
+            watcher.told(),
+            panel,
+        );
         if !watcher.is_whole() || !frame.is_whole() {
             return Err(WatchFault::Memory);
         }
@@ -140,10 +153,10 @@ impl<'a, C: Clock, P: Pace> Panel<'a, C, P> {
         Ok(flush(output)?)
     }
 
-    /// How the panel looks now.
-    fn view(&self) -> View {
+    /// How the panel looks now on a screen of this size.
+    fn view(&self, size: Size) -> View {
         View {
-            size: self.size,
+            size,
             width: self.width,
             has_colour: self.has_colour,
             since: self.since(),

@@ -11,6 +11,7 @@ ghost use Rattle.stream_watch_cli.specs.Watched.{HasEnded, HasShortLines, HasTol
 ghost use Rattle.stream_watch_cli.specs.declared.display.Display.TheVariants.{Lines};
 
 use crate::display::Display;
+use crate::screen::Screen;
 use crate::watch_fault::WatchFault;
 use memchr::memchr;
 use std::alloc::Global;
@@ -32,11 +33,11 @@ use stream_watch::{Looks, Watcher};
 ///
 /// After an error, nothing more is read or written. The lines that were written before a fault of
 /// reading are whole.
-pub fn watch<R: Read, W: Write, C: Clock, P: Pace>(
+pub fn watch<R: Read, W: Write, C: Clock, P: Pace, S: Screen>(
     alloc: Global,
     mode: Mode,
     looks: Looks,
-    display: &mut Display<'_, C, P>,
+    display: &mut Display<'_, C, P, S>,
     reader: &mut BufReader<R>,
     output: &mut W,
 ) -> Result<Result<Whole, Finding>, WatchFault>
@@ -73,12 +74,12 @@ pub fn watch<R: Read, W: Write, C: Clock, P: Pace>(
 
 /// Reads the next line after so many, as `read_next` does. `Err` with `WatchFault::TooMany` also
 /// where it is one too many.
-fn read_within<R: Read, W: Write, C: Clock, P: Pace>(
+fn read_within<R: Read, W: Write, C: Clock, P: Pace, S: Screen>(
     lines: u64,
     reader: &mut BufReader<R>,
     line: &mut Line,
     watcher: &mut Watcher,
-    display: &mut Display<'_, C, P>,
+    display: &mut Display<'_, C, P, S>,
     output: &mut W,
 ) -> Result<LineEnd, WatchFault>
     ensures gives { IfOk result (λ next. IfSome (reader_remaining R.remaining reader.old)
@@ -99,11 +100,11 @@ fn read_within<R: Read, W: Write, C: Clock, P: Pace>(
 /// is buffered: the read may have to wait.
 ///
 /// `Err` where the read or a write fails, or memory is refused.
-fn read_next<R: Read, W: Write, C: Clock, P: Pace>(
+fn read_next<R: Read, W: Write, C: Clock, P: Pace, S: Screen>(
     reader: &mut BufReader<R>,
     line: &mut Line,
     watcher: &mut Watcher,
-    display: &mut Display<'_, C, P>,
+    display: &mut Display<'_, C, P, S>,
     output: &mut W,
 ) -> Result<LineEnd, WatchFault>
     ensures gives { IfOk result (λ next. IfSome (reader_remaining R.remaining reader.old)
@@ -120,11 +121,11 @@ fn read_next<R: Read, W: Write, C: Clock, P: Pace>(
 
 /// Shows what was told of a line that is too long, and reads on to its end. `Err` where the read or a
 /// write fails, or memory is refused.
-fn skip_rest<R: Read, W: Write, C: Clock, P: Pace>(
+fn skip_rest<R: Read, W: Write, C: Clock, P: Pace, S: Screen>(
     reader: &mut BufReader<R>,
     line: &mut Line,
     watcher: &mut Watcher,
-    display: &mut Display<'_, C, P>,
+    display: &mut Display<'_, C, P, S>,
     output: &mut W,
 ) -> Result<(), WatchFault>
     ensures { display.old ≡ Lines → display.new ≡ Lines }
@@ -142,11 +143,11 @@ fn skip_rest<R: Read, W: Write, C: Clock, P: Pace>(
 
 /// Tells the end and the verdict, shows it, and returns the verdict. `Err` where memory is refused,
 /// or a write or the flush fails.
-fn end<W: Write, C: Clock, P: Pace>(
+fn end<W: Write, C: Clock, P: Pace, S: Screen>(
     mut watcher: Watcher,
     judge: Judge,
     line: &Line,
-    display: &mut Display<'_, C, P>,
+    display: &mut Display<'_, C, P, S>,
     output: &mut W,
 ) -> Result<Result<Whole, Finding>, WatchFault>
     ensures verdict { IfOk result (λ answer. (mode : mode_type) → (texts : List (List ℕ)) → HasJudged mode judge texts → verdict_of mode texts ≡ answer) }

@@ -7,6 +7,7 @@ ghost use Rattle.stream_watch_cli.specs.declared.display.Display.TheVariants.{Li
 ghost use Rattle.stream_watch_cli.specs.declared.watch_fault.WatchFault.TheVariants.{Gone};
 
 use crate::display::Display;
+use crate::screen::Screen;
 use crate::watch_fault::WatchFault;
 use std::alloc::Global;
 use std::io::Write;
@@ -43,8 +44,8 @@ fn fault_status(fault: WatchFault) -> u8
 
 /// Flushes the lines that were told before the fault, and takes the panel away. After a failed
 /// write, nothing is written.
-pub fn send_on<W: Write, C: Clock, P: Pace>(
-    display: &mut Display<'_, C, P>,
+pub fn send_on<W: Write, C: Clock, P: Pace, S: Screen>(
+    display: &mut Display<'_, C, P, S>,
     out: &mut W,
     fault: WatchFault,
 )

@@ -8,6 +8,7 @@ use crate::command::refusals::{refuse, send_on};
 use crate::command::settings::Settings;
 use crate::display::Display;
 use crate::panel::Panel;
+use crate::screen::Screen;
 use crate::terminal::Terminal;
 use crate::watch_fault::WatchFault;
 use crate::watching::watch;
@@ -39,21 +40,23 @@ const LEAST_WIDTH: usize = 60;
 /// What is told goes to the output, and so does the verdict. Only why there is no verdict goes to
 /// standard error, and nothing where the reader of the output is gone.
 #[derive(Clone, Copy)]
-pub struct Watch<'a, C, P> {
+pub struct Watch<'a, C, P, S> {
     /// By this clock a panel says how long steps run.
     pub clock: &'a C,
     /// How reads of standard input are awaited.
     pub pace: &'a P,
+    /// Where a panel stands. Its size is asked before each frame.
+    pub screen: &'a S,
     pub terminal: Terminal,
 }
 
-impl<'a, C: Clock, P: Pace> Watch<'a, C, P> {
+impl<'a, C: Clock, P: Pace, S: Screen> Watch<'a, C, P, S> {
     ghost use Rattle.std.specs.Prelude.{◌≡◌, false};
     ghost use Rattle.stream_watch_cli.specs.CommandLine.{shows_panel};
     ghost use Rattle.stream_watch_cli.specs.declared.display.Display.TheVariants.{Lines};
 
     /// How what was told is shown.
-    fn display(&self, alloc: Global, settings: &Settings) -> Display<'a, C, P>
+    fn display(&self, alloc: Global, settings: &Settings) -> Display<'a, C, P, S>
         ensures { shows_panel self.now.terminal settings.now ≡ false → result ≡ Lines }
     {
         if has_panel(settings, self.terminal) {
@@ -64,11 +67,17 @@ impl<'a, C: Clock, P: Pace> Watch<'a, C, P> {
     }
 
     /// The panel. Reads of a named file are not awaited.
-    fn panel(&self, alloc: Global, settings: &Settings) -> Panel<'a, C, P> {
+    fn panel(&self, alloc: Global, settings: &Settings) -> Panel<'a, C, P, S> {
         let pace = settings.file().is_none().then_some(self.pace);
         let has_colour = settings.colour.is_on(self.terminal.is_colour_wanted);
-        let size = self.terminal.size;
-        Panel::new(alloc, self.clock, pace, size, settings.width, has_colour)
+        Panel::new(
+            alloc,
+            self.clock,
+            pace,
+            self.screen,
+            settings.width,
+            has_colour,
+        )
     }
 }
 
@@ -104,7 +113,7 @@ fn width_of(settings: &Settings, terminal: Terminal) -> Option<usize>
     }
 }
 
-impl<C: Clock, P: Pace> Tool for Watch<'_, C, P> {
+impl<C: Clock, P: Pace, S: Screen> Tool for Watch<'_, C, P, S> {
     type Settings = Settings;
 
     type Answer = Result<Result<Whole, Finding>, WatchFault>;

@@ -1,4 +1,4 @@
-use Rattle.std.proofs.Common.{◌≡◌, ◌+◌, max}
+use Rattle.std.proofs.Common.{◌≡◌, ◌+◌}
 use Rattle.stream_panel.specs.Bar.{bar, full_cells, reached_cells, total_of}
 use Rattle.stream_panel.proofs.Parts.{part_as, same_bar}
 use Rattle.stream_panel.proofs.bar.push_bar.Goals as goal

@@ -5,4 +5,4 @@ pub returns-clause-bytes : goal.returns-clause-bytes
 returns-clause-bytes c standing told panel = frame_is standing told panel
 
 pub returns-clause-rows : goal.returns-clause-rows
-returns-clause-rows c before standing told panel = frame_rows before standing told panel
+returns-clause-rows c columns before told panel standing = frame_rows columns before told panel standing

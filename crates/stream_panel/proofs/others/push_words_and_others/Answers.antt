@@ -1,7 +1,7 @@
-use Rattle.std.proofs.Common.{◌≡◌, ◌-◌, ◌<◌, ◌≤◌, None, Some, ap, arith, sym}
+use Rattle.std.proofs.Common.{◌≡◌, ◌-◌, ◌<◌, ◌≤◌, Some, ap, arith}
 use Rattle.std.proofs.lemmas.Bool.{le-ltb, lt-ltb}
 use Rattle.term_text.specs.Columns.{columns_of}
-use Rattle.stream_panel.specs.Stretches.{rendered, within}
+use Rattle.stream_panel.specs.Stretches.{rendered}
 use Rattle.stream_panel.specs.Rows.{padded, words_and_others}
 use Rattle.stream_panel.proofs.Parts.{part_as, part_then}
 use Rattle.stream_panel.proofs.others.push_words_and_others.Goals as goal

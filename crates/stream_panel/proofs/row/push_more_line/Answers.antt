@@ -1,4 +1,4 @@
-use Rattle.std.proofs.Common.{◌≡◌, ◌∙◌, ◌++◌, ◌-◌, None, Some, ℕ, ap}
+use Rattle.std.proofs.Common.{◌∙◌, ◌++◌, ◌-◌, None, Some, ℕ, ap}
 use Rattle.term_text.specs.declared.rendition.Rendition.TheVariants as rendition
 use Rattle.term_words.proofs.Appended.{text_all}
 use Rattle.stream_panel.specs.Sizes.{line_columns}
@@ -19,4 +19,4 @@ returns c =
     let had = text_all c.new-text.result c.push_more_words.new.text words c.new-text.ensures c.push_more_words.ensures in
     let wide = c.saturating_sub.ensures ∙ ap (λ (n : ℕ). n - 10) c.line_columns.ensures in
     let said = part_as t1 t2 view.has_colour _ part (ap (λ (n : ℕ). within (Some rendition.Dim) n words) wide) (c.push_within.ensures words had) in
-    line_then t0 t2 c.text.new.self view.has_colour (blanks ++ part) (part_then t0 t1 t2 view.has_colour blanks part c.push_copies.ensures said) c.text.ensures
+    line_then t0 t2 c.end_line.new.self view.has_colour (blanks ++ part) (part_then t0 t1 t2 view.has_colour blanks part c.push_copies.ensures said) c.end_line.ensures

@@ -1,4 +1,4 @@
-use Rattle.std.proofs.Common.{◌≡◌, ◌∙◌, ◌++◌, ◌-◌, ℕ, List, ap}
+use Rattle.std.proofs.Common.{◌∙◌, ◌-◌, ℕ, List, ap}
 use Rattle.std.specs.Prelude.{find, option_map}
 use Rattle.std.specs.Option.{option_copied}
 use Rattle.term_words.proofs.Appended.{text_all}

@@ -1,4 +1,4 @@
-use Rattle.std.proofs.Common.{◌≡◌, ◌∙◌, ◌++◌, ◌-◌, Some, ℤ, ℕ, SFits, ap, rules, w64}
+use Rattle.std.proofs.Common.{◌≡◌, ◌∙◌, ◌++◌, ◌-◌, Some, ℕ, SFits, ap, rules, w64}
 use Rattle.std.proofs.lemmas.Int.{to_z-of_z}
 use Rattle.term_text.specs.Fitted.{shown_characters}
 use Rattle.term_text.specs.declared.rendition.Rendition.TheVariants as rendition
@@ -37,4 +37,4 @@ returns c =
     ∙ ap (λ (n : ℕ). status_part c.counts.result n room (shown_characters words)) c.open_changes.ensures
     ∙ ap (λ (counts : Counts). status_part counts (changes_in state.steps) room (shown_characters words)) c.counts.ensures)
     (c.push_shown_status.ensures words had) in
-    line_then t0 t2 c.text.new.self view.has_colour (time ++ part) (part_then t0 t1 t2 view.has_colour time part timed said) c.text.ensures
+    line_then t0 t2 c.end_line.new.self view.has_colour (time ++ part) (part_then t0 t1 t2 view.has_colour time part timed said) c.end_line.ensures

@@ -1,4 +1,4 @@
-use Rattle.std.proofs.Common.{◌≡◌, ◌∙◌, ◌+◌, ◌-◌, ◌∷◌, [], ◌++◌, ℕ, ap, arith, sym}
+use Rattle.std.proofs.Common.{◌∙◌, ◌+◌, ◌-◌, ◌∷◌, [], ◌++◌, ℕ, ap, sym}
 use Rattle.stream_panel.specs.Bar.{bar}
 use Rattle.stream_panel.specs.Status.{bar_and_status, bar_cells, bold_within, has_bar, status_part}
 use Rattle.stream_panel.specs.Stretches.{plain}

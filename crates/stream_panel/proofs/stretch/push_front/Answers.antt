@@ -1,4 +1,4 @@
-use Rattle.std.proofs.Common.{None, [], ◌∷◌}
+use Rattle.std.proofs.Common.{[], ◌∷◌}
 use Rattle.term_words.proofs.Appended.{text_all}
 use Rattle.term_words.specs.MessageTexts.{right_text}
 use Rattle.stream_watch.specs.Printed.{time_text}

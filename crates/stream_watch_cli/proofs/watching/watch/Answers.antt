@@ -1,9 +1,7 @@
 -- The next of what the reader gives, by what it is.
-use Rattle.std.proofs.Common.{◌≡◌, ◌++◌, ◌∷◌, [], ℕ, List, Option, refl, sym, subst}
+use Rattle.std.proofs.Common.{◌≡◌, ℕ, List, sym, subst}
 use Rattle.std.specs.Prelude.{IfSome}
 use Rattle.std.specs.Io.Buffered.{reader_remaining}
-use Rattle.stream_check.specs.Judging.{HasJudged}
-use Rattle.stream_check.specs.declared.rules.mode.Mode.{Mode}
 use Rattle.stream_check.specs.declared.verdict.judge.Judge.{Judge}
 use Rattle.stream_lines.specs.Reading.{Gives}
 use Rattle.stream_lines.specs.declared.line.LineEnd.{LineEnd}
@@ -77,7 +75,7 @@ lines-preserved g c =
           let gives = subst (λ (e : LineEnd). IfSome left (Gives e line rest)) w.in-Line.is read.gives in
           let a = c.read_within.new.watcher in
           let tells = subst (λ (text : List ℕ). Tells a w.text.new.self (text_told (looks_of a) (state_of a) a.find text)) w.deref.ensures.value w.in_ok-text-in-Line.ensures in
-          let is_lines = λ (shown : c.args.display.now ≡ Lines). subst (λ (d : Display _ _). d ≡ Lines) (sym w.display-is) (read.same (stays shown)) in
+          let is_lines = λ (shown : c.args.display.now ≡ Lines). subst (λ (d : Display _ _ _). d ≡ Lines) (sym w.display-is) (read.same (stays shown)) in
           let sends = λ (shown : c.args.display.now ≡ Lines).
           subst (λ (b : Watcher). Sends b after (g.W.Write.contents c.read_within.new.output) later) w.watcher-is
           (subst (λ o. Sends c.match-branch-2.watcher after (g.W.Write.contents o) later) w.output-is (c.in-Ok.ensures.sent (is_lines shown))) in (
@@ -91,7 +89,7 @@ lines-preserved g c =
       | in-TooLong+in_ok-too_long-in-TooLong+in_ok-skip_rest-in-TooLong w ↦
           let gives = subst (λ (e : LineEnd). IfSome left (Gives e c.read_within.new.line.text.items rest)) w.in-TooLong.is read.gives in
           let is_lines = λ (shown : c.args.display.now ≡ Lines).
-          subst (λ (d : Display _ _). d ≡ Lines) (sym w.display-is) (w.in_ok-skip_rest-in-TooLong.ensures (read.same (stays shown))) in (
+          subst (λ (d : Display _ _ _). d ≡ Lines) (sym w.display-is) (w.in_ok-skip_rest-in-TooLong.ensures (read.same (stays shown))) in (
             λ shown. c.in-Ok.ensures.same (is_lines shown),
             shown_too_long c.args.mode c.args.looks (c.args.display.now ≡ Lines) all left rest (reader_remaining g.R.Read.remaining c.match-branch-2.reader)
                 c.lines.judge c.match-branch-2.judge c.read_within.new.line.text.items c.lines.watcher after before now later c.lines.invariant.1 gives,

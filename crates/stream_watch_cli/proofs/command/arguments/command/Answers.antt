@@ -1,5 +1,4 @@
 use Rattle.std.proofs.Common.{◌≡◌, ◌∙◌, ap, codes, true}
-use Rattle.std.specs.Prelude.{IfOk}
 use Rattle.clap.specs.Faults.{is_simple_and_free}
 use Rattle.clap.specs.Simple.{App, app_of, app_of_fields, is_simple, new_app, on_top}
 use Rattle.stream_watch_cli.specs.CommandLine.{IsCommand, command_line}
