@@ -1,0 +1,81 @@
+-- What is told of a line and of lines, in rows.
+use Rattle.std.specs.Prelude.{◌≡◌, ℕ, List, [], ◌∷◌, ◌+◌, ◌++◌, ◌==◌, ◌&&◌, Bool, true, false, Option, Some, None, if◌then◌else◌, is_some}
+use Rattle.std.specs.List.{filter, flat_map}
+use Rattle.serde_json.specs.Data.{Data}
+use Rattle.stream_watch.specs.Clock.{elapsed}
+use Rattle.stream_watch.specs.Progress.{is_due, under_way_words}
+use Rattle.stream_watch.specs.Reading.{message_of}
+use Rattle.stream_watch.specs.RefreshRow.{refreshed_words}
+use Rattle.stream_watch.specs.State.{State, Told}
+use Rattle.stream_watch.specs.Stream.{lines_told}
+use Rattle.stream_watch.specs.Telling.{at_moment, moment_of, text_told, told_at}
+use Rattle.stream_watch.specs.declared.looks.Looks.{Looks}
+use Rattle.stream_watch.specs.declared.mark.Mark.{Mark}
+use Rattle.stream_watch.specs.declared.mark.Mark.TheVariants as mark
+use Rattle.laws_watch.specs.Asked.{asked_by}
+use Rattle.laws_watch.specs.Rows.{AreRows, Row, further, rows_bytes, timed, timed_marks}
+
+-- ---- the row before and the row after
+
+-- one row for the refreshes that ended since they were last reported, if there are some
+abbrev pub report_rows : (elapsed : ℕ) → State → List Row
+report_rows elapsed state =
+    if state.refreshes.unreported == 0 then [] else timed elapsed mark.Done (refreshed_words state.refreshes) ∷ []
+
+abbrev pub rows_before : (reports : Bool) → (elapsed : ℕ) → State → List Row
+rows_before reports elapsed state = if reports then report_rows elapsed state else []
+
+-- one row of what is under way
+abbrev pub rows_after : (tells : Bool) → State → List Row
+rows_after tells state =
+    if tells then timed (elapsed state.clock) mark.UnderWay (under_way_words state) ∷ [] else []
+
+abbrev pub under_way_after : Looks → State → (find : Bool) → (line : List ℕ) → (message : Option Data) → Bool
+under_way_after looks state find line None = false
+under_way_after looks state find line (Some tree) =
+    is_some (moment_of tree) && is_due (told_at looks (at_moment (moment_of tree) state) find line tree (moment_of tree)).state
+
+-- after this line, what is under way is told: the line has a time, and a mark of the time has passed
+abbrev pub tells_under_way : Looks → State → (find : Bool) → (line : List ℕ) → Bool
+tells_under_way looks state find line = under_way_after looks state find line (message_of find line)
+
+-- ---- a line
+
+-- What is told of a line: the refreshes, the rows that the line asks for, and what is under way.
+pub record IsToldInRows (looks : Looks) (state : State) (find : Bool) (line : List ℕ) (told : Told) : Type 0 where
+  -- the rows that the line asks for
+  pub own : List Row
+  pub are_asked : AreRows (elapsed told.state.clock) (asked_by find line).marks own
+  pub bytes : told.bytes
+      ≡ rows_bytes looks (rows_before (asked_by find line).reports (elapsed told.state.clock) state ++ own
+      ++ rows_after (tells_under_way looks state find line) told.state)
+
+-- ---- lines
+
+-- the marks that the lines ask for, in their order
+abbrev pub marks_asked : (find : Bool) → (lines : List (List ℕ)) → List Mark
+marks_asked find lines = flat_map (λ line. (asked_by find line).marks) lines
+
+-- What is told of lines, without the rows about refreshes and about what is under way: rows with the
+-- marks that the lines ask for, in their order.
+pub record AreToldInRows (looks : Looks) (find : Bool) (lines : List (List ℕ)) (told : Told) : Type 0 where
+  pub rows : List Row
+  pub bytes : told.bytes ≡ rows_bytes looks rows
+  pub marks : (chosen : Mark → Bool) → chosen mark.Done ≡ false → chosen mark.UnderWay ≡ false
+      → filter chosen (timed_marks rows) ≡ filter chosen (marks_asked find lines)
+
+-- after how many of the lines what is under way is told
+abbrev pub under_way_rows : Looks → (find : Bool) → (lines : List (List ℕ)) → State → ℕ
+under_way_rows looks find [] state = 0
+under_way_rows looks find (line ∷ lines) state =
+    (if tells_under_way looks state find line then 1 else 0)
+    + under_way_rows looks find lines (text_told looks state find line).state
+
+-- ---- states
+
+-- The states differ in the time and in when the steps under way were last told, and in nothing else.
+pub record DifferInTime (before after : State) : Type 0 where
+  pub steps : after.steps ≡ before.steps
+  pub counts : after.counts ≡ before.counts
+  pub refreshes : after.refreshes ≡ before.refreshes
+  pub lengths : after.lengths ≡ before.lengths
