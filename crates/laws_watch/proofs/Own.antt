@@ -25,6 +25,11 @@ pub record OwnRows (looks : Looks) (state : State) (asked : Asked) (told : Told)
   pub bytes : told.bytes ≡ rows_bytes looks (rows_before asked.reports (elapsed state.clock) state) ++ own
   pub kept : KeepsTime state told.state
 
+pub own_as : (looks : Looks) (state after : State) (asked : Asked) (v w : List ℕ) → v ≡ w
+    → OwnRows looks state asked (record { bytes = v; state = after }) → OwnRows looks state asked (record { bytes = w; state = after })
+own_as looks state after asked v w same told =
+    record { own = told.own; rows = told.rows; bytes = sym same ∙ told.bytes; kept = told.kept }
+
 -- ---- without refreshes
 
 -- bytes that are rows, and a state that keeps the time
