@@ -1,5 +1,6 @@
 pub mod Agreement
 pub mod Fronts
 pub mod KindRows
+pub mod LineRows
 pub mod Own
 pub mod Rows

@@ -12,7 +12,7 @@ use Rattle.stream_watch.specs.Telling.{at_moment, moment_of, text_told, told_at}
 use Rattle.stream_watch.specs.declared.looks.Looks.{Looks}
 use Rattle.stream_watch.specs.declared.mark.Mark.{Mark}
 use Rattle.stream_watch.specs.declared.mark.Mark.TheVariants as mark
-use Rattle.laws_watch.specs.Asked.{asked_by}
+use Rattle.laws_watch.specs.Asked.{Asked, asked_by}
 use Rattle.laws_watch.specs.Rows.{AreRows, Row, further, rows_bytes, timed, timed_marks}
 
 -- ---- the row before and the row after
@@ -41,14 +41,13 @@ tells_under_way looks state find line = under_way_after looks state find line (m
 
 -- ---- a line
 
--- What is told of a line: the refreshes, the rows that the line asks for, and what is under way.
-pub record IsToldInRows (looks : Looks) (state : State) (find : Bool) (line : List ℕ) (told : Told) : Type 0 where
+-- What is told of a line that asks for this: the refreshes, its rows, and what is under way.
+pub record IsToldInRows (looks : Looks) (before : State) (asked : Asked) (tells : Bool) (told : Told) : Type 0 where
   -- the rows that the line asks for
   pub own : List Row
-  pub are_asked : AreRows (elapsed told.state.clock) (asked_by find line).marks own
+  pub are_asked : AreRows (elapsed told.state.clock) asked.marks own
   pub bytes : told.bytes
-      ≡ rows_bytes looks (rows_before (asked_by find line).reports (elapsed told.state.clock) state ++ own
-      ++ rows_after (tells_under_way looks state find line) told.state)
+      ≡ rows_bytes looks (rows_before asked.reports (elapsed told.state.clock) before ++ own ++ rows_after tells told.state)
 
 -- ---- lines
 
