@@ -1,0 +1,85 @@
+-- Lines have the rows that they ask for, in their order.
+use Rattle.std.proofs.Common.{◌≡◌, ◌∙◌, ℕ, List, [], ◌∷◌, ◌++◌, ◌==◌, Bool, true, false, ap, append-nil, cond, if◌then◌else◌, refl, sym}
+use Rattle.std.specs.List.{filter, filter_map}
+use Rattle.std.proofs.lemmas.List.Elements.{filter-append, filter_map-append}
+use Rattle.stream_watch.specs.Clock.{elapsed}
+use Rattle.stream_watch.specs.Progress.{under_way_words}
+use Rattle.stream_watch.specs.RefreshRow.{refreshed_words}
+use Rattle.stream_watch.specs.State.{State, Told}
+use Rattle.stream_watch.specs.Stream.{lines_told}
+use Rattle.stream_watch.specs.Telling.{text_told}
+use Rattle.stream_watch.specs.declared.looks.Looks.{Looks}
+use Rattle.stream_watch.specs.declared.mark.Mark.{Mark}
+use Rattle.stream_watch.specs.declared.mark.Mark.TheVariants as mark
+use Rattle.laws_watch.specs.Asked.{Asked, asked_by}
+use Rattle.laws_watch.specs.Rows.{Row, rows_bytes, timed, timed_mark, timed_marks}
+use Rattle.laws_watch.specs.Told.{AreToldInRows, IsToldInRows, marks_asked, report_rows, rows_after, rows_before, tells_under_way}
+use Rattle.laws_watch.proofs.LineRows.{line_rows}
+use Rattle.laws_watch.proofs.Rows.{rows_append}
+
+-- ---- rows without the chosen marks
+
+chosen_one : (chosen : Mark → Bool) (m : Mark) → chosen m ≡ false → filter chosen (m ∷ []) ≡ []
+chosen_one chosen m none = ap (λ (b : Bool). cond b (m ∷ []) []) none
+
+report_if : (none : Bool) (chosen : Mark → Bool) (row : List ℕ) (time : ℕ) → chosen mark.Done ≡ false
+    → filter chosen (timed_marks (if none then [] else timed time mark.Done row ∷ [])) ≡ []
+report_if true chosen row time other = refl
+report_if false chosen row time other = chosen_one chosen mark.Done other
+
+before_other : (reports : Bool) (chosen : Mark → Bool) (time : ℕ) (state : State) → chosen mark.Done ≡ false
+    → filter chosen (timed_marks (rows_before reports time state)) ≡ []
+before_other true chosen time state other =
+    report_if (state.refreshes.unreported == 0) chosen (refreshed_words state.refreshes) time other
+before_other false chosen time state other = refl
+
+after_other : (tells : Bool) (chosen : Mark → Bool) (state : State) → chosen mark.UnderWay ≡ false
+    → filter chosen (timed_marks (rows_after tells state)) ≡ []
+after_other true chosen state other = chosen_one chosen mark.UnderWay other
+after_other false chosen state other = refl
+
+chosen_then : (chosen : Mark → Bool) (xs ys : List Row)
+    → filter chosen (timed_marks (xs ++ ys)) ≡ filter chosen (timed_marks xs) ++ filter chosen (timed_marks ys)
+chosen_then chosen xs ys =
+    ap (filter chosen) (filter_map-append timed_mark xs ys) ∙ filter-append chosen (timed_marks xs) (timed_marks ys)
+
+own_chosen : (chosen : Mark → Bool) (before own after : List Row) → filter chosen (timed_marks before) ≡ [] → filter chosen (timed_marks after) ≡ []
+    → filter chosen (timed_marks (before ++ own ++ after)) ≡ filter chosen (timed_marks own)
+own_chosen chosen before own after front back =
+    chosen_then chosen (before ++ own) after
+    ∙ ap (λ (x : List Mark). filter chosen (timed_marks (before ++ own)) ++ x) back
+    ∙ append-nil (filter chosen (timed_marks (before ++ own)))
+    ∙ chosen_then chosen before own
+    ∙ ap (λ (x : List Mark). x ++ filter chosen (timed_marks own)) front
+
+-- ---- the rows of one line, and of those after it
+
+with_line : (looks : Looks) (find : Bool) (line : List ℕ) (lines : List (List ℕ)) (state : State) (tells : Bool) (told next : Told)
+    → IsToldInRows looks state (asked_by find line) tells told → AreToldInRows looks find lines next
+    → AreToldInRows looks find (line ∷ lines) (record { bytes = told.bytes ++ next.bytes; state = next.state })
+with_line looks find line lines state tells told next first rest =
+    let before = rows_before (asked_by find line).reports (elapsed told.state.clock) state in
+    let after = rows_after tells told.state in
+    let rows : List Row = before ++ first.own ++ after in
+    record {
+      rows = rows ++ rest.rows;
+      bytes = ap (λ (x : List ℕ). x ++ next.bytes) first.bytes ∙ ap (λ (x : List ℕ). rows_bytes looks rows ++ x) rest.bytes
+          ∙ sym (rows_append looks rows rest.rows);
+      marks = λ chosen done under_way.
+          chosen_then chosen rows rest.rows
+          ∙ ap (λ (x : List Mark). x ++ filter chosen (timed_marks rest.rows))
+          (own_chosen chosen before first.own after
+          (before_other (asked_by find line).reports chosen (elapsed told.state.clock) state done)
+          (after_other tells chosen told.state under_way)
+          ∙ ap (filter chosen) first.are_asked.marks)
+          ∙ ap (λ (x : List Mark). filter chosen (asked_by find line).marks ++ x) (rest.marks chosen done under_way)
+          ∙ sym (filter-append chosen (asked_by find line).marks (marks_asked find lines));
+    }
+
+pub lines_rows : (looks : Looks) (find : Bool) (lines : List (List ℕ)) (state : State)
+    → AreToldInRows looks find lines (lines_told looks find lines state)
+lines_rows looks find [] state = record { rows = []; bytes = refl; marks = λ chosen done under_way. refl }
+lines_rows looks find (line ∷ lines) state =
+    let told = text_told looks state find line in
+    with_line looks find line lines state (tells_under_way looks state find line) told (lines_told looks find lines told.state)
+    (line_rows looks state find line) (lines_rows looks find lines told.state)
