@@ -1,8 +1,12 @@
 pub mod Agreement
+pub mod Errors
 pub mod Fronts
 pub mod KindRows
+pub mod LastRow
 pub mod LineRows
 pub mod LinesRows
 pub mod Marks
+pub mod NoUnderWay
 pub mod Own
+pub mod Progress
 pub mod Rows

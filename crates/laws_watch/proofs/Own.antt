@@ -57,9 +57,9 @@ reported_if none looks state =
 report_if : (none : Bool) → (time : ℕ) → State → List Row
 report_if none time state = if none then [] else timed time mark.Done (refreshed_words state.refreshes) ∷ []
 
-record IsReport (looks : Looks) (state : State) (rows : List Row) (told : Told) : Type 0 where
-  bytes : told.bytes ≡ rows_bytes looks rows
-  kept : KeepsTime state told.state
+pub record IsReport (looks : Looks) (state : State) (rows : List Row) (told : Told) : Type 0 where
+  pub bytes : told.bytes ≡ rows_bytes looks rows
+  pub kept : KeepsTime state told.state
 
 report_is_if : (none : Bool) (looks : Looks) (state : State) → IsReport looks state (report_if none (elapsed state.clock) state) (reported_if none looks state)
 unfolding reported_if report_if
@@ -70,7 +70,7 @@ report_is_if false looks state = record {
   kept = record { clock = refl; marks = refl };
 }
 
-report_is : (looks : Looks) (state : State) → IsReport looks state (report_rows (elapsed state.clock) state) (reported_told looks state)
+pub report_is : (looks : Looks) (state : State) → IsReport looks state (report_rows (elapsed state.clock) state) (reported_told looks state)
 unfolding reported_if report_if
 report_is looks state = report_is_if (state.refreshes.unreported == 0) looks state
 

@@ -15,6 +15,11 @@ use Rattle.stream_watch.specs.declared.mark.Mark.TheVariants as mark
 use Rattle.laws_watch.specs.Asked.{Asked, asked_by}
 use Rattle.laws_watch.specs.Rows.{AreRows, Row, further, rows_bytes, timed, timed_marks}
 
+-- the mark of what is under way
+abbrev pub is_under_way : Mark → Bool
+is_under_way mark.UnderWay = true
+is_under_way _ = false
+
 -- ---- the row before and the row after
 
 -- one row for the refreshes that ended since they were last reported, if there are some
