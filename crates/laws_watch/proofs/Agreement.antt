@@ -1,5 +1,5 @@
 -- Where a message asks for rows, something is told, and these rows are told.
-use Rattle.std.proofs.Common.{◌≡◌, Bool, true, false, Option, None, Some, if◌then◌else◌, option_and_then, option_map, unwrap_or}
+use Rattle.std.proofs.Common.{Bool, true, false, Option, None, Some, if◌then◌else◌, option_and_then, option_map, unwrap_or}
 use Rattle.apply_json.specs.Tree.{◌>>=◌}
 use Rattle.stream_watch.specs.State.{State, Told}
 use Rattle.stream_watch.specs.declared.looks.Looks.{Looks}

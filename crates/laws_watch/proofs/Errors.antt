@@ -1,19 +1,17 @@
 -- Which rows errors ask for.
-use Rattle.std.proofs.Common.{◌≡◌, ◌∙◌, ℕ, List, [], ◌∷◌, Bool, true, false, Option, None, Some, ap, codes, is_some, option_and_then, option_map, refl, subst, sym, unwrap_or}
+use Rattle.std.proofs.Common.{◌≡◌, ◌∙◌, ℕ, List, [], ◌∷◌, Bool, true, Option, None, Some, ap, codes, is_some, option_and_then, option_map, refl, unwrap_or}
 use Rattle.std.proofs.lemmas.Bool.{false≢true}
 use Rattle.serde_json.specs.Data.{Data}
 use Rattle.apply_json.specs.Tree.{◌>>=◌, member_of, text_of}
 use Rattle.stream_message.specs.Kinds.{kind_named}
-use Rattle.stream_message.specs.declared.stage.Stage.{Stage}
 use Rattle.stream_message.specs.declared.stage.Stage.TheVariants as stage
 use Rattle.term_text.specs.LineTexts.{text_lines}
 use Rattle.stream_watch.specs.DiagnosticRow.{severity_mark, text_or_nothing}
 use Rattle.stream_watch.specs.Hooks.{Hook, hook_of}
 use Rattle.stream_watch.specs.Reading.{message_of}
 use Rattle.stream_watch.specs.StepRows.{NamedStep, step_of}
-use Rattle.stream_watch.specs.declared.mark.Mark.{Mark}
 use Rattle.stream_watch.specs.declared.mark.Mark.TheVariants as mark
-use Rattle.laws_watch.specs.Asked.{Asked, asked_by, of_kind, of_message, of_message_or_line, of_provisioner, of_stage, of_text, reporting}
+use Rattle.laws_watch.specs.Asked.{Asked, asked_by, of_kind, of_message_or_line, of_provisioner, of_stage, of_text, only, reporting}
 
 -- by the message of the line, and by its type
 message_is : (find : Bool) (line : List ℕ) (tree : Data) (name : List ℕ) → message_of find line ≡ Some tree → text_of (codes "type") tree ≡ Some name
@@ -25,33 +23,32 @@ message_is find line tree name message type =
 
 pub error_row : (find : Bool) (line : List ℕ) (tree diagnostic : Data) → message_of find line ≡ Some tree
     → text_of (codes "type") tree ≡ Some (codes "diagnostic") → member_of (codes "diagnostic") tree ≡ Some diagnostic
-    → text_of (codes "severity") diagnostic ≡ Some (codes "error") → (asked_by find line).marks ≡ mark.Failed ∷ []
+    → text_of (codes "severity") diagnostic ≡ Some (codes "error") → asked_by find line ≡ reporting (mark.Failed ∷ [])
 error_row find line tree diagnostic message type member severity =
     let other = of_text line (text_lines (text_or_nothing (codes "@message") tree)) in
     let by_severity = λ (d : Data). option_map (λ (s : List ℕ). reporting (severity_mark s ∷ [])) (text_of (codes "severity") d) in
-    ap (λ (asked : Asked). asked.marks)
-    (message_is find line tree (codes "diagnostic") message type
+    message_is find line tree (codes "diagnostic") message type
     ∙ ap (λ (o : Option Data). unwrap_or (o >>= by_severity) other) member
-    ∙ ap (λ (o : Option (List ℕ)). unwrap_or (option_map (λ (s : List ℕ). reporting (severity_mark s ∷ [])) o) other) severity)
+    ∙ ap (λ (o : Option (List ℕ)). unwrap_or (option_map (λ (s : List ℕ). reporting (severity_mark s ∷ [])) o) other) severity
 
 failed_step : (other : Asked) (step : Option NamedStep) → is_some step ≡ true
-    → (unwrap_or (option_map (λ (named : NamedStep). of_stage named.action stage.Errored) step) other).marks ≡ mark.Failed ∷ []
+    → unwrap_or (option_map (λ (named : NamedStep). of_stage named.action stage.Errored) step) other ≡ only (mark.Failed ∷ [])
 failed_step other None is = absurd (false≢true is)
 failed_step other (Some step) is = refl
 
 pub step_row : (find : Bool) (line : List ℕ) (tree : Data) → message_of find line ≡ Some tree → text_of (codes "type") tree ≡ Some (codes "apply_errored")
-    → is_some (step_of tree) ≡ true → (asked_by find line).marks ≡ mark.Failed ∷ []
+    → is_some (step_of tree) ≡ true → asked_by find line ≡ only (mark.Failed ∷ [])
 step_row find line tree message type step =
-    ap (λ (asked : Asked). asked.marks) (message_is find line tree (codes "apply_errored") message type)
+    message_is find line tree (codes "apply_errored") message type
     ∙ failed_step (of_text line (text_lines (text_or_nothing (codes "@message") tree))) (step_of tree) step
 
 failed_provisioner : (other : Asked) (hook : Option Hook) → is_some hook ≡ true
-    → (unwrap_or (hook >>= of_provisioner stage.Errored) other).marks ≡ mark.Failed ∷ []
+    → unwrap_or (hook >>= of_provisioner stage.Errored) other ≡ only (mark.Failed ∷ [])
 failed_provisioner other None is = absurd (false≢true is)
 failed_provisioner other (Some named) is = refl
 
 pub provisioner_row : (find : Bool) (line : List ℕ) (tree : Data) → message_of find line ≡ Some tree
-    → text_of (codes "type") tree ≡ Some (codes "provision_errored") → is_some (hook_of tree) ≡ true → (asked_by find line).marks ≡ mark.Failed ∷ []
+    → text_of (codes "type") tree ≡ Some (codes "provision_errored") → is_some (hook_of tree) ≡ true → asked_by find line ≡ only (mark.Failed ∷ [])
 provisioner_row find line tree message type hook =
-    ap (λ (asked : Asked). asked.marks) (message_is find line tree (codes "provision_errored") message type)
+    message_is find line tree (codes "provision_errored") message type
     ∙ failed_provisioner (of_text line (text_lines (text_or_nothing (codes "@message") tree))) (hook_of tree) hook

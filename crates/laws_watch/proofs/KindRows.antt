@@ -1,6 +1,6 @@
 -- A message of each kind has the rows that it asks for.
-use Rattle.std.proofs.Common.{◌≡◌, ◌∙◌, ℕ, ℤ, List, [], ◌∷◌, ◌++◌, ◌==◌, ◌<◌, Bool, true, false, Option, None, Some, ap, append_assoc, arith, codes, find, if◌then◌else◌, length, map, option_map, refl, subst, sym}
-use Rattle.std.specs.List.{count_by, filter, flat_map}
+use Rattle.std.proofs.Common.{◌≡◌, ◌∙◌, ℕ, ℤ, List, [], ◌∷◌, ◌++◌, ◌==◌, ◌<◌, Bool, true, false, Option, None, Some, ap, append_assoc, arith, codes, find, if◌then◌else◌, length, map, refl, subst, sym}
+use Rattle.std.specs.List.{count_by, flat_map}
 use Rattle.std.specs.Option.{option_map_or}
 use Rattle.std.specs.Str.{bytes_eq}
 use Rattle.std.proofs.lemmas.Bool.{false≢true}
@@ -8,39 +8,39 @@ use Rattle.std.proofs.lemmas.Bool.Decides.{nat_tests}
 use Rattle.std.proofs.lemmas.List.Concat.{flat_map_single}
 use Rattle.std.proofs.lemmas.List.Sums.{length-filter}
 use Rattle.serde_json.specs.Data.{Data}
-use Rattle.apply_json.specs.Tree.{◌>>=◌, member_of, text_of}
+use Rattle.apply_json.specs.Tree.{member_of, text_of}
 use Rattle.stream_message.specs.declared.kind.Kind.{Kind}
 use Rattle.stream_message.specs.declared.kind.Kind.TheVariants as kind
 use Rattle.stream_message.specs.declared.stage.Stage.{Stage}
 use Rattle.stream_message.specs.declared.stage.Stage.TheVariants as stage
 use Rattle.term_text.specs.LineTexts.{text_lines}
 use Rattle.stream_watch.specs.AfterRefreshes.{told_after_refreshes}
-use Rattle.stream_watch.specs.Changes.{NamedChange, change_of, counting, drift_told, drift_words, planned_told, planned_words}
+use Rattle.stream_watch.specs.Changes.{NamedChange, change_of, counting, drift_words, planned_words}
 use Rattle.stream_watch.specs.Clock.{elapsed}
 use Rattle.stream_watch.specs.Counts.{is_change}
-use Rattle.stream_watch.specs.DiagnosticRow.{address_of, body_lines, diagnostic_told, diagnostic_words, severity_mark, severity_told, without_reads}
+use Rattle.stream_watch.specs.DiagnosticRow.{address_of, body_lines, diagnostic_words, severity_mark, severity_told, without_reads}
 use Rattle.stream_watch.specs.FurtherLines.{further_lines}
 use Rattle.stream_watch.specs.Hooks.{Hook, hook_of}
 use Rattle.stream_watch.specs.Marks.{planned_mark}
-use Rattle.stream_watch.specs.Noted.{with_length_of, with_noted}
+use Rattle.stream_watch.specs.Noted.{with_length_of}
 use Rattle.stream_watch.specs.OutputRows.{all_told, count_bytes, has_outputs, is_unplanned, outputs_told, planned_action, planned_bytes, planned_outputs, unplanned, value_outputs, value_words}
 use Rattle.stream_watch.specs.OutputRows as output_rows
 use Rattle.stream_watch.specs.Outputs.{OutputView, outputs_of}
-use Rattle.stream_watch.specs.ProvisionerRows.{one_at_least, output_bytes, output_told, provision_told, told_of_provisioner}
-use Rattle.stream_watch.specs.RefreshRow.{refresh_state, refresh_told, reported_told}
-use Rattle.stream_watch.specs.State.{State, Told, line_at, line_told, nothing, told_then}
-use Rattle.stream_watch.specs.StepRows.{NamedStep, began_told, step_of, step_told, told_of_step, with_step}
+use Rattle.stream_watch.specs.ProvisionerRows.{one_at_least, output_bytes, output_told, told_of_provisioner}
+use Rattle.stream_watch.specs.RefreshRow.{refresh_state, reported_told}
+use Rattle.stream_watch.specs.State.{State, line_at, line_told, nothing, told_then}
+use Rattle.stream_watch.specs.StepRows.{NamedStep, step_of, told_of_step, with_step}
 use Rattle.stream_watch.specs.Steps.{Step}
-use Rattle.stream_watch.specs.SummaryRow.{summary_told, summary_words}
+use Rattle.stream_watch.specs.SummaryRow.{summary_words}
 use Rattle.stream_watch.specs.Telling.{kind_told, version_words}
 use Rattle.stream_watch.specs.Words.{step_words}
 use Rattle.stream_watch.specs.declared.looks.Looks.{Looks}
 use Rattle.stream_watch.specs.declared.mark.Mark.{Mark}
 use Rattle.stream_watch.specs.declared.mark.Mark.TheVariants as mark
-use Rattle.laws_watch.specs.Asked.{Asked, of_action, of_kind, of_others, of_output, of_outputs, of_planned, of_provisioner, of_stage, only, output_of, reporting}
+use Rattle.laws_watch.specs.Asked.{of_action, of_kind, of_others, of_output, of_outputs, of_planned, of_provisioner, of_stage, output_of, reporting}
 use Rattle.laws_watch.proofs.Agreement.{Agree, agree_if, agree_map, agree_then}
 use Rattle.laws_watch.proofs.Own.{KeepsTime, OwnRows, own_after_refreshes, own_as, own_line, own_nothing, own_only, own_reporting, same_time}
-use Rattle.laws_watch.proofs.Rows.{HasRows, line_and_further, no_rows, one_line, rows_at, rows_of_each, rows_then}
+use Rattle.laws_watch.proofs.RowBytes.{HasRows, line_and_further, no_rows, one_line, rows_at, rows_of_each, rows_then}
 
 -- ---- steps
 

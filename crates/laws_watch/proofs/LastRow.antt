@@ -1,26 +1,26 @@
 -- The verdict is the last row.
-use Rattle.std.proofs.Common.{◌≡◌, ◌∙◌, ℕ, List, [], ◌∷◌, ◌++◌, ◌==◌, ◌&&◌, Bool, true, false, Result, Ok, Err, ◌-◌, ap, append_assoc, cond, if◌then◌else◌, is_ok, length, refl, sym}
+use Rattle.std.proofs.Common.{◌≡◌, ◌∙◌, ℕ, List, [], ◌++◌, ◌&&◌, Bool, true, false, Result, Ok, Err, ◌-◌, ap, append_assoc, cond, if◌then◌else◌, is_ok, length, refl, sym}
 use Rattle.std.specs.Prelude.{nat_lt, string_bytes}
 use Rattle.stream_check.specs.declared.verdict.finding.Finding.{Finding}
 use Rattle.stream_check.specs.declared.verdict.judge.Verdict.{Verdict}
 use Rattle.stream_check.specs.declared.verdict.whole.Whole.{Whole}
 use Rattle.stream_watch.specs.Clock.{elapsed}
-use Rattle.stream_watch.specs.Ending.{are_left, end_told, left_told, more_open_told, open_told, open_told_unless, planned_steps_told}
+use Rattle.stream_watch.specs.Ending.{are_left, end_told, open_told_unless}
 use Rattle.stream_watch.specs.Marks.{is_in_panel}
 use Rattle.stream_watch.specs.Printed.{line_bytes}
 use Rattle.stream_watch.specs.RefreshRow.{reported_told}
-use Rattle.stream_watch.specs.State.{State, Told, beginning, line_at, line_told, nothing, told_then}
+use Rattle.stream_watch.specs.State.{State, beginning, line_at, line_told, nothing}
 use Rattle.stream_watch.specs.Stream.{last_told, lines_told, stream_told}
-use Rattle.stream_watch.specs.VerdictRow.{verdict_mark, verdict_told, verdict_words, whole_mark}
+use Rattle.stream_watch.specs.VerdictRow.{verdict_mark, verdict_words, whole_mark}
 use Rattle.stream_watch.specs.declared.clock.Clock.{Clock}
 use Rattle.stream_watch.specs.declared.looks.Looks.{Looks}
 use Rattle.stream_watch.specs.declared.mark.Mark.{Mark}
 use Rattle.stream_watch.specs.declared.mark.Mark.TheVariants as mark
-use Rattle.laws_watch.specs.Rows.{Row, row_bytes, timed}
+use Rattle.laws_watch.specs.Rows.{row_bytes, timed}
 use Rattle.laws_watch.specs.Verdict.{IsGood, told_before_verdict, verdict_row}
 use Rattle.laws_watch.proofs.Fronts.{front_bytes}
 use Rattle.laws_watch.proofs.Own.{KeepsTime, report_is, same_time}
-use Rattle.laws_watch.proofs.Rows.{line_row}
+use Rattle.laws_watch.proofs.RowBytes.{line_row}
 
 -- ---- the end keeps the time
 
@@ -89,6 +89,7 @@ pub front_of_stream : (looks : Looks) (find : Bool) (front rest : List (List ℕ
 front_of_stream looks find front rest verdict =
     let first = lines_told looks find front beginning in
     let second = lines_told looks find rest first.state in
-    let last = (last_told looks verdict (lines_told looks find (front ++ rest) beginning).state).bytes in
-    (second.bytes ++ last,
-    ap (λ (v : List ℕ). v ++ last) (front_bytes looks find front rest beginning) ∙ append_assoc first.bytes second.bytes last)
+    let last = (last_told looks verdict (lines_told looks find (front ++ rest) beginning).state).bytes in (
+      second.bytes ++ last,
+      ap (λ (v : List ℕ). v ++ last) (front_bytes looks find front rest beginning) ∙ append_assoc first.bytes second.bytes last,
+    )

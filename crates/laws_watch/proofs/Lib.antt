@@ -8,5 +8,6 @@ pub mod LinesRows
 pub mod Marks
 pub mod NoUnderWay
 pub mod Own
-pub mod Progress
-pub mod Rows
+pub mod ProgressLines
+pub mod RowBytes
+pub mod WholeLines

@@ -9,19 +9,19 @@ use Rattle.stream_watch.specs.Clock.{elapsed}
 use Rattle.stream_watch.specs.DiagnosticRow.{text_or_nothing}
 use Rattle.stream_watch.specs.Progress.{is_due, marks_at, slow_told, under_way_words}
 use Rattle.stream_watch.specs.Reading.{message_of}
-use Rattle.stream_watch.specs.State.{State, Told, line_at, line_told, nothing, told_then}
-use Rattle.stream_watch.specs.Telling.{at_moment, kind_told, lines_or_line_told, message_or_line_told, message_told, moment_of, other_told, passed_told, row_or_text_told, row_told, text_told, told_at, under_way_told_if}
+use Rattle.stream_watch.specs.State.{State, Told, line_told, nothing}
+use Rattle.stream_watch.specs.Telling.{at_moment, kind_told, lines_or_line_told, message_or_line_told, moment_of, passed_told, row_or_text_told, row_told, text_told, told_at, under_way_told_if}
 use Rattle.stream_watch.specs.declared.clock.Clock.{Clock}
 use Rattle.stream_watch.specs.declared.looks.Looks.{Looks}
 use Rattle.stream_watch.specs.declared.refreshes.Refreshes.{Refreshes}
 use Rattle.stream_watch.specs.declared.mark.Mark.TheVariants as mark
 use Rattle.laws_watch.specs.Asked.{Asked, asked_by, of_kind, of_message, of_message_or_line, of_passed, of_row, of_text, only}
-use Rattle.laws_watch.specs.Rows.{AreRows, Row, row_bytes, rows_bytes, timed}
+use Rattle.laws_watch.specs.Rows.{AreRows, row_bytes, rows_bytes, timed}
 use Rattle.laws_watch.specs.Told.{IsToldInRows, rows_after, rows_before, tells_under_way, under_way_after}
 use Rattle.laws_watch.proofs.Agreement.{agree_and_then, agree_or}
 use Rattle.laws_watch.proofs.KindRows.{kind_rows}
-use Rattle.laws_watch.proofs.Own.{KeepsTime, OwnRows, own_line, own_nothing, own_only, same_time}
-use Rattle.laws_watch.proofs.Rows.{line_and_further, line_row, rows_append}
+use Rattle.laws_watch.proofs.Own.{OwnRows, own_line, own_nothing, own_only, same_time}
+use Rattle.laws_watch.proofs.RowBytes.{line_and_further, line_row, rows_append}
 
 -- ---- texts
 

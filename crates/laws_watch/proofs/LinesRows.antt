@@ -1,9 +1,9 @@
 -- Lines have the rows that they ask for, in their order.
-use Rattle.std.proofs.Common.{◌≡◌, ◌∙◌, ℕ, List, [], ◌∷◌, ◌++◌, ◌==◌, Bool, true, false, ap, append-nil, cond, if◌then◌else◌, refl, sym}
-use Rattle.std.specs.List.{filter, filter_map}
+use Rattle.std.proofs.Common.{◌≡◌, ◌∙◌, ℕ, List, [], ◌∷◌, ◌++◌, ◌==◌, Bool, true, false, ◌+◌, ap, append-nil, cond, if◌then◌else◌, length, length-append, refl, sym}
+use Rattle.std.specs.List.{filter}
 use Rattle.std.proofs.lemmas.List.Elements.{filter-append, filter_map-append}
+use Rattle.std.proofs.lemmas.List.Sums.{length-filter}
 use Rattle.stream_watch.specs.Clock.{elapsed}
-use Rattle.stream_watch.specs.Progress.{under_way_words}
 use Rattle.stream_watch.specs.RefreshRow.{refreshed_words}
 use Rattle.stream_watch.specs.State.{State, Told}
 use Rattle.stream_watch.specs.Stream.{lines_told}
@@ -11,11 +11,12 @@ use Rattle.stream_watch.specs.Telling.{text_told}
 use Rattle.stream_watch.specs.declared.looks.Looks.{Looks}
 use Rattle.stream_watch.specs.declared.mark.Mark.{Mark}
 use Rattle.stream_watch.specs.declared.mark.Mark.TheVariants as mark
-use Rattle.laws_watch.specs.Asked.{Asked, asked_by}
+use Rattle.laws_watch.specs.Asked.{asked_by}
 use Rattle.laws_watch.specs.Rows.{Row, rows_bytes, timed, timed_mark, timed_marks}
-use Rattle.laws_watch.specs.Told.{AreToldInRows, IsToldInRows, marks_asked, report_rows, rows_after, rows_before, tells_under_way}
+use Rattle.laws_watch.specs.Told.{AreToldInRows, IsToldInRows, is_under_way, marks_asked, rows_after, rows_before, tells_under_way, under_way_rows}
 use Rattle.laws_watch.proofs.LineRows.{line_rows}
-use Rattle.laws_watch.proofs.Rows.{rows_append}
+use Rattle.laws_watch.proofs.NoUnderWay.{asked_none}
+use Rattle.laws_watch.proofs.RowBytes.{rows_append}
 
 -- ---- rows without the chosen marks
 
@@ -52,12 +53,32 @@ own_chosen chosen before own after front back =
     ∙ chosen_then chosen before own
     ∙ ap (λ (x : List Mark). x ++ filter chosen (timed_marks own)) front
 
+-- ---- rows of what is under way
+
+none_before : (reports : Bool) (time : ℕ) (state : State) → filter is_under_way (timed_marks (rows_before reports time state)) ≡ []
+none_before reports time state = before_other reports is_under_way time state refl
+
+one_after : (tells : Bool) (state : State) → length (filter is_under_way (timed_marks (rows_after tells state))) ≡ (if tells then 1 else 0)
+one_after true state = refl
+one_after false state = refl
+
+own_under_way : (tells : Bool) (before own : List Row) (state : State) → filter is_under_way (timed_marks before) ≡ [] → filter is_under_way (timed_marks own) ≡ []
+    → length (filter is_under_way (timed_marks (before ++ own ++ rows_after tells state))) ≡ (if tells then 1 else 0)
+own_under_way tells before own state front middle =
+    ap length (chosen_then is_under_way (before ++ own) (rows_after tells state)
+    ∙ ap (λ (x : List Mark). x ++ filter is_under_way (timed_marks (rows_after tells state)))
+    (chosen_then is_under_way before own
+    ∙ ap (λ (x : List Mark). x ++ filter is_under_way (timed_marks own)) front ∙ middle))
+    ∙ one_after tells state
+
 -- ---- the rows of one line, and of those after it
 
-with_line : (looks : Looks) (find : Bool) (line : List ℕ) (lines : List (List ℕ)) (state : State) (tells : Bool) (told next : Told)
-    → IsToldInRows looks state (asked_by find line) tells told → AreToldInRows looks find lines next
-    → AreToldInRows looks find (line ∷ lines) (record { bytes = told.bytes ++ next.bytes; state = next.state })
-with_line looks find line lines state tells told next first rest =
+with_line : (looks : Looks) (find : Bool) (line : List ℕ) (lines : List (List ℕ)) (state : State) (told next : Told)
+    → IsToldInRows looks state (asked_by find line) (tells_under_way looks state find line) told → told ≡ text_told looks state find line
+    → AreToldInRows looks find lines told.state next
+    → AreToldInRows looks find (line ∷ lines) state (record { bytes = told.bytes ++ next.bytes; state = next.state })
+with_line looks find line lines state told next first is rest =
+    let tells = tells_under_way looks state find line in
     let before = rows_before (asked_by find line).reports (elapsed told.state.clock) state in
     let after = rows_after tells told.state in
     let rows : List Row = before ++ first.own ++ after in
@@ -65,21 +86,30 @@ with_line looks find line lines state tells told next first rest =
       rows = rows ++ rest.rows;
       bytes = ap (λ (x : List ℕ). x ++ next.bytes) first.bytes ∙ ap (λ (x : List ℕ). rows_bytes looks rows ++ x) rest.bytes
           ∙ sym (rows_append looks rows rest.rows);
-      marks = λ chosen done under_way.
+      asked = λ chosen done under_way.
           chosen_then chosen rows rest.rows
           ∙ ap (λ (x : List Mark). x ++ filter chosen (timed_marks rest.rows))
           (own_chosen chosen before first.own after
           (before_other (asked_by find line).reports chosen (elapsed told.state.clock) state done)
           (after_other tells chosen told.state under_way)
           ∙ ap (filter chosen) first.are_asked.marks)
-          ∙ ap (λ (x : List Mark). filter chosen (asked_by find line).marks ++ x) (rest.marks chosen done under_way)
+          ∙ ap (λ (x : List Mark). filter chosen (asked_by find line).marks ++ x) (rest.asked chosen done under_way)
           ∙ sym (filter-append chosen (asked_by find line).marks (marks_asked find lines));
+      under_way = sym (length-filter is_under_way (timed_marks (rows ++ rest.rows)))
+          ∙ ap length (chosen_then is_under_way rows rest.rows)
+          ∙ length-append (filter is_under_way (timed_marks rows)) (filter is_under_way (timed_marks rest.rows))
+          ∙ ap (λ (n : ℕ). n + length (filter is_under_way (timed_marks rest.rows)))
+          (own_under_way tells before first.own told.state (none_before (asked_by find line).reports (elapsed told.state.clock) state)
+          (ap (filter is_under_way) first.are_asked.marks ∙ asked_none find line))
+          ∙ ap (λ (n : ℕ). (if tells then 1 else 0) + n)
+          (length-filter is_under_way (timed_marks rest.rows) ∙ rest.under_way
+          ∙ ap (λ (t : Told). under_way_rows looks find lines t.state) is);
     }
 
 pub lines_rows : (looks : Looks) (find : Bool) (lines : List (List ℕ)) (state : State)
-    → AreToldInRows looks find lines (lines_told looks find lines state)
-lines_rows looks find [] state = record { rows = []; bytes = refl; marks = λ chosen done under_way. refl }
+    → AreToldInRows looks find lines state (lines_told looks find lines state)
+lines_rows looks find [] state = record { rows = []; bytes = refl; asked = λ chosen done under_way. refl; under_way = refl }
 lines_rows looks find (line ∷ lines) state =
     let told = text_told looks state find line in
-    with_line looks find line lines state (tells_under_way looks state find line) told (lines_told looks find lines told.state)
-    (line_rows looks state find line) (lines_rows looks find lines told.state)
+    with_line looks find line lines state told (lines_told looks find lines told.state)
+    (line_rows looks state find line) refl (lines_rows looks find lines told.state)

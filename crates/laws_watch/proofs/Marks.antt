@@ -1,15 +1,15 @@
 -- Marks of the time pass one after another, and what is under way is told once at most for each.
-use Rattle.std.proofs.Common.{◌≡◌, ◌∙◌, ℕ, ℤ, pos, negsuc, ◌+◌, ◌-◌, ◌/◌, ◌<◌, ◌≤◌, List, [], ◌∷◌, ◌&&◌, Bool, true, false, Option, None, Some, ap, arith, cond, if◌then◌else◌, is_some, ltb, refl, subst, sym, unwrap_or, ⊎_elim}
+use Rattle.std.proofs.Common.{◌≡◌, ℕ, ℤ, pos, negsuc, ◌+◌, ◌/◌, ◌<◌, ◌≤◌, List, [], ◌∷◌, ◌&&◌, Bool, true, false, Option, None, Some, arith, if◌then◌else◌, is_some, refl, subst, sym, unwrap_or, ⊎_elim}
 use Rattle.std.specs.Prelude.{int_lt, nat_lt}
 use Rattle.std.specs.Int.{int_gap, int_max}
 use Rattle.std.proofs.lemmas.Bool.{cases_Bool, ltb-false, ltb-true}
 use Rattle.std.proofs.lemmas.Bool.Decides.{nat_tests}
 use Rattle.serde_json.specs.Data.{Data}
-use Rattle.stream_watch.specs.Clock.{after, after_moment, elapsed}
+use Rattle.stream_watch.specs.Clock.{after, elapsed}
 use Rattle.stream_watch.specs.Counts.{plus}
-use Rattle.stream_watch.specs.Progress.{early_marks, is_due, is_slow, marks_at, slow_told}
+use Rattle.stream_watch.specs.Progress.{early_marks, is_due, marks_at, slow_told}
 use Rattle.stream_watch.specs.Reading.{message_of}
-use Rattle.stream_watch.specs.State.{State, Told, beginning, nothing}
+use Rattle.stream_watch.specs.State.{State, beginning, nothing}
 use Rattle.stream_watch.specs.Stream.{lines_told}
 use Rattle.stream_watch.specs.Telling.{at_moment, message_or_line_told, moment_of, passed_told, text_told, told_at, under_way_told_if}
 use Rattle.stream_watch.specs.declared.clock.Clock.{Clock}

@@ -1,5 +1,5 @@
 -- No line asks for a row of what is under way.
-use Rattle.std.proofs.Common.{◌≡◌, ◌∙◌, ℕ, ◌+◌, List, [], ◌∷◌, ◌++◌, ◌==◌, Bool, true, false, Option, None, Some, ap, arith, codes, cond, if◌then◌else◌, map, option_and_then, option_map, refl, sym, unwrap_or}
+use Rattle.std.proofs.Common.{◌≡◌, ◌∙◌, ℕ, List, [], ◌∷◌, ◌++◌, ◌==◌, Bool, true, false, Option, None, Some, ap, codes, cond, if◌then◌else◌, map, option_and_then, option_map, refl, unwrap_or}
 use Rattle.std.specs.List.{count_by, filter, flat_map}
 use Rattle.std.specs.Str.{bytes_eq}
 use Rattle.std.proofs.lemmas.List.Elements.{filter-append}
@@ -23,7 +23,7 @@ use Rattle.stream_watch.specs.StepRows.{step_of}
 use Rattle.stream_watch.specs.SummaryRow.{summary_words}
 use Rattle.stream_watch.specs.declared.mark.Mark.{Mark}
 use Rattle.stream_watch.specs.declared.mark.Mark.TheVariants as mark
-use Rattle.laws_watch.specs.Asked.{Asked, asked_by, of_action, of_change, of_kind, of_message, of_message_or_line, of_others, of_output, of_outputs, of_passed, of_planned, of_provisioner, of_row, of_stage, of_text, output_of}
+use Rattle.laws_watch.specs.Asked.{Asked, asked_by, of_action, of_change, of_kind, of_message_or_line, of_others, of_output, of_outputs, of_passed, of_planned, of_provisioner, of_row, of_stage, of_text, output_of}
 use Rattle.laws_watch.specs.Told.{is_under_way}
 
 -- none of the marks is that of what is under way

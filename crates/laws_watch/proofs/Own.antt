@@ -1,18 +1,17 @@
 -- What is told of a message is its refreshes and the rows that it asks for.
-use Rattle.std.proofs.Common.{◌≡◌, ◌∙◌, ℕ, List, [], ◌∷◌, ◌++◌, ◌==◌, Bool, true, false, Option, None, Some, ap, append-nil, append_assoc, if◌then◌else◌, option_map, refl, subst, sym, unwrap_or}
+use Rattle.std.proofs.Common.{◌≡◌, ◌∙◌, ℕ, List, [], ◌∷◌, ◌++◌, ◌==◌, Bool, true, false, ap, append-nil, if◌then◌else◌, refl, sym}
 use Rattle.stream_watch.specs.Clock.{elapsed}
 use Rattle.stream_watch.specs.AfterRefreshes.{told_after_refreshes}
 use Rattle.stream_watch.specs.RefreshRow.{refreshed_words, reported_told}
 use Rattle.stream_watch.specs.Refreshes.{none_after}
 use Rattle.stream_watch.specs.State.{State, Told, line_at, line_told, nothing}
-use Rattle.stream_watch.specs.declared.clock.Clock.{Clock}
 use Rattle.stream_watch.specs.declared.looks.Looks.{Looks}
 use Rattle.stream_watch.specs.declared.mark.Mark.{Mark}
 use Rattle.stream_watch.specs.declared.mark.Mark.TheVariants as mark
 use Rattle.laws_watch.specs.Asked.{Asked, only, reporting}
 use Rattle.laws_watch.specs.Rows.{Row, row_bytes, rows_bytes, timed}
 use Rattle.laws_watch.specs.Told.{report_rows, rows_before}
-use Rattle.laws_watch.proofs.Rows.{HasRows, line_row, no_rows, one_line, rows_at}
+use Rattle.laws_watch.proofs.RowBytes.{HasRows, line_row, no_rows, one_line, rows_at}
 
 -- what a message does not change
 pub record KeepsTime (before after : State) : Type 0 where

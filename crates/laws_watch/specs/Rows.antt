@@ -1,5 +1,5 @@
 -- The output in rows.
-use Rattle.std.specs.Prelude.{◌≡◌, ℕ, List, [], ◌∷◌, ◌&&◌, All, Bool, true, false, Option, Some, None, filter_map, if◌then◌else◌}
+use Rattle.std.specs.Prelude.{◌≡◌, ℕ, List, [], ◌∷◌, ◌++◌, ◌&&◌, All, Bool, true, false, Option, Some, None, filter_map, if◌then◌else◌}
 use Rattle.std.specs.List.{flat_map}
 use Rattle.stream_watch.specs.Marks.{is_in_panel}
 use Rattle.stream_watch.specs.Printed.{further_bytes, line_bytes}
@@ -19,6 +19,10 @@ row_bytes looks (further mark text) = further_bytes looks.width looks.has_colour
 
 abbrev pub rows_bytes : Looks → List Row → List ℕ
 rows_bytes looks rows = flat_map (row_bytes looks) rows
+
+-- the bytes end a line, so that nothing stands in the same line after them
+abbrev pub EndsLine : (bytes : List ℕ) → Type 0
+EndsLine bytes = (front : List ℕ) × (bytes ≡ front ++ 10 ∷ [])
 
 -- ---- rows with a time
 
@@ -40,6 +44,13 @@ starts_timed (further mark text ∷ rows) = false
 abbrev pub IsAt : (elapsed : ℕ) → Row → Type 0
 IsAt elapsed (timed time mark text) = time ≡ elapsed
 IsAt elapsed (further mark text) = Unit {0}
+
+-- one row with a time and this mark, with rows that belong to it alone
+pub record IsOneRow (elapsed : ℕ) (mark : Mark) (all : List Row) : Type 0 where
+  pub text : List ℕ
+  pub rest : List Row
+  pub rows : all ≡ timed elapsed mark text ∷ rest
+  pub rest_is_further : timed_marks rest ≡ []
 
 -- These are rows at this time. Those with a time have these marks, in this order.
 pub record AreRows (elapsed : ℕ) (asked : List Mark) (rows : List Row) : Type 0 where

@@ -1,19 +1,18 @@
 -- What is told of a line and of lines, in rows.
 use Rattle.std.specs.Prelude.{◌≡◌, ℕ, List, [], ◌∷◌, ◌+◌, ◌++◌, ◌==◌, ◌&&◌, Bool, true, false, Option, Some, None, if◌then◌else◌, is_some}
-use Rattle.std.specs.List.{filter, flat_map}
+use Rattle.std.specs.List.{count_by, filter, flat_map}
 use Rattle.serde_json.specs.Data.{Data}
 use Rattle.stream_watch.specs.Clock.{elapsed}
 use Rattle.stream_watch.specs.Progress.{is_due, under_way_words}
 use Rattle.stream_watch.specs.Reading.{message_of}
 use Rattle.stream_watch.specs.RefreshRow.{refreshed_words}
 use Rattle.stream_watch.specs.State.{State, Told}
-use Rattle.stream_watch.specs.Stream.{lines_told}
 use Rattle.stream_watch.specs.Telling.{at_moment, moment_of, text_told, told_at}
 use Rattle.stream_watch.specs.declared.looks.Looks.{Looks}
 use Rattle.stream_watch.specs.declared.mark.Mark.{Mark}
 use Rattle.stream_watch.specs.declared.mark.Mark.TheVariants as mark
 use Rattle.laws_watch.specs.Asked.{Asked, asked_by}
-use Rattle.laws_watch.specs.Rows.{AreRows, Row, further, rows_bytes, timed, timed_marks}
+use Rattle.laws_watch.specs.Rows.{AreRows, Row, rows_bytes, timed, timed_marks}
 
 -- the mark of what is under way
 abbrev pub is_under_way : Mark → Bool
@@ -60,20 +59,23 @@ pub record IsToldInRows (looks : Looks) (before : State) (asked : Asked) (tells 
 abbrev pub marks_asked : (find : Bool) → (lines : List (List ℕ)) → List Mark
 marks_asked find lines = flat_map (λ line. (asked_by find line).marks) lines
 
--- What is told of lines, without the rows about refreshes and about what is under way: rows with the
--- marks that the lines ask for, in their order.
-pub record AreToldInRows (looks : Looks) (find : Bool) (lines : List (List ℕ)) (told : Told) : Type 0 where
-  pub rows : List Row
-  pub bytes : told.bytes ≡ rows_bytes looks rows
-  pub marks : (chosen : Mark → Bool) → chosen mark.Done ≡ false → chosen mark.UnderWay ≡ false
-      → filter chosen (timed_marks rows) ≡ filter chosen (marks_asked find lines)
-
 -- after how many of the lines what is under way is told
 abbrev pub under_way_rows : Looks → (find : Bool) → (lines : List (List ℕ)) → State → ℕ
 under_way_rows looks find [] state = 0
 under_way_rows looks find (line ∷ lines) state =
     (if tells_under_way looks state find line then 1 else 0)
     + under_way_rows looks find lines (text_told looks state find line).state
+
+-- What is told of lines, in rows.
+pub record AreToldInRows (looks : Looks) (find : Bool) (lines : List (List ℕ)) (before : State) (told : Told) : Type 0 where
+  pub rows : List Row
+  pub bytes : told.bytes ≡ rows_bytes looks rows
+  -- Without the rows about refreshes and about what is under way, the rows with a time have the
+  -- marks that the lines ask for, in their order.
+  pub asked : (chosen : Mark → Bool) → chosen mark.Done ≡ false → chosen mark.UnderWay ≡ false
+      → filter chosen (timed_marks rows) ≡ filter chosen (marks_asked find lines)
+  -- as many rows are about what is under way
+  pub under_way : count_by is_under_way (timed_marks rows) ≡ under_way_rows looks find lines before
 
 -- ---- states
 

@@ -1,12 +1,11 @@
 -- Bytes that are rows.
-use Rattle.std.proofs.Common.{◌≡◌, ◌∙◌, ℕ, List, [], ◌∷◌, ◌++◌, Bool, true, false, Option, None, Some, All, ap, append-nil, append_assoc, length, map, refl, subst, sym}
+use Rattle.std.proofs.Common.{◌≡◌, ◌∙◌, ℕ, List, [], ◌∷◌, ◌++◌, true, All, ap, append-nil, map, refl, subst, sym}
 use Rattle.std.specs.List.{flat_map}
 use Rattle.std.proofs.lemmas.Grind.{flat_map-append}
 use Rattle.std.proofs.lemmas.List.Elements.{All-append, All-cons, All-nil, filter_map-append}
 use Rattle.stream_watch.specs.Clock.{elapsed}
 use Rattle.stream_watch.specs.FurtherLines.{further_lines}
 use Rattle.stream_watch.specs.State.{State, further_line, line_at}
-use Rattle.stream_watch.specs.declared.clock.Clock.{Clock}
 use Rattle.stream_watch.specs.declared.looks.Looks.{Looks}
 use Rattle.stream_watch.specs.declared.mark.Mark.{Mark}
 use Rattle.laws_watch.specs.Rows.{AreRows, IsAt, Row, further, row_bytes, rows_bytes, starts_timed, timed, timed_mark, timed_marks}

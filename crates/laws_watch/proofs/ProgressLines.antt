@@ -1,5 +1,5 @@
 -- Progress of a step tells nothing by itself, and changes the time alone.
-use Rattle.std.proofs.Common.{◌≡◌, ◌∙◌, ℕ, ℤ, List, [], ◌∷◌, ◌++◌, ◌&&◌, Bool, true, false, Option, None, Some, ap, if◌then◌else◌, is_some, option_and_then, option_map, refl, subst, sym, unwrap_or}
+use Rattle.std.proofs.Common.{◌≡◌, ◌∙◌, ℕ, ℤ, List, ◌&&◌, Bool, true, false, Option, None, Some, ap, if◌then◌else◌, is_some, option_and_then, option_map, refl, subst, sym, unwrap_or}
 use Rattle.std.specs.Prelude.{codes}
 use Rattle.std.specs.Option.{option_map_or}
 use Rattle.std.proofs.lemmas.Bool.{false≢true}
@@ -14,7 +14,7 @@ use Rattle.stream_watch.specs.Progress.{is_due, slow_told}
 use Rattle.stream_watch.specs.Reading.{message_of}
 use Rattle.stream_watch.specs.State.{State, Told, nothing, told_then}
 use Rattle.stream_watch.specs.StepRows.{NamedStep, step_of, told_of_step}
-use Rattle.stream_watch.specs.Telling.{at_moment, kind_told, message_or_line_told, message_told, moment_of, other_told, row_told, text_told, told_at, under_way_told_if}
+use Rattle.stream_watch.specs.Telling.{at_moment, kind_told, message_or_line_told, moment_of, other_told, text_told, told_at, under_way_told_if}
 use Rattle.stream_watch.specs.declared.looks.Looks.{Looks}
 use Rattle.laws_watch.specs.Asked.{is_progress, is_progress_kind, is_progress_message, is_progress_stage}
 use Rattle.laws_watch.specs.Rows.{rows_bytes}
