@@ -42,6 +42,12 @@ step_row find line tree message type step =
     message_is find line tree (codes "apply_errored") message type
     ∙ failed_step (of_text line (text_lines (text_or_nothing (codes "@message") tree))) (step_of tree) step
 
+pub operation_row : (find : Bool) (line : List ℕ) (tree : Data) → message_of find line ≡ Some tree
+    → text_of (codes "type") tree ≡ Some (codes "ephemeral_op_errored") → is_some (step_of tree) ≡ true → asked_by find line ≡ only (mark.Failed ∷ [])
+operation_row find line tree message type step =
+    message_is find line tree (codes "ephemeral_op_errored") message type
+    ∙ failed_step (of_text line (text_lines (text_or_nothing (codes "@message") tree))) (step_of tree) step
+
 failed_provisioner : (other : Asked) (hook : Option Hook) → is_some hook ≡ true
     → unwrap_or (hook >>= of_provisioner stage.Errored) other ≡ only (mark.Failed ∷ [])
 failed_provisioner other None is = absurd (false≢true is)

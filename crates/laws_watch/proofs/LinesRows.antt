@@ -13,7 +13,7 @@ use Rattle.stream_watch.specs.declared.mark.Mark.{Mark}
 use Rattle.stream_watch.specs.declared.mark.Mark.TheVariants as mark
 use Rattle.laws_watch.specs.Asked.{asked_by}
 use Rattle.laws_watch.specs.Rows.{Row, rows_bytes, timed, timed_mark, timed_marks}
-use Rattle.laws_watch.specs.Told.{AreToldInRows, IsToldInRows, is_under_way, marks_asked, rows_after, rows_before, tells_under_way, under_way_rows}
+use Rattle.laws_watch.specs.Told.{AreToldInRows, IsToldInRows, is_under_way, line_marks, lines_marks, marks_after, marks_asked, marks_before, rows_after, rows_before, tells_under_way, under_way_rows}
 use Rattle.laws_watch.proofs.LineRows.{line_rows}
 use Rattle.laws_watch.proofs.NoUnderWay.{asked_none}
 use Rattle.laws_watch.proofs.RowBytes.{rows_append}
@@ -71,6 +71,32 @@ own_under_way tells before own state front middle =
     ∙ ap (λ (x : List Mark). x ++ filter is_under_way (timed_marks own)) front ∙ middle))
     ∙ one_after tells state
 
+-- ---- all marks
+
+report_marks : (none : Bool) (time : ℕ) (words : List ℕ)
+    → timed_marks (if none then [] else timed time mark.Done words ∷ []) ≡ (if none then [] else mark.Done ∷ [])
+report_marks true time words = refl
+report_marks false time words = refl
+
+before_marks : (reports : Bool) (time : ℕ) (state : State) → timed_marks (rows_before reports time state) ≡ marks_before reports state
+before_marks true time state = report_marks (state.refreshes.unreported == 0) time (refreshed_words state.refreshes)
+before_marks false time state = refl
+
+after_marks : (tells : Bool) (state : State) → timed_marks (rows_after tells state) ≡ marks_after tells
+after_marks true state = refl
+after_marks false state = refl
+
+all_marks : (before own after rest : List Row) (m n o p : List Mark) → timed_marks before ≡ m → timed_marks own ≡ n → timed_marks after ≡ o
+    → timed_marks rest ≡ p → timed_marks ((before ++ own ++ after) ++ rest) ≡ (m ++ n ++ o) ++ p
+all_marks before own after rest m n o p first second third fourth =
+    filter_map-append timed_mark (before ++ own ++ after) rest
+    ∙ ap (λ (x : List Mark). x ++ timed_marks rest)
+    (filter_map-append timed_mark (before ++ own) after
+    ∙ ap (λ (x : List Mark). x ++ timed_marks after) (filter_map-append timed_mark before own
+    ∙ ap (λ (x : List Mark). x ++ timed_marks own) first ∙ ap (λ (x : List Mark). m ++ x) second)
+    ∙ ap (λ (x : List Mark). (m ++ n) ++ x) third)
+    ∙ ap (λ (x : List Mark). (m ++ n ++ o) ++ x) fourth
+
 -- ---- the rows of one line, and of those after it
 
 with_line : (looks : Looks) (find : Bool) (line : List ℕ) (lines : List (List ℕ)) (state : State) (told next : Told)
@@ -86,6 +112,10 @@ with_line looks find line lines state told next first is rest =
       rows = rows ++ rest.rows;
       bytes = ap (λ (x : List ℕ). x ++ next.bytes) first.bytes ∙ ap (λ (x : List ℕ). rows_bytes looks rows ++ x) rest.bytes
           ∙ sym (rows_append looks rows rest.rows);
+      marks = all_marks before first.own after rest.rows
+          (marks_before (asked_by find line).reports state) (asked_by find line).marks (marks_after tells) (lines_marks looks find lines told.state)
+          (before_marks (asked_by find line).reports (elapsed told.state.clock) state) first.are_asked.marks (after_marks tells told.state) rest.marks
+          ∙ ap (λ (t : Told). line_marks looks state find line ++ lines_marks looks find lines t.state) is;
       asked = λ chosen done under_way.
           chosen_then chosen rows rest.rows
           ∙ ap (λ (x : List Mark). x ++ filter chosen (timed_marks rest.rows))
@@ -108,7 +138,7 @@ with_line looks find line lines state told next first is rest =
 
 pub lines_rows : (looks : Looks) (find : Bool) (lines : List (List ℕ)) (state : State)
     → AreToldInRows looks find lines state (lines_told looks find lines state)
-lines_rows looks find [] state = record { rows = []; bytes = refl; asked = λ chosen done under_way. refl; under_way = refl }
+lines_rows looks find [] state = record { rows = []; bytes = refl; marks = refl; asked = λ chosen done under_way. refl; under_way = refl }
 lines_rows looks find (line ∷ lines) state =
     let told = text_told looks state find line in
     with_line looks find line lines state told (lines_told looks find lines told.state)

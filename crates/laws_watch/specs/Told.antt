@@ -66,10 +66,30 @@ under_way_rows looks find (line ∷ lines) state =
     (if tells_under_way looks state find line then 1 else 0)
     + under_way_rows looks find lines (text_told looks state find line).state
 
+-- the marks of the rows with a time of one line: of refreshes, of what it asks for, of what is under way
+abbrev pub marks_before : (reports : Bool) → State → List Mark
+marks_before reports state =
+    if reports then (if state.refreshes.unreported == 0 then [] else mark.Done ∷ []) else []
+
+abbrev pub marks_after : (tells : Bool) → List Mark
+marks_after tells = if tells then mark.UnderWay ∷ [] else []
+
+abbrev pub line_marks : Looks → State → (find : Bool) → (line : List ℕ) → List Mark
+line_marks looks state find line =
+    marks_before (asked_by find line).reports state ++ (asked_by find line).marks
+    ++ marks_after (tells_under_way looks state find line)
+
+-- the marks of the rows with a time of these lines
+abbrev pub lines_marks : Looks → (find : Bool) → (lines : List (List ℕ)) → State → List Mark
+lines_marks looks find [] state = []
+lines_marks looks find (line ∷ lines) state =
+    line_marks looks state find line ++ lines_marks looks find lines (text_told looks state find line).state
+
 -- What is told of lines, in rows.
 pub record AreToldInRows (looks : Looks) (find : Bool) (lines : List (List ℕ)) (before : State) (told : Told) : Type 0 where
   pub rows : List Row
   pub bytes : told.bytes ≡ rows_bytes looks rows
+  pub marks : timed_marks rows ≡ lines_marks looks find lines before
   -- Without the rows about refreshes and about what is under way, the rows with a time have the
   -- marks that the lines ask for, in their order.
   pub asked : (chosen : Mark → Bool) → chosen mark.Done ≡ false → chosen mark.UnderWay ≡ false

@@ -55,6 +55,9 @@ pub fn an_error_asks_for_one_row()
     ensures step { (find : Bool) (line : List ℕ) (tree : Data) → message_of find line ≡ Some tree
         → text_of (codes "type") tree ≡ Some (codes "apply_errored") → is_some (step_of tree) ≡ true
         → asked_by find line ≡ only (Failed ∷ []) }
+    ensures operation { (find : Bool) (line : List ℕ) (tree : Data) → message_of find line ≡ Some tree
+        → text_of (codes "type") tree ≡ Some (codes "ephemeral_op_errored") → is_some (step_of tree) ≡ true
+        → asked_by find line ≡ only (Failed ∷ []) }
     ensures provisioner { (find : Bool) (line : List ℕ) (tree : Data) → message_of find line ≡ Some tree
         → text_of (codes "type") tree ≡ Some (codes "provision_errored") → is_some (hook_of tree) ≡ true
         → asked_by find line ≡ only (Failed ∷ []) }

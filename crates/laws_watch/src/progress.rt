@@ -21,7 +21,7 @@ pub fn progress_is_thinned()
 {}
 
 /// What does a message of progress do? It prints nothing but what is under way. It changes no step,
-/// no count and no refresh, so it takes no memory.
+/// no count and no refresh, so ten thousand of them leave no more to remember than one.
 pub fn progress_changes_no_step()
     ensures bytes { (looks : Looks) (state : State) (find : Bool) (line : List ℕ) → is_progress find line ≡ true
         → (text_told looks state find line).bytes
