@@ -109,7 +109,7 @@ provisioner_rows looks state moment stage.Errored named =
 
 -- ---- diagnostics
 
-reads_keep : (address : Option (List ℕ)) (state : State) → KeepsTime state (without_reads address state)
+pub reads_keep : (address : Option (List ℕ)) (state : State) → KeepsTime state (without_reads address state)
 reads_keep None state = same_time state
 reads_keep (Some address) state = record { clock = refl; marks = refl }
 

@@ -1,4 +1,5 @@
 pub mod Agreement
+pub mod DiagnosticRows
 pub mod Errors
 pub mod Fronts
 pub mod KindRows

@@ -16,11 +16,12 @@ use Rattle.stream_watch.specs.declared.looks.Looks.{Looks}
 use Rattle.stream_watch.specs.declared.refreshes.Refreshes.{Refreshes}
 use Rattle.stream_watch.specs.declared.mark.Mark.TheVariants as mark
 use Rattle.laws_watch.specs.Asked.{Asked, asked_by, of_kind, of_message, of_message_or_line, of_passed, of_row, of_text, only}
-use Rattle.laws_watch.specs.Rows.{AreRows, row_bytes, rows_bytes, timed}
+use Rattle.laws_watch.specs.Diagnostics.{IsToldAs}
+use Rattle.laws_watch.specs.Rows.{AreRows, Row, row_bytes, rows_bytes, timed}
 use Rattle.laws_watch.specs.Told.{IsToldInRows, rows_after, rows_before, tells_under_way, under_way_after}
 use Rattle.laws_watch.proofs.Agreement.{agree_and_then, agree_or}
 use Rattle.laws_watch.proofs.KindRows.{kind_rows}
-use Rattle.laws_watch.proofs.Own.{OwnRows, own_line, own_nothing, own_only, same_time}
+use Rattle.laws_watch.proofs.Own.{KeepsTime, OwnRows, own_line, own_nothing, own_only, same_time}
 use Rattle.laws_watch.proofs.RowBytes.{line_and_further, line_row, rows_append}
 
 -- ---- texts
@@ -73,26 +74,30 @@ under_way_rows_are false looks state = record { bytes = refl; clock = refl }
 -- ---- a line
 
 -- rows of a message, and what is under way
+pub told_as : (looks : Looks) (before : State) (reports : Bool) (own : ℕ → List Row) (tells : Bool) (state : State) (told more : Told)
+    → state.refreshes ≡ before.refreshes → KeepsTime state told.state
+    → told.bytes ≡ rows_bytes looks (rows_before reports (elapsed state.clock) state) ++ rows_bytes looks (own (elapsed state.clock))
+    → IsUnderWay looks told.state tells more → IsToldAs looks before reports own tells (record { bytes = told.bytes ++ more.bytes; state = more.state })
+told_as looks before reports own tells state told more same kept bytes under =
+    let clock : more.state.clock ≡ state.clock = under.clock ∙ kept.clock in
+    let rows = own (elapsed state.clock) in
+    let front = rows_before reports (elapsed state.clock) before in
+    ap (λ (v : List ℕ). v ++ more.bytes)
+    (bytes ∙ ap (λ (r : Refreshes). rows_bytes looks (rows_before reports (elapsed state.clock) (record before { refreshes = r })) ++ rows_bytes looks rows) same)
+    ∙ ap (λ (v : List ℕ). (rows_bytes looks front ++ rows_bytes looks rows) ++ v) under.bytes
+    ∙ ap (λ (v : List ℕ). v ++ rows_bytes looks (rows_after tells more.state)) (sym (rows_append looks front rows))
+    ∙ sym (rows_append looks (front ++ rows) (rows_after tells more.state))
+    ∙ ap (λ (c : Clock). rows_bytes looks (rows_before reports (elapsed c) before ++ own (elapsed c) ++ rows_after tells more.state)) (sym clock)
+
 assembled : (looks : Looks) (before : State) (asked : Asked) (tells : Bool) (state : State) (told : Told) (more : Told)
     → state.refreshes ≡ before.refreshes → OwnRows looks state asked told → IsUnderWay looks told.state tells more
     → IsToldInRows looks before asked tells (record { bytes = told.bytes ++ more.bytes; state = more.state })
-assembled looks before asked tells state told more same own under =
-    let clock : more.state.clock ≡ state.clock = under.clock ∙ own.kept.clock in
-    let rows = own.rows.rows in
-    let front = rows_before asked.reports (elapsed state.clock) before in
-    let front_at = λ (time : ℕ). rows_bytes looks (rows_before asked.reports time before ++ rows ++ rows_after tells more.state) in
-    let front_bytes : told.bytes ≡ rows_bytes looks front ++ rows_bytes looks rows =
-    own.bytes ∙ ap (λ (r : Refreshes). rows_bytes looks (rows_before asked.reports (elapsed state.clock) (record before { refreshes = r })) ++ own.own) same
-    ∙ ap (λ (v : List ℕ). rows_bytes looks front ++ v) own.rows.bytes in
-    record {
-      own = rows;
-      are_asked = subst (λ (c : Clock). AreRows (elapsed c) asked.marks rows) (sym clock) own.rows.are;
-      bytes = ap (λ (v : List ℕ). v ++ more.bytes) front_bytes
-          ∙ ap (λ (v : List ℕ). (rows_bytes looks front ++ rows_bytes looks rows) ++ v) under.bytes
-          ∙ ap (λ (v : List ℕ). v ++ rows_bytes looks (rows_after tells more.state)) (sym (rows_append looks front rows))
-          ∙ sym (rows_append looks (front ++ rows) (rows_after tells more.state))
-          ∙ ap (λ (c : Clock). front_at (elapsed c)) (sym clock);
-    }
+assembled looks before asked tells state told more same own under = record {
+  own = own.rows.rows;
+  are_asked = subst (λ (c : Clock). AreRows (elapsed c) asked.marks own.rows.rows) (sym (under.clock ∙ own.kept.clock)) own.rows.are;
+  bytes = told_as looks before asked.reports (λ time. own.rows.rows) tells state told more same own.kept
+      (own.bytes ∙ ap (λ (v : List ℕ). rows_bytes looks (rows_before asked.reports (elapsed state.clock) state) ++ v) own.rows.bytes) under;
+}
 
 alone : (looks : Looks) (before : State) (asked : Asked) (told : Told) → OwnRows looks before asked told → IsToldInRows looks before asked false told
 alone looks before asked told own =

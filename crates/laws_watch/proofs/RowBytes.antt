@@ -81,18 +81,26 @@ further_times time mark [] = All-nil (IsAt time)
 further_times time mark (text ∷ texts) = All-cons (IsAt time) (further mark text) (further_rows mark texts) tt (further_times time mark texts)
 
 -- a line, with further lines
+pub line_and_further_bytes : (looks : Looks) (state : State) (mark other : Mark) (text : List ℕ) (texts : List (List ℕ))
+    → line_at looks state mark text ++ further_lines looks other texts
+    ≡ rows_bytes looks (timed (elapsed state.clock) mark text ∷ map (further other) texts)
+unfolding further_rows
+line_and_further_bytes looks state mark other text texts =
+    ap (λ (line : List ℕ). line ++ further_lines looks other texts) (line_row looks state mark text)
+    ∙ ap (λ (more : List ℕ). row_bytes looks (timed (elapsed state.clock) mark text) ++ more) (further_bytes_are looks other texts)
+
 pub line_and_further : (looks : Looks) (state : State) (mark other : Mark) (text : List ℕ) (texts : List (List ℕ))
     → HasRows looks (elapsed state.clock) (mark ∷ []) (line_at looks state mark text ++ further_lines looks other texts)
+unfolding further_rows
 line_and_further looks state mark other text texts = record {
-  rows = timed (elapsed state.clock) mark text ∷ further_rows other texts;
+  rows = timed (elapsed state.clock) mark text ∷ map (further other) texts;
   are = record {
     marks = ap (λ (more : List Mark). mark ∷ more) (further_marks other texts);
     start = refl;
-    times = All-cons (IsAt (elapsed state.clock)) (timed (elapsed state.clock) mark text) (further_rows other texts) refl
+    times = All-cons (IsAt (elapsed state.clock)) (timed (elapsed state.clock) mark text) (map (further other) texts) refl
         (further_times (elapsed state.clock) other texts);
   };
-  bytes = ap (λ (line : List ℕ). line ++ further_lines looks other texts) (line_row looks state mark text)
-      ∙ ap (λ (more : List ℕ). row_bytes looks (timed (elapsed state.clock) mark text) ++ more) (further_bytes_are looks other texts);
+  bytes = line_and_further_bytes looks state mark other text texts;
 }
 
 -- one line

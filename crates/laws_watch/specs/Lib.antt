@@ -1,4 +1,5 @@
 pub mod Asked
+pub mod Diagnostics
 pub mod Rows
 pub mod Told
 pub mod Verdict

@@ -12,8 +12,8 @@ mod rows;
 mod verdict;
 
 pub use lines::{
-    an_error_asks_for_one_row, each_line_is_told_once, lines_are_told_in_order,
-    what_was_told_stays_told,
+    a_diagnostic_is_told_whole, an_error_asks_for_one_row, each_line_is_told_once,
+    lines_are_told_in_order, what_was_told_stays_told,
 };
 pub use progress::{progress_changes_no_step, progress_is_thinned};
 pub use rows::{a_panel_hides_begins_and_progress, a_row_is_whole_lines, marks_are_rows};

@@ -2,7 +2,7 @@
 
 ghost use Rattle.std.specs.Prelude.{◌≡◌, ◌++◌, ◌∷◌, [], Bool, List, Some, codes, is_some, true, ℕ};
 ghost use Rattle.serde_json.specs.Data.{Data};
-ghost use Rattle.apply_json.specs.Tree.{member_of, text_of};
+ghost use Rattle.apply_json.specs.Tree.{text_of};
 ghost use Rattle.stream_check.specs.declared.verdict.judge.Verdict.{Verdict};
 ghost use Rattle.stream_watch.specs.Hooks.{hook_of};
 ghost use Rattle.stream_watch.specs.Reading.{message_of};
@@ -13,6 +13,7 @@ ghost use Rattle.stream_watch.specs.Telling.{text_told};
 ghost use Rattle.stream_watch.specs.declared.looks.Looks.{Looks};
 ghost use Rattle.stream_watch.specs.declared.mark.Mark.TheVariants.{Failed};
 ghost use Rattle.laws_watch.specs.Asked.{asked_by, only, reporting};
+ghost use Rattle.laws_watch.specs.Diagnostics.{HasDiagnostic, IsToldAs, diagnostic_rows};
 ghost use Rattle.laws_watch.specs.Told.{AreToldInRows, IsToldInRows, tells_under_way};
 
 /// Can a later line change what was printed already? No: what is printed of the front of a stream
@@ -48,9 +49,7 @@ pub fn lines_are_told_in_order()
 /// Is each error of a stream told? A diagnostic with severity `error`, a step that failed and a
 /// provisioner that failed ask for one row each, with the mark of a failure.
 pub fn an_error_asks_for_one_row()
-    ensures diagnostic { (find : Bool) (line : List ℕ) (tree diagnostic : Data) → message_of find line ≡ Some tree
-        → text_of (codes "type") tree ≡ Some (codes "diagnostic") → member_of (codes "diagnostic") tree ≡ Some diagnostic
-        → text_of (codes "severity") diagnostic ≡ Some (codes "error")
+    ensures diagnostic { (find : Bool) (line : List ℕ) (diagnostic : Data) → HasDiagnostic find line (codes "error") diagnostic
         → asked_by find line ≡ reporting (Failed ∷ []) }
     ensures step { (find : Bool) (line : List ℕ) (tree : Data) → message_of find line ≡ Some tree
         → text_of (codes "type") tree ≡ Some (codes "apply_errored") → is_some (step_of tree) ≡ true
@@ -61,4 +60,13 @@ pub fn an_error_asks_for_one_row()
     ensures provisioner { (find : Bool) (line : List ℕ) (tree : Data) → message_of find line ≡ Some tree
         → text_of (codes "type") tree ≡ Some (codes "provision_errored") → is_some (hook_of tree) ≡ true
         → asked_by find line ≡ only (Failed ∷ []) }
+{}
+
+/// Is a diagnostic printed whole? One row has its severity, its summary and its place. The code
+/// that it is about and its detail stand in rows that belong to this one.
+pub fn a_diagnostic_is_told_whole()
+    ensures { (looks : Looks) (state : State) (find : Bool) (line severity : List ℕ) (diagnostic : Data)
+        → HasDiagnostic find line severity diagnostic
+        → IsToldAs looks state true (λ elapsed. diagnostic_rows elapsed severity diagnostic)
+        (tells_under_way looks state find line) (text_told looks state find line) }
 {}
