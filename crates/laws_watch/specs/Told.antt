@@ -39,7 +39,8 @@ under_way_after looks state find line None = false
 under_way_after looks state find line (Some tree) =
     is_some (moment_of tree) && is_due (told_at looks (at_moment (moment_of tree) state) find line tree (moment_of tree)).state
 
--- after this line, what is under way is told: the line has a time, and a mark of the time has passed
+-- After this line, what is under way is told: the line has a time, and a mark of the time has
+-- passed.
 abbrev pub tells_under_way : Looks → State → (find : Bool) → (line : List ℕ) → Bool
 tells_under_way looks state find line = under_way_after looks state find line (message_of find line)
 
@@ -66,7 +67,8 @@ under_way_rows looks find (line ∷ lines) state =
     (if tells_under_way looks state find line then 1 else 0)
     + under_way_rows looks find lines (text_told looks state find line).state
 
--- the marks of the rows with a time of one line: of refreshes, of what it asks for, of what is under way
+-- The marks of the rows with a time of one line: of refreshes, of what it asks for, and of what is
+-- under way.
 abbrev pub marks_before : (reports : Bool) → State → List Mark
 marks_before reports state =
     if reports then (if state.refreshes.unreported == 0 then [] else mark.Done ∷ []) else []
@@ -99,7 +101,7 @@ pub record AreToldInRows (looks : Looks) (find : Bool) (lines : List (List ℕ))
 
 -- ---- states
 
--- The states differ in the time and in when the steps under way were last told, and in nothing else.
+-- The states differ in nothing but the time, and when the steps under way were last told.
 pub record DifferInTime (before after : State) : Type 0 where
   pub steps : after.steps ≡ before.steps
   pub counts : after.counts ≡ before.counts

@@ -1,5 +1,5 @@
 use Rattle.laws_watch.proofs.Errors.{error_row, operation_row, provisioner_row, step_row}
-use Rattle.laws_watch.proofs.lines.an_error_asks_for_one_row.Goals as goal
+use Rattle.laws_watch.proofs.telling.an_error_asks_for_one_row.Goals as goal
 
 pub returns-clause-diagnostic : goal.returns-clause-diagnostic
 returns-clause-diagnostic c = error_row

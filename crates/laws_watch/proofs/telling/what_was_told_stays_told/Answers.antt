@@ -1,6 +1,6 @@
 use Rattle.laws_watch.proofs.Fronts.{front_bytes, front_state}
 use Rattle.laws_watch.proofs.LastRow.{front_of_stream}
-use Rattle.laws_watch.proofs.lines.what_was_told_stays_told.Goals as goal
+use Rattle.laws_watch.proofs.telling.what_was_told_stays_told.Goals as goal
 
 pub returns-clause-bytes : goal.returns-clause-bytes
 returns-clause-bytes c = front_bytes
