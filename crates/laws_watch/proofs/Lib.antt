@@ -2,6 +2,7 @@ pub mod Agreement
 pub mod DiagnosticRows
 pub mod Errors
 pub mod Fronts
+pub mod Kept
 pub mod KindRows
 pub mod LastRow
 pub mod LineRows

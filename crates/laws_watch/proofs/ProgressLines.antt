@@ -68,7 +68,7 @@ due_differs : (due : Bool) (looks : Looks) (state : State) → DifferInTime stat
 due_differs true looks state = record { steps = refl; counts = refl; refreshes = refl; lengths = refl }
 due_differs false looks state = record { steps = refl; counts = refl; refreshes = refl; lengths = refl }
 
-under_way_differs : (has_moment : Bool) (looks : Looks) (state : State) → DifferInTime state (under_way_told_if has_moment looks state).state
+pub under_way_differs : (has_moment : Bool) (looks : Looks) (state : State) → DifferInTime state (under_way_told_if has_moment looks state).state
 under_way_differs true looks state = due_differs (is_due state) looks state
 under_way_differs false looks state = record { steps = refl; counts = refl; refreshes = refl; lengths = refl }
 

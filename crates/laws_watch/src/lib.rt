@@ -6,11 +6,13 @@
 //! before it. `specs/Asked.antt` says which rows a line asks for: its message alone decides.
 #![tactic(auto)]
 
+mod memory;
 mod progress;
 mod rows;
 mod telling;
 mod verdict;
 
+pub use memory::what_is_remembered_is_bounded;
 pub use progress::{progress_changes_no_step, progress_is_thinned};
 pub use rows::{a_panel_hides_begins_and_progress, a_row_is_whole_lines, marks_are_rows};
 pub use telling::{
