@@ -1,5 +1,5 @@
 -- What is remembered: the steps that are open, and at most a thousand lengths.
-use Rattle.std.proofs.Common.{◌≡◌, ℕ, ℤ, ◌+◌, ◌<◌, ◌≤◌, List, [], ◌∷◌, ◌++◌, ◌==◌, ◌&&◌, Bool, true, false, not, Option, None, Some, ap, arith, codes, find, if◌then◌else◌, is_some, length, length-append, option_and_then, option_map, refl, unwrap_or}
+use Rattle.std.proofs.Common.{◌≡◌, ◌∙◌, ℕ, ℤ, ◌+◌, ◌<◌, ◌≤◌, List, [], ◌∷◌, ◌++◌, ◌==◌, ◌&&◌, Bool, true, false, not, Option, None, Some, ap, arith, codes, find, if◌then◌else◌, is_some, length, length-append, option_and_then, option_map, refl, unwrap_or}
 use Rattle.std.specs.Prelude.{nat_le, nat_lt}
 use Rattle.std.specs.List.{count_by}
 use Rattle.std.specs.Option.{option_map_or}
@@ -17,17 +17,17 @@ use Rattle.term_text.specs.LineTexts.{line_text, text_lines}
 use Rattle.stream_watch.specs.Changes.{NamedChange, change_of, counting}
 use Rattle.stream_watch.specs.Counts.{is_change}
 use Rattle.stream_watch.specs.DiagnosticRow.{address_of, severity_told, text_or_nothing, without_reads}
-use Rattle.stream_watch.specs.Hooks.{Hook, hook_of, kind_of}
+use Rattle.stream_watch.specs.Hooks.{Hook, hook_of}
 use Rattle.stream_watch.specs.Lengths.{KindLength, has_room, is_kind, longer_by, one_length, with_first, with_length}
 use Rattle.stream_watch.specs.Noted.{with_length_of}
 use Rattle.stream_watch.specs.OutputRows.{all_told, has_outputs}
 use Rattle.stream_watch.specs.Outputs.{outputs_of}
 use Rattle.stream_watch.specs.ProvisionerRows.{told_of_provisioner, with_running}
 use Rattle.stream_watch.specs.Reading.{message_of}
-use Rattle.stream_watch.specs.RefreshRow.{noted_refresh, refresh_state, reported_told}
+use Rattle.stream_watch.specs.RefreshRow.{refresh_state, reported_told}
 use Rattle.stream_watch.specs.State.{State, Told, beginning, line_told, nothing}
-use Rattle.stream_watch.specs.StepRows.{NamedStep, noted_step, step_of, told_of_step, with_step}
-use Rattle.stream_watch.specs.Steps.{Running, Step, is_step, last_step, new_step, reads_at, runs_at, with_provisioner, without_first}
+use Rattle.stream_watch.specs.StepRows.{NamedStep, step_of, told_of_step, with_step}
+use Rattle.stream_watch.specs.Steps.{Running, Step, last_step, reads_at, runs_at, with_provisioner, without_first}
 use Rattle.stream_watch.specs.Stream.{lines_told}
 use Rattle.stream_watch.specs.SummaryRow.{summary_words}
 use Rattle.stream_watch.specs.Telling.{at_moment, kind_told, lines_or_line_told, message_or_line_told, moment_of, other_told, passed_told, text_told, told_at, under_way_told_if}
@@ -150,6 +150,29 @@ keeps_reported : (more : Bool) (looks : Looks) (state : State) → Keeps more st
 keeps_reported more looks state =
     let same = reported_same looks state in keeps_same more state (reported_told looks state).state same.0 same.1
 
+-- one step more, after the refreshes or without them
+keeps_began : (reports : Bool) (looks : Looks) (state : State) (change : State → State) (step : Step)
+    → ((s : State) → ((change s).steps ≡ s.steps ++ step ∷ []) × ((change s).lengths ≡ s.lengths))
+    → Keeps true state (change (if reports then reported_told looks state else nothing state).state)
+keeps_began true looks state change step one_more =
+    let reported = reported_told looks state in
+    let same = reported_same looks state in
+    let more = one_more reported.state in
+    keeps_one_more state (change reported.state) step (more.0 ∙ ap (λ (x : List Step). x ++ step ∷ []) same.0) (more.1 ∙ same.1)
+keeps_began false looks state change step one_more = let more = one_more state in keeps_one_more state (change state) step more.0 more.1
+
+-- one step less at most, and the length of a step noted
+keeps_noted : (holds : Step → Bool) (moment : ℤ) (state : State) (noted : Option Step) (after : State)
+    → after.steps ≡ without_first holds (option_map_or (with_length_of moment state) noted state).steps
+    → after.lengths ≡ (option_map_or (with_length_of moment state) noted state).lengths → Keeps false state after
+keeps_noted holds moment state noted after steps lengths =
+    let left = ap (λ (x : List Step). length x) steps in
+    let fewer = without_shorter holds (option_map_or (with_length_of moment state) noted state).steps in
+    let same = ap (λ (x : List Step). length x) (noted_steps moment state noted) in
+    let kept = ap (λ (x : List KindLength). length x) lengths in
+    keeps_fewer false state after (omega (arith, left, fewer, same))
+    (λ short. let few = noted_short moment state noted short in omega (arith, kept, few))
+
 -- ---- options
 
 abbrev KeepsIf : Bool → State → Option Told → Type 0
@@ -184,29 +207,16 @@ if_or more state (Some told) other keeps otherwise = keeps
 
 stage_keeps : (looks : Looks) (state : State) (moment : ℤ) (stage : Stage) (step : NamedStep)
     → Keeps (is_start stage) state (told_of_step looks state stage moment step).state
-stage_keeps looks state moment stage.Start step = began (is_change step.action)
-  where
-    began : (b : Bool) → Keeps true state (with_step step moment (if b then reported_told looks state else nothing state).state)
-    began true =
-        let same = reported_same looks state in
-        keeps_one_more state _ _ (ap (λ (x : List Step). x ++ new_step step.address step.action (kind_of step.hook) false moment ∷ []) same.0) same.1
-    began false = keeps_one_more state _ _ refl refl
+stage_keeps looks state moment stage.Start step =
+    keeps_began (is_change step.action) looks state (with_step step moment) _ (λ s. (refl, refl))
 stage_keeps looks state moment stage.Progress step = keeps_same false state state refl refl
-stage_keeps looks state moment stage.Complete step =
-    let fewer = without_shorter (is_step step.address step.action false) (noted_step step moment state).steps in
-    let same = ap (λ (x : List Step). length x) (noted_steps moment state (find (is_step step.address step.action false) state.steps)) in
-    keeps_fewer false state _ (omega (arith, fewer, same)) (noted_short moment state (find (is_step step.address step.action false) state.steps))
-stage_keeps looks state moment stage.Errored step =
-    keeps_fewer false state _ (without_shorter (is_step step.address step.action false) state.steps) (λ short. short)
+stage_keeps looks state moment stage.Complete step = keeps_noted _ moment state _ _ refl refl
+stage_keeps looks state moment stage.Errored step = keeps_fewer false state _ (without_shorter _ state.steps) (λ short. short)
 
 refresh_keeps : (state : State) (moment : ℤ) (stage : Stage) (named : Hook) → Keeps (is_start stage) state (refresh_state state stage moment named)
 refresh_keeps state moment stage.Start named = keeps_one_more state _ _ refl refl
 refresh_keeps state moment stage.Progress named = keeps_fewer false state _ (without_shorter _ state.steps) (λ short. short)
-refresh_keeps state moment stage.Complete named =
-    let held = find (is_step named.address (codes "refresh") true) state.steps in
-    let fewer = without_shorter (is_step named.address (codes "refresh") true) (noted_refresh named.address moment state).steps in
-    let same = ap (λ (x : List Step). length x) (noted_steps moment state held) in
-    keeps_fewer false state _ (omega (arith, fewer, same)) (noted_short moment state held)
+refresh_keeps state moment stage.Complete named = keeps_noted _ moment state _ _ refl refl
 refresh_keeps state moment stage.Errored named = keeps_fewer false state _ (without_shorter _ state.steps) (λ short. short)
 
 running_keeps : (state : State) (address : List ℕ) (running : Option Running) → Keeps false state (with_running address running state)
