@@ -1,6 +1,7 @@
 -- Marks of the time pass one after another, and what is under way is told once at most for each.
 use Rattle.std.proofs.Common.{◌≡◌, ℕ, ℤ, pos, negsuc, ◌+◌, ◌/◌, ◌<◌, ◌≤◌, List, [], ◌∷◌, ◌&&◌, Bool, true, false, Option, None, Some, arith, if◌then◌else◌, is_some, refl, subst, sym, unwrap_or, ⊎_elim}
 use Rattle.std.specs.Prelude.{int_lt, nat_lt}
+use Rattle.std.specs.List.{count_by}
 use Rattle.std.specs.Int.{int_gap, int_max}
 use Rattle.std.proofs.lemmas.Bool.{cases_Bool, ltb-false, ltb-true}
 use Rattle.std.proofs.lemmas.Bool.Decides.{nat_tests}
@@ -14,7 +15,8 @@ use Rattle.stream_watch.specs.Stream.{lines_told}
 use Rattle.stream_watch.specs.Telling.{at_moment, message_or_line_told, moment_of, passed_told, text_told, told_at, under_way_told_if}
 use Rattle.stream_watch.specs.declared.clock.Clock.{Clock}
 use Rattle.stream_watch.specs.declared.looks.Looks.{Looks}
-use Rattle.laws_watch.specs.Told.{tells_under_way, under_way_after, under_way_rows}
+use Rattle.laws_watch.specs.Rows.{timed_marks}
+use Rattle.laws_watch.specs.Told.{AreToldInRows, is_under_way, tells_under_way, under_way_after, under_way_rows}
 use Rattle.laws_watch.proofs.LineRows.{message_rows, passed_rows}
 use Rattle.laws_watch.proofs.Own.{KeepsTime}
 
@@ -169,3 +171,13 @@ pub rows_few : (looks : Looks) (find : Bool) (lines : List (List ℕ))
 rows_few looks find lines =
     let all = lines_count looks find lines beginning (record { marks = omega arith; starts = λ none. refl }) in
     omega (arith, all)
+
+-- the rows that are told
+pub rows_seldom : (looks : Looks) (find : Bool) (lines : List (List ℕ))
+    → (told : AreToldInRows looks find lines beginning (lines_told looks find lines beginning))
+    → count_by is_under_way (timed_marks told.rows) ≤ elapsed (lines_told looks find lines beginning).state.clock / 1000000 / 30 + 2
+rows_seldom looks find lines told =
+    let rows = told.under_way in
+    let few = rows_few looks find lines in
+    let seldom = marks_few (elapsed (lines_told looks find lines beginning).state.clock) in
+    omega (arith, rows, few, seldom)

@@ -2,7 +2,7 @@
 //!
 //! Each function does nothing: its contract is the law. No program links this crate.
 //!
-//! `watch` tells a line in rows. A row has a time, a mark and a text, or it belongs to the row
+//! `watch` prints rows for each line. A row has a time, a mark and a text, or it belongs to the row
 //! before it. `specs/Asked.antt` says which rows a line asks for: its message alone decides.
 #![tactic(auto)]
 

@@ -31,8 +31,9 @@ pub fn what_was_told_stays_told()
 {}
 
 /// Is each line told once? A line has exactly the rows that it asks for, whatever came before. They
-/// have the time of the stream at this line. Only two rows may join them: before them one about
-/// refreshes that ended and were not reported yet, and after them one of what is under way.
+/// have the time of the stream at this line. Only two rows may join them. Before them stands one
+/// about refreshes that ended and were not reported yet. After them stands one of what is under
+/// way.
 pub fn each_line_is_told_once()
     ensures { (looks : Looks) (state : State) (find : Bool) (line : List ℕ)
         → IsToldInRows looks state (asked_by find line) (tells_under_way looks state find line) (text_told looks state find line) }
