@@ -1,0 +1,15 @@
+pub mod Agreement
+pub mod DiagnosticRows
+pub mod Errors
+pub mod Fronts
+pub mod Kept
+pub mod KindRows
+pub mod LastRow
+pub mod LineRows
+pub mod LinesRows
+pub mod Marks
+pub mod NoUnderWay
+pub mod Own
+pub mod ProgressLines
+pub mod RowBytes
+pub mod WholeLines
