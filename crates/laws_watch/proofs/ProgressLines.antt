@@ -11,12 +11,13 @@ use Rattle.stream_message.specs.declared.kind.Kind.TheVariants as kind
 use Rattle.stream_message.specs.declared.stage.Stage.{Stage}
 use Rattle.stream_message.specs.declared.stage.Stage.TheVariants as stage
 use Rattle.stream_watch.specs.Progress.{is_due, slow_told}
+use Rattle.stream_watch.specs.ProgressMessage.{is_progress_kind, is_progress_stage}
 use Rattle.stream_watch.specs.Reading.{message_of}
 use Rattle.stream_watch.specs.State.{State, Told, nothing, told_then}
 use Rattle.stream_watch.specs.StepRows.{NamedStep, step_of, told_of_step}
 use Rattle.stream_watch.specs.Telling.{at_moment, kind_told, message_or_line_told, moment_of, other_told, text_told, told_at, under_way_told_if}
 use Rattle.stream_watch.specs.declared.looks.Looks.{Looks}
-use Rattle.laws_watch.specs.Asked.{is_progress, is_progress_kind, is_progress_message, is_progress_stage}
+use Rattle.laws_watch.specs.Asked.{is_progress, is_progress_message}
 use Rattle.laws_watch.specs.Rows.{rows_bytes}
 use Rattle.laws_watch.specs.Told.{DifferInTime, rows_after, tells_under_way, under_way_after}
 use Rattle.laws_watch.proofs.LineRows.{under_way_rows_are}

@@ -18,6 +18,7 @@ use Rattle.stream_watch.specs.Hooks.{Hook, hook_of}
 use Rattle.stream_watch.specs.Marks.{planned_mark}
 use Rattle.stream_watch.specs.OutputRows.{has_outputs, is_unplanned, planned_action}
 use Rattle.stream_watch.specs.Outputs.{OutputView, outputs_of}
+use Rattle.stream_watch.specs.ProgressMessage.{is_progress_kind}
 use Rattle.stream_watch.specs.ProvisionerRows.{one_at_least}
 use Rattle.stream_watch.specs.Reading.{message_of}
 use Rattle.stream_watch.specs.StepRows.{step_of}
@@ -141,24 +142,6 @@ abbrev pub asked_by : (find : Bool) → (line : List ℕ) → Asked
 asked_by find line = of_message_or_line find line (message_of find line)
 
 -- ---- progress of a step
-
-abbrev pub is_progress_stage : Stage → Bool
-is_progress_stage stage.Start = false
-is_progress_stage stage.Progress = true
-is_progress_stage stage.Complete = false
-is_progress_stage stage.Errored = false
-
-abbrev pub is_progress_kind : Kind → Bool
-is_progress_kind kind.Version = false
-is_progress_kind kind.Planned = false
-is_progress_kind (kind.Apply stage) = is_progress_stage stage
-is_progress_kind (kind.Ephemeral stage) = is_progress_stage stage
-is_progress_kind (kind.Refresh stage) = false
-is_progress_kind (kind.Provision stage) = false
-is_progress_kind kind.Diagnostic = false
-is_progress_kind kind.Summary = false
-is_progress_kind kind.Outputs = false
-is_progress_kind kind.Other = false
 
 -- a message of progress that names an action and an address
 abbrev pub is_progress_message : Data → Bool

@@ -1,4 +1,4 @@
--- Messages of progress, for private clauses.
+-- Messages of progress of a step.
 use Rattle.std.specs.Prelude.{◌≡◌, ℕ, ℤ, List, codes, Bool, true, false, not, Option, Some, is_some}
 use Rattle.std.specs.Option.{option_map_or}
 use Rattle.serde_json.specs.Data.{Data}
