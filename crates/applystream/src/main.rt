@@ -101,6 +101,7 @@ fn watch<T: Threads + Wait + Clock + Sync>(rt: &HostRuntime, threads: &T, words:
         let tool = Watch {
             clock: rt,
             pace: &NoPace,
+            screen: &terminal,
             terminal,
         };
         return run_on(rt, &tool, words, &mut input);
@@ -109,6 +110,7 @@ fn watch<T: Threads + Wait + Clock + Sync>(rt: &HostRuntime, threads: &T, words:
         let tool = Watch {
             clock: rt,
             pace,
+            screen: &terminal,
             terminal,
         };
         run_on(rt, &tool, words, reader)
@@ -121,7 +123,10 @@ fn watch<T: Threads + Wait + Clock + Sync>(rt: &HostRuntime, threads: &T, words:
 
 /// Whether the arguments of `watch` ask for a panel.
 fn shows_panel(alloc: Global, words: &[String], terminal: Terminal) -> bool {
-    match read_words::<Watch<'_, HostRuntime, NoPace>>(alloc, words.get(2..).unwrap_or(&[])) {
+    match read_words::<Watch<'_, HostRuntime, NoPace, Terminal>>(
+        alloc,
+        words.get(2..).unwrap_or(&[]),
+    ) {
         Ok(settings) => has_panel(&settings, terminal),
         Err(_) => false,
     }

@@ -7,7 +7,7 @@ use Rattle.std.specs.List.{sum_by}
 
 -- ---- how far a frame goes up
 
--- How many rows a line takes in a terminal of so many columns. A line without columns takes one too.
+-- How many rows a line takes in a terminal of so many columns. An empty line takes one too.
 unfoldable pub line_rows : (columns width : ℕ) → ℕ
 line_rows columns width = max (div_ceil width (max columns 1)) 1
 

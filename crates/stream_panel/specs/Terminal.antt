@@ -31,8 +31,8 @@ command_bytes (write_line line) = line ++ 10 ∷ []
 command_bytes keep_lines = control (codes "?7l")
 command_bytes break_lines = control (codes "?7h")
 
--- The terminal after a command. A line takes one row: that of a panel is not broken, and a told one is
--- as wide as the terminal at most.
+-- The terminal after a command. A line takes one row: that of a panel is not broken, and a told one
+-- is as wide as the terminal at most.
 abbrev pub after : Command → Terminal → Terminal
 after to_start terminal = terminal
 after (go_up rows) terminal = record {

@@ -3,7 +3,7 @@
 
 use std::alloc::Global;
 use std::process::Abort;
-use stream_panel::{Size, View, has_room, push_frame, push_panel};
+use stream_panel::{Canvas, Size, View, has_room, push_frame, push_panel, rows_taken};
 use stream_watch::{Looks, Watcher};
 use term_words::MessageText;
 
@@ -33,6 +33,22 @@ const ENDED_FRAME: &str = "\r\u{1b}[2A\u{1b}[J    9s  ✓ create a in 8s (1 of 2
 
 /// The frame that takes the panel away.
 const LAST_FRAME: &str = "\r\u{1b}[1A\u{1b}[J";
+
+/// A frame one second after `BEGUN_FRAME`, in a terminal of 60 columns. The first line of the panel
+/// that stands has 61 columns, and takes two rows by then.
+const NARROW_FRAME: &str =
+    "\r\u{1b}[3A\u{1b}[J\u{1b}[?7l    4s  ▒▒▒▒▒▒▒▒▒░░░░░░░░░ 0 of 2 done, 1 under way, 1 left
+    3s  ▸ create a
+\u{1b}[?7h";
+
+/// A frame one more second later, in a terminal of 100 columns.
+const WIDE_FRAME: &str =
+    "\r\u{1b}[2A\u{1b}[J\u{1b}[?7l    5s  ▒▒▒▒▒▒▒▒▒▒░░░░░░░░░░ 0 of 2 done, 1 under way, 1 left
+    4s  ▸ create a
+\u{1b}[?7h";
+
+/// The frame that takes that panel away in a terminal of 20 columns: its lines have 61 and 18.
+const NARROWEST_FRAME: &str = "\r\u{1b}[5A\u{1b}[J";
 
 /// Before the first line.
 const WAITING: &str = "    3s  waiting for the first line
@@ -87,33 +103,51 @@ fn view(columns: usize, rows: usize, has_colour: bool, since: u64) -> View {
 
 /// Fails unless the panel has these lines.
 fn shows(rt: &impl Abort, alloc: Global, watcher: &Watcher, view: View, lines: &str) {
-    let mut out = MessageText::new(alloc);
-    let count = push_panel(&mut out, watcher, view);
-    assert!(rt; out.is_whole());
-    assert_eq!(rt; out.as_bytes(), lines.as_bytes());
-    assert_eq!(rt; count, lines.lines().count());
+    let mut out = Canvas::new(alloc);
+    push_panel(&mut out, watcher, view);
+    assert!(rt; out.text().is_whole());
+    assert_eq!(rt; out.text().as_bytes(), lines.as_bytes());
+    assert_eq!(rt; out.into_widths().len(), lines.lines().count());
 }
 
-/// Fails unless the frame of what was told and of the panel has these bytes.
+/// Draws the panel, and fails unless the frame of what was told and of the panel has these bytes.
+/// Returns how many columns the lines of the panel have.
 fn draws(
     rt: &impl Abort,
     alloc: Global,
     watcher: &Watcher,
-    standing: usize,
+    standing: &[usize],
+    view: View,
+    frame: &str,
+) -> Vec<usize> {
+    let mut panel = Canvas::new(alloc);
+    push_panel(&mut panel, watcher, view);
+    writes(
+        rt,
+        alloc,
+        view.size.columns,
+        standing,
+        watcher.told(),
+        panel.text(),
+        frame,
+    );
+    panel.into_widths()
+}
+
+/// Fails unless the frame has these bytes.
+fn writes(
+    rt: &impl Abort,
+    alloc: Global,
+    columns: usize,
+    standing: &[usize],
+    told: &[u8],
     panel: &MessageText,
     frame: &str,
 ) {
     let mut out = MessageText::new(alloc);
-    push_frame(&mut out, standing, watcher.told(), panel);
+    push_frame(&mut out, columns, standing, told, panel);
     assert!(rt; out.is_whole());
     assert_eq!(rt; out.as_bytes(), frame.as_bytes());
-}
-
-/// The panel of 80 columns and 24 rows.
-fn panel_of(alloc: Global, watcher: &Watcher, since: u64) -> MessageText {
-    let mut out = MessageText::new(alloc);
-    let _lines = push_panel(&mut out, watcher, view(80, 24, false, since));
-    out
 }
 
 #[test]
@@ -122,14 +156,35 @@ fn a_frame_has_what_was_told_and_the_panel(rt: HostRuntime) {
     let mut watcher = beginning(alloc);
     read(&rt, &mut watcher, BEGUN);
     watcher.clear();
-    let panel = panel_of(alloc, &watcher, 2_500_000);
-    draws(&rt, alloc, &watcher, 0, &panel, BEGUN_FRAME);
+    let begun = view(80, 24, false, 2_500_000);
+    let standing = draws(&rt, alloc, &watcher, &[], begun, BEGUN_FRAME);
     read(&rt, &mut watcher, ENDED);
-    let panel = panel_of(alloc, &watcher, 0);
-    draws(&rt, alloc, &watcher, 2, &panel, ENDED_FRAME);
-    watcher.clear();
+    let ended = view(80, 24, false, 0);
+    let standing = draws(&rt, alloc, &watcher, &standing, ended, ENDED_FRAME);
     let none = MessageText::new(alloc);
-    draws(&rt, alloc, &watcher, 1, &none, LAST_FRAME);
+    writes(&rt, alloc, 80, &standing, &[], &none, LAST_FRAME);
+}
+
+#[test]
+fn a_frame_goes_up_over_broken_lines(rt: HostRuntime) {
+    let alloc = rt.alloc();
+    let mut watcher = beginning(alloc);
+    read(&rt, &mut watcher, BEGUN);
+    watcher.clear();
+    let at_80 = view(80, 24, false, 2_500_000);
+    let standing = draws(&rt, alloc, &watcher, &[], at_80, BEGUN_FRAME);
+    let at_60 = view(60, 16, false, 3_500_000);
+    let standing = draws(&rt, alloc, &watcher, &standing, at_60, NARROW_FRAME);
+    let at_100 = view(100, 30, false, 4_500_000);
+    let standing = draws(&rt, alloc, &watcher, &standing, at_100, WIDE_FRAME);
+    let none = MessageText::new(alloc);
+    writes(&rt, alloc, 20, &standing, &[], &none, NARROWEST_FRAME);
+}
+
+#[test]
+fn a_line_takes_a_row_for_each_width_of_the_terminal(rt: HostRuntime) {
+    assert_eq!(rt; rows_taken(20, &[0, 1, 20, 21, 40, 41]), 10);
+    assert_eq!(rt; rows_taken(80, &[]), 0);
 }
 
 #[test]

@@ -1,0 +1,5 @@
+//! Tests of `stream_watch_cli`.
+#![tactic(auto)]
+
+#[cfg(test)]
+mod tests;
