@@ -1,0 +1,10 @@
+pub mod Colours
+pub mod Fine
+pub mod Lines
+pub mod Pieces
+pub mod Printing
+pub mod Shut
+pub mod Signs
+pub mod TimeFronts
+pub mod Times
+pub mod Widths

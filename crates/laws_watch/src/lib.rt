@@ -1,0 +1,8 @@
+//! Laws of what `watch` prints.
+//!
+//! Each function does nothing: its contract is the law. No program links this crate.
+#![tactic(auto)]
+
+mod printed;
+
+pub use printed::{colours_can_be_taken_out, no_line_is_wider, no_text_steers};
