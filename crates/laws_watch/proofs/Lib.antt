@@ -1,3 +1,4 @@
+pub mod Alike
 pub mod Colours
 pub mod Fine
 pub mod Lines

@@ -1,1 +1,2 @@
+pub mod HiddenValues
 pub mod PrintedLines

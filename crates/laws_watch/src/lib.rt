@@ -3,6 +3,8 @@
 //! Each function does nothing: its contract is the law. No program links this crate.
 #![tactic(auto)]
 
+mod hidden;
 mod printed;
 
+pub use hidden::sensitive_values_are_hidden;
 pub use printed::{colours_can_be_taken_out, no_line_is_wider, no_text_steers};
