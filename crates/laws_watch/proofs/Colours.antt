@@ -27,11 +27,11 @@ use Rattle.laws_watch.proofs.TimeFronts.{time-front}
 abbrev pub BecomeBytes : (coloured plain : List ℕ) → Type 0
 BecomeBytes coloured plain = (more : List ℕ) → uncoloured (coloured ++ more) ≡ plain ++ uncoloured more
 
-become-append : (xs ys plain_xs plain_ys : List ℕ) → BecomeBytes xs plain_xs → BecomeBytes ys plain_ys → BecomeBytes (xs ++ ys) (plain_xs ++ plain_ys)
+pub become-append : (xs ys plain_xs plain_ys : List ℕ) → BecomeBytes xs plain_xs → BecomeBytes ys plain_ys → BecomeBytes (xs ++ ys) (plain_xs ++ plain_ys)
 become-append xs ys plain_xs plain_ys front back more =
     ap uncoloured (append_assoc xs ys more) ∙ front (ys ++ more) ∙ ap (λ t. plain_xs ++ t) (back more) ∙ sym (append_assoc plain_xs plain_ys (uncoloured more))
 
-become-none : BecomeBytes [] []
+pub become-none : BecomeBytes [] []
 become-none more = refl
 
 -- ---- sequences
@@ -181,19 +181,16 @@ become-timed_lines elapsed mark (piece ∷ pieces) fine =
 
 -- ---- texts
 
-become-whole : (coloured plain : List ℕ) → BecomeBytes coloured plain → uncoloured coloured ≡ plain
+pub become-whole : (coloured plain : List ℕ) → BecomeBytes coloured plain → uncoloured coloured ≡ plain
 unfolding uncoloured_after
 become-whole coloured plain become = ap uncoloured (sym (append-nil coloured)) ∙ become [] ∙ append-nil plain
 
-pub line-uncoloured : (width : Option ℕ) (elapsed : ℕ) (mark : Mark) (text : List ℕ)
-    → uncoloured (line_bytes width true elapsed mark text) ≡ line_bytes width false elapsed mark text
+pub become-line : (width : Option ℕ) (elapsed : ℕ) (mark : Mark) (text : List ℕ) → BecomeBytes (line_bytes width true elapsed mark text) (line_bytes width false elapsed mark text)
 unfolding line_bytes
-line-uncoloured width elapsed mark text =
-    become-whole _ _
-    (become-timed_lines elapsed mark (pieces_in width (shown_characters text)) (pieces_in-fine width (shown_characters text) (shown_characters-fine text)))
+become-line width elapsed mark text =
+    become-timed_lines elapsed mark (pieces_in width (shown_characters text)) (pieces_in-fine width (shown_characters text) (shown_characters-fine text))
 
-pub further-uncoloured : (width : Option ℕ) (mark : Mark) (text : List ℕ) → uncoloured (further_bytes width true mark text) ≡ further_bytes width false mark text
+pub become-further : (width : Option ℕ) (mark : Mark) (text : List ℕ) → BecomeBytes (further_bytes width true mark text) (further_bytes width false mark text)
 unfolding further_bytes
-further-uncoloured width mark text =
-    become-whole _ _
-    (become-later_lines mark None (pieces_in width (shown_characters text)) (pieces_in-fine width (shown_characters text) (shown_characters-fine text)))
+become-further width mark text =
+    become-later_lines mark None (pieces_in width (shown_characters text)) (pieces_in-fine width (shown_characters text) (shown_characters-fine text))

@@ -6,6 +6,8 @@ pub mod Pieces
 pub mod Printing
 pub mod Shut
 pub mod Signs
+pub mod Streams
 pub mod TimeFronts
 pub mod Times
+pub mod Walk
 pub mod Widths

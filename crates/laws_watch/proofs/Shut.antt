@@ -27,8 +27,11 @@ use Rattle.laws_watch.proofs.TimeFronts.{time-front}
 abbrev pub AreShut : List ℕ → Type 0
 AreShut bytes = (more : List ℕ) → none_opens command_start.Nothing more ≡ true → none_opens command_start.Nothing (bytes ++ more) ≡ true
 
-shut-append : (xs ys : List ℕ) → AreShut xs → AreShut ys → AreShut (xs ++ ys)
+pub shut-append : (xs ys : List ℕ) → AreShut xs → AreShut ys → AreShut (xs ++ ys)
 shut-append xs ys front back more none = rw (append_assoc xs ys more) (front (ys ++ more) (back more none))
+
+pub shut-none : AreShut []
+shut-none more none = none
 
 shut-quiet : (cs : List ℕ) → AllQuiet cs → AreShut (encodes cs)
 shut-quiet [] quiet more none = none
@@ -96,8 +99,8 @@ shut-text true (Some rendition) cs fine =
 
 -- ---- lines
 
-none : (more : List ℕ) → none_opens command_start.Nothing more ≡ true → none_opens command_start.Nothing more ≡ true
-none more shut = shut
+through : (more : List ℕ) → none_opens command_start.Nothing more ≡ true → none_opens command_start.Nothing more ≡ true
+through more none = none
 
 either : (test : Bool) (x y : List ℕ) → AreShut x → AreShut y → AreShut (if test then x else y)
 either true x y then_is else_is = then_is
@@ -108,21 +111,21 @@ shut-behind_front : (has_colour : Bool) (sign : _) (text_as : Option Rendition) 
 shut-behind_front has_colour sign text_as [] bytes is quiet fine =
     subst AreShut is (
     let shown = stretch has_colour sign.rendition (sign.character ∷ []) in
-    either (sign.character == 32) (10 ∷ []) (codes "  " ++ shown ++ 10 ∷ []) none
-    (shut-append (codes "  " ++ shown) (10 ∷ []) (shut-append (codes "  ") shown none (shut-stretch has_colour sign.rendition (sign.character ∷ []) (quiet, tt))) none))
+    either (sign.character == 32) (10 ∷ []) (codes "  " ++ shown ++ 10 ∷ []) through
+    (shut-append (codes "  " ++ shown) (10 ∷ []) (shut-append (codes "  ") shown through (shut-stretch has_colour sign.rendition (sign.character ∷ []) (quiet, tt))) through))
 shut-behind_front has_colour sign text_as (c ∷ cs) bytes is quiet fine =
     subst AreShut is (
     let shown = stretch has_colour sign.rendition (sign.character ∷ []) in
     let text = stretch has_colour text_as (c ∷ cs) in
     let front = codes "  " ++ shown ++ codes " " in
     let front_shut : AreShut front =
-    shut-append (codes "  " ++ shown) (codes " ") (shut-append (codes "  ") shown none (shut-stretch has_colour sign.rendition (sign.character ∷ []) (quiet, tt))) none in
+    shut-append (codes "  " ++ shown) (codes " ") (shut-append (codes "  ") shown through (shut-stretch has_colour sign.rendition (sign.character ∷ []) (quiet, tt))) through in
     subst AreShut (sym (append_assoc front text (10 ∷ []))) (shut-append front (text ++ 10 ∷ []) front_shut (shut-text has_colour text_as (c ∷ cs) fine)))
 
 shut-later : (has_colour : Bool) (mark : Mark) (text_as : Option Rendition) (text : List ℕ) → IsFine text → AreShut (later_line has_colour mark text_as text)
 shut-later has_colour mark text_as text fine =
     let quiet : IsQuiet (bar_of mark).character = rw (bar_is mark) bar.quiet in
-    shut-append (replicate 6 32) (behind_front has_colour (bar_of mark) text_as text) none (shut-behind_front has_colour (bar_of mark) text_as text _ refl quiet fine)
+    shut-append (replicate 6 32) (behind_front has_colour (bar_of mark) text_as text) through (shut-behind_front has_colour (bar_of mark) text_as text _ refl quiet fine)
 
 shut-time_front : (has_colour : Bool) (elapsed : ℕ) → AreShut (time_front has_colour elapsed)
 shut-time_front has_colour elapsed =
@@ -139,14 +142,14 @@ shut-timed has_colour elapsed mark text fine =
 
 shut-later_lines : (has_colour : Bool) (mark : Mark) (text_as : Option Rendition) (pieces : List (List ℕ)) → All IsFine pieces
     → AreShut (later_lines has_colour mark text_as pieces)
-shut-later_lines has_colour mark text_as [] fine = none
+shut-later_lines has_colour mark text_as [] fine = through
 shut-later_lines has_colour mark text_as (piece ∷ pieces) fine =
     shut-append (later_line has_colour mark text_as piece) (later_lines has_colour mark text_as pieces)
     (shut-later has_colour mark text_as piece (All-head IsFine piece pieces fine))
     (shut-later_lines has_colour mark text_as pieces (All-tail IsFine piece pieces fine))
 
 shut-timed_lines : (has_colour : Bool) (elapsed : ℕ) (mark : Mark) (pieces : List (List ℕ)) → All IsFine pieces → AreShut (timed_lines has_colour elapsed mark pieces)
-shut-timed_lines has_colour elapsed mark [] fine = none
+shut-timed_lines has_colour elapsed mark [] fine = through
 shut-timed_lines has_colour elapsed mark (piece ∷ pieces) fine =
     shut-append (timed_line has_colour elapsed mark piece) (later_lines has_colour mark (text_rendition mark) pieces)
     (shut-timed has_colour elapsed mark piece (All-head IsFine piece pieces fine))
@@ -154,17 +157,15 @@ shut-timed_lines has_colour elapsed mark (piece ∷ pieces) fine =
 
 -- ---- texts
 
-no_command-shut : (bytes : List ℕ) → AreShut bytes → HoldsNoCommand bytes
+pub no_command-shut : (bytes : List ℕ) → AreShut bytes → HoldsNoCommand bytes
 no_command-shut bytes shut = HoldsNoCommand-from command_start.Nothing bytes (rw (append-nil bytes) at (shut [] refl))
 
-pub line-no_command : (width : Option ℕ) (has_colour : Bool) (elapsed : ℕ) (mark : Mark) (text : List ℕ) → HoldsNoCommand (line_bytes width has_colour elapsed mark text)
+pub shut-line : (width : Option ℕ) (has_colour : Bool) (elapsed : ℕ) (mark : Mark) (text : List ℕ) → AreShut (line_bytes width has_colour elapsed mark text)
 unfolding line_bytes
-line-no_command width has_colour elapsed mark text =
-    no_command-shut _
-    (shut-timed_lines has_colour elapsed mark (pieces_in width (shown_characters text)) (pieces_in-fine width (shown_characters text) (shown_characters-fine text)))
+shut-line width has_colour elapsed mark text =
+    shut-timed_lines has_colour elapsed mark (pieces_in width (shown_characters text)) (pieces_in-fine width (shown_characters text) (shown_characters-fine text))
 
-pub further-no_command : (width : Option ℕ) (has_colour : Bool) (mark : Mark) (text : List ℕ) → HoldsNoCommand (further_bytes width has_colour mark text)
+pub shut-further : (width : Option ℕ) (has_colour : Bool) (mark : Mark) (text : List ℕ) → AreShut (further_bytes width has_colour mark text)
 unfolding further_bytes
-further-no_command width has_colour mark text =
-    no_command-shut _
-    (shut-later_lines has_colour mark None (pieces_in width (shown_characters text)) (pieces_in-fine width (shown_characters text) (shown_characters-fine text)))
+shut-further width has_colour mark text =
+    shut-later_lines has_colour mark None (pieces_in width (shown_characters text)) (pieces_in-fine width (shown_characters text) (shown_characters-fine text))

@@ -1,9 +1,10 @@
 -- Lines of text, and how they begin.
-use Rattle.std.specs.Prelude.{◌≡◌, ◌<◌, ◌+◌, ◌∷◌, ◌++◌, [], ℕ, List, All, encode_utf8, replicate}
+use Rattle.std.specs.Prelude.{◌≡◌, ◌⊎◌, ◌<◌, ◌+◌, ◌∷◌, ◌++◌, [], ℕ, Bool, List, All, encode_utf8, replicate}
 use Rattle.std.specs.List.{flat_map}
 use Rattle.std.specs.Str.{NoCharPasses}
 use Rattle.term_text.specs.Commands.{HoldsNoCommand}
 use Rattle.term_text.specs.Shown.{is_hidden}
+use Rattle.stream_watch.specs.declared.looks.Looks.{Looks}
 
 -- ---- how a line begins
 
@@ -19,6 +20,10 @@ pub record BeginsWithTime (line : List ℕ) : Type 0 where
 pub record BeginsWithBar (line : List ℕ) : Type 0 where
   pub rest : List ℕ
   pub is : line ≡ replicate 8 32 ++ encode_utf8 0x2502 ++ rest
+
+-- with a time or with a bar
+abbrev pub BeginsAsTold : (line : List ℕ) → Type 0
+BeginsAsTold line = BeginsWithTime line ⊎ BeginsWithBar line
 
 -- ---- lines
 
@@ -47,3 +52,7 @@ pub record AreTimedLines (bytes : List ℕ) : Type 0 where
   pub begins : BeginsWithTime first
   pub later : AreLines BeginsWithBar rest
   pub are : bytes ≡ first ++ 10 ∷ rest
+
+-- the same looks, with colours or without
+abbrev pub with_colour : (has_colour : Bool) → Looks → Looks
+with_colour has_colour looks = record looks { has_colour = has_colour }

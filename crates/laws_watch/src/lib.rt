@@ -7,4 +7,4 @@ mod hidden;
 mod printed;
 
 pub use hidden::sensitive_values_are_hidden;
-pub use printed::{colours_can_be_taken_out, no_line_is_wider, no_text_steers};
+pub use printed::{colours_can_be_taken_out, no_line_is_wider, no_stream_steers, no_text_steers};
