@@ -1,6 +1,9 @@
 pub mod Alike
 pub mod Colours
+pub mod DrawnBegins
 pub mod Fine
+pub mod FirstOnes
+pub mod KindBegins
 pub mod Lines
 pub mod Pieces
 pub mod Printing
@@ -10,4 +13,5 @@ pub mod Streams
 pub mod TimeFronts
 pub mod Times
 pub mod Walk
+pub mod WatchedBegins
 pub mod Widths
