@@ -1,12 +1,15 @@
 pub mod Alike
+pub mod Blank
 pub mod Colours
 pub mod DrawnBegins
 pub mod Fine
 pub mod FirstOnes
 pub mod KindBegins
+pub mod LineBegins
 pub mod Lines
 pub mod Pieces
 pub mod Printing
+pub mod RowBegins
 pub mod Shut
 pub mod Signs
 pub mod Streams
