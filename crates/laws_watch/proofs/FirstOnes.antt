@@ -118,7 +118,8 @@ module _ {A : Type 0} where
       rw here
       (record { element = x; passes = yes; is = λ d. refl; chosen = filter test xs; first = kept_first test x xs yes; changed = λ change d. refl }))
       (λ (out : test x ≡ false).
-      let later : option_map suc (first_of (places test xs)) ≡ Some place = sym (later_place test 0 xs) ∙ (rw out at is) in
+      let next : first_of (places_from (0 + 1) test xs) ≡ Some place = rw out at is in
+      let later : option_map suc (first_of (places test xs)) ≡ Some place = sym (later_place test 0 xs) ∙ next in
       let found = from_later (first_of (places test xs)) place later in
       let rest = stands_first test xs found.0 found.1 in
       rw found.2

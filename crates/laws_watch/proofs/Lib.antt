@@ -2,6 +2,7 @@ pub mod Alike
 pub mod Blank
 pub mod Colours
 pub mod DrawnBegins
+pub mod Ends
 pub mod Fine
 pub mod FirstOnes
 pub mod KindBegins
