@@ -1,6 +1,9 @@
 pub mod Asked
 pub mod Diagnostics
+pub mod Durations
+pub mod HiddenValues
 pub mod Memory
+pub mod PrintedLines
 pub mod Rows
 pub mod Told
 pub mod Verdict
