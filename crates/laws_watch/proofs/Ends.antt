@@ -75,7 +75,7 @@ resource-named hook (Some resource) named is = address-named hook (text_of (code
 
 hook-named : (hook : Option Data) (named : Hook)
     → (hook >>= λ hook. (member_of (codes "resource") hook
-        >>= λ resource. option_map (λ address. record { hook = hook; address = address }) (non_empty_text_of (codes "addr") resource))) ≡ Some named
+    >>= λ resource. option_map (λ address. record { hook = hook; address = address }) (non_empty_text_of (codes "addr") resource))) ≡ Some named
     → bytes_eq [] named.address ≡ false
 hook-named None named is = absurd (cc)
 hook-named (Some hook) named is = resource-named hook (member_of (codes "resource") hook) named is

@@ -122,7 +122,7 @@ module _ {B : Type 0} (e : List ℕ → List ℕ → B) (base : B) (nameless : (
 
   by_address : (hook : Data) (address : Option (List ℕ))
       → effect ((option_map (λ address. record { hook = trimmed message_selection shape.Hook hook; address = address }) (address >>= unless_empty))
-          >>= λ (named : Hook). option_map (named_step named) (text_of (codes "action") named.hook))
+      >>= λ (named : Hook). option_map (named_step named) (text_of (codes "action") named.hook))
       ≡ stated address (text_of (codes "action") hook)
   by_address hook None = refl
   by_address hook (Some []) = no_name (text_of (codes "action") hook)
@@ -133,8 +133,8 @@ module _ {B : Type 0} (e : List ℕ → List ℕ → B) (base : B) (nameless : (
 
   by_resource : (hook : Data) (resource : Option Data)
       → effect ((option_map (trimmed message_selection shape.HookResource) resource
-          >>= λ resource. option_map (λ address. record { hook = trimmed message_selection shape.Hook hook; address = address }) (non_empty_text_of (codes "addr") resource))
-          >>= λ (named : Hook). option_map (named_step named) (text_of (codes "action") named.hook))
+      >>= λ resource. option_map (λ address. record { hook = trimmed message_selection shape.Hook hook; address = address }) (non_empty_text_of (codes "addr") resource))
+      >>= λ (named : Hook). option_map (named_step named) (text_of (codes "action") named.hook))
       ≡ stated (resource >>= text_of (codes "addr")) (text_of (codes "action") hook)
   by_resource hook None = refl
   by_resource hook (Some resource) =
@@ -145,9 +145,9 @@ module _ {B : Type 0} (e : List ℕ → List ℕ → B) (base : B) (nameless : (
 
   by_hook : (hook : Option Data)
       → effect ((option_map (trimmed message_selection shape.Hook) hook
-          >>= λ hook. (member_of (codes "resource") hook
-          >>= λ resource. option_map (λ address. record { hook = hook; address = address }) (non_empty_text_of (codes "addr") resource)))
-          >>= λ (named : Hook). option_map (named_step named) (text_of (codes "action") named.hook))
+      >>= λ hook. (member_of (codes "resource") hook
+      >>= λ resource. option_map (λ address. record { hook = hook; address = address }) (non_empty_text_of (codes "addr") resource)))
+      >>= λ (named : Hook). option_map (named_step named) (text_of (codes "action") named.hook))
       ≡ stated ((hook >>= member_of (codes "resource")) >>= text_of (codes "addr")) (hook >>= text_of (codes "action"))
   by_hook None = refl
   by_hook (Some hook) =
