@@ -1,6 +1,6 @@
 -- The duration of an end.
-use Rattle.std.proofs.Common.{◌≡◌, ◌∙◌, ℕ, suc, ◌+◌, ◌-◌, ◌<◌, ◌∷◌, ◌++◌, [], Bool, List, Option, None, Some, true, false, ⊎_elim, ap, ap₂, arith, codes, fold, get_or, map, refl, sym}
-use Rattle.std.specs.Prelude.{ℤ, int_lt, pos, negsuc, ◌||◌, All, if◌then◌else◌, filter, find, option_and_then, option_map, unwrap_or}
+use Rattle.std.proofs.Common.{◌≡◌, ◌∙◌, ℕ, ◌∷◌, ◌++◌, [], Bool, List, Option, None, Some, true, false, ⊎_elim, ap, arith, codes, get_or, map, refl, sym}
+use Rattle.std.specs.Prelude.{ℤ, int_lt, pos, negsuc, All, if◌then◌else◌, filter, option_map}
 use Rattle.std.specs.Int.{int_gap, int_max}
 use Rattle.std.specs.Option.{option_map_or, option_or}
 use Rattle.std.specs.Str.{bytes_eq}
@@ -23,8 +23,8 @@ use Rattle.stream_watch.specs.Hooks.{Hook, hook_of}
 use Rattle.stream_watch.specs.Reading as watched_messages
 use Rattle.stream_watch.specs.Reading.{if_typed}
 use Rattle.stream_watch.specs.Shape.{message_selection}
-use Rattle.stream_watch.specs.State.{State, beginning}
-use Rattle.stream_watch.specs.StepRows.{NamedStep, named_step, stated_length, step_length, step_of}
+use Rattle.stream_watch.specs.State.{beginning}
+use Rattle.stream_watch.specs.StepRows.{NamedStep, named_step, stated_length, step_of}
 use Rattle.stream_watch.specs.Steps.{Step, begin_of_first, is_step}
 use Rattle.stream_watch.specs.Stream.{lines_told}
 use Rattle.stream_watch.specs.Telling.{moment_of}
@@ -33,8 +33,7 @@ use Rattle.stream_watch.specs.declared.looks.Looks.{Looks}
 use Rattle.stream_watch.specs.declared.message.shape.MessageShape.TheVariants as shape
 use Rattle.laws_watch.specs.Durations.{IsEndOf, IsTimed, ended_place, is_end_type, told_length}
 use Rattle.laws_watch.proofs.Blank.{no_tree}
-use Rattle.laws_watch.proofs.DrawnBegins.{drawn_begins}
-use Rattle.laws_watch.proofs.FirstOnes.{StandsFirst, find-chosen, stands_first}
+use Rattle.laws_watch.proofs.FirstOnes.{find-chosen, stands_first}
 use Rattle.laws_watch.proofs.KindBegins.{step_effect}
 use Rattle.laws_watch.proofs.LineBegins.{lines_same, same_moment}
 use Rattle.laws_watch.proofs.RowBegins.{IsKey}
@@ -75,7 +74,7 @@ resource-named hook (Some resource) named is = address-named hook (text_of (code
 
 hook-named : (hook : Option Data) (named : Hook)
     → (hook >>= λ hook. (member_of (codes "resource") hook
-        >>= λ resource. option_map (λ address. record { hook = hook; address = address }) (non_empty_text_of (codes "addr") resource))) ≡ Some named
+    >>= λ resource. option_map (λ address. record { hook = hook; address = address }) (non_empty_text_of (codes "addr") resource))) ≡ Some named
     → bytes_eq [] named.address ≡ false
 hook-named None named is = absurd (cc)
 hook-named (Some hook) named is = resource-named hook (member_of (codes "resource") hook) named is
