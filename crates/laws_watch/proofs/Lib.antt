@@ -6,6 +6,7 @@ pub mod Ends
 pub mod Fine
 pub mod FirstOnes
 pub mod KindBegins
+pub mod Lasting
 pub mod LineBegins
 pub mod Lines
 pub mod Pieces
