@@ -1,11 +1,11 @@
 -- A blank line has no message.
-use Rattle.std.proofs.Common.{◌≡◌, ◌∙◌, ℕ, ◌==◌, ◌∷◌, [], Bool, List, Option, None, true, false, ⊎_elim, ap, eqb-true, refl, sym}
-use Rattle.std.specs.Prelude.{◌||◌, if◌then◌else◌, option_and_then}
+use Rattle.std.proofs.Common.{◌≡◌, ◌∙◌, ℕ, ◌==◌, ◌∷◌, [], Bool, List, Option, None, true, false, ⊎_elim, ap, eqb-true, refl}
+use Rattle.std.specs.Prelude.{if◌then◌else◌, option_and_then}
 use Rattle.std.specs.List.{list_all}
 use Rattle.std.specs.Str.{is_utf8}
 use Rattle.std.proofs.lemmas.Bool.{and_parts, cases_Bool}
 use Rattle.json.specs.Json as json
-use Rattle.json.specs.Lex.{between, fresh, lex, punctuate, tokens}
+use Rattle.json.specs.Lex.{between, fresh, lex, punctuate}
 use Rattle.json.proofs.Grammar.{value_is}
 use Rattle.serde_json.specs.Data.{Data}
 use Rattle.serde_json.specs.Read.{max_depth, of_json, read}

@@ -1,7 +1,7 @@
 -- When the open steps of an action and address began, as `view` knows it, and how the content of a
 -- message changes that.
 use Rattle.std.proofs.Common.{◌≡◌, ◌∙◌, ℕ, zero, suc, ◌+◌, ◌∷◌, ◌++◌, [], Bool, List, Option, None, Some, true, false, ⊎_elim, ap, ap₂, append-nil, drop, map, refl, sym}
-use Rattle.std.specs.Prelude.{ℤ, ◌&&◌, filter, if◌then◌else◌}
+use Rattle.std.specs.Prelude.{ℤ, ◌&&◌, filter}
 use Rattle.std.specs.Option.{option_map_or}
 use Rattle.std.specs.Str.{bytes_eq}
 use Rattle.std.proofs.lemmas.Bool.{and_parts, cases_Bool}
@@ -9,7 +9,7 @@ use Rattle.std.proofs.lemmas.List.{map-append}
 use Rattle.std.proofs.lemmas.List.Elements.{filter-append}
 use Rattle.apply_json.proofs.Held.{is_name}
 use Rattle.stream_timeline.specs.Messages.{Content, begins, begins_provisioner, ends, ends_provisioner, error, other, plan_summary, summary, unusable, version, warning}
-use Rattle.stream_timeline.specs.Steps.{StepRead, at_place, begun_step, ended, first_of, has_open_provisioner, is_open, is_open_at, is_open_with, last_of, marked, marked_by_error, passes_at, places, with_provisioner, with_provisioner_ended}
+use Rattle.stream_timeline.specs.Steps.{StepRead, at_place, begun_step, ended, first_of, has_open_provisioner, is_open, is_open_at, is_open_with, last_of, marked_by_error, passes_at, places, with_provisioner, with_provisioner_ended}
 use Rattle.stream_timeline.specs.TimelineRead.{TimelineRead, with_content, with_passed_over, with_provisioner_end_at}
 use Rattle.laws_watch.proofs.FirstOnes.{at_first_place, first_changed}
 use Rattle.laws_watch.proofs.WatchedBegins.{is_key, with_key_begin, with_key_end}

@@ -1,6 +1,6 @@
 -- The duration of an end.
-use Rattle.std.proofs.Common.{◌≡◌, ◌∙◌, ℕ, suc, ◌+◌, ◌-◌, ◌<◌, ◌∷◌, ◌++◌, [], Bool, List, Option, None, Some, true, false, ⊎_elim, ap, ap₂, arith, codes, fold, get_or, map, refl, sym}
-use Rattle.std.specs.Prelude.{ℤ, int_lt, pos, negsuc, ◌||◌, All, if◌then◌else◌, filter, find, option_and_then, option_map, unwrap_or}
+use Rattle.std.proofs.Common.{◌≡◌, ◌∙◌, ℕ, ◌∷◌, ◌++◌, [], Bool, List, Option, None, Some, true, false, ⊎_elim, ap, arith, codes, fold, get_or, map, refl, sym, zero, suc, subst}
+use Rattle.std.specs.Prelude.{ℤ, int_lt, pos, negsuc, All, if◌then◌else◌, filter, option_map}
 use Rattle.std.specs.Int.{int_gap, int_max}
 use Rattle.std.specs.Option.{option_map_or, option_or}
 use Rattle.std.specs.Str.{bytes_eq}
@@ -16,15 +16,15 @@ use Rattle.stream_message.specs.Members.{address_of, hook_text, time_of, type_of
 use Rattle.stream_timeline.specs.Intervals.{length_of}
 use Rattle.stream_timeline.specs.Messages as drawn_messages
 use Rattle.stream_timeline.specs.Messages.{Content, content_of, end_of, ends, message_at, tree_message, unusable}
-use Rattle.stream_timeline.specs.Steps.{StepRead, at_place, ended, first_of, is_open_with, places}
+use Rattle.stream_timeline.specs.Steps.{StepRead, at_place, begun_step, ended, first_of, is_open_with, places}
 use Rattle.stream_timeline.specs.TimelineRead.{TimelineRead, counted_line, empty_timeline, is_blank_line, timeline_of, with_line, with_message_or_passed_over, with_passed_over}
 use Rattle.stream_timeline.specs.declared.reading.time_range.TimeRange.{TimeRange}
 use Rattle.stream_watch.specs.Hooks.{Hook, hook_of}
 use Rattle.stream_watch.specs.Reading as watched_messages
 use Rattle.stream_watch.specs.Reading.{if_typed}
 use Rattle.stream_watch.specs.Shape.{message_selection}
-use Rattle.stream_watch.specs.State.{State, beginning}
-use Rattle.stream_watch.specs.StepRows.{NamedStep, named_step, stated_length, step_length, step_of}
+use Rattle.stream_watch.specs.State.{beginning}
+use Rattle.stream_watch.specs.StepRows.{NamedStep, named_step, stated_length, step_of}
 use Rattle.stream_watch.specs.Steps.{Step, begin_of_first, is_step}
 use Rattle.stream_watch.specs.Stream.{lines_told}
 use Rattle.stream_watch.specs.Telling.{moment_of}
@@ -33,9 +33,9 @@ use Rattle.stream_watch.specs.declared.looks.Looks.{Looks}
 use Rattle.stream_watch.specs.declared.message.shape.MessageShape.TheVariants as shape
 use Rattle.laws_watch.specs.Durations.{IsEndOf, IsTimed, ended_place, is_end_type, told_length}
 use Rattle.laws_watch.proofs.Blank.{no_tree}
-use Rattle.laws_watch.proofs.DrawnBegins.{drawn_begins}
-use Rattle.laws_watch.proofs.FirstOnes.{StandsFirst, find-chosen, stands_first}
+use Rattle.laws_watch.proofs.FirstOnes.{find-chosen, stands_first}
 use Rattle.laws_watch.proofs.KindBegins.{step_effect}
+use Rattle.laws_watch.proofs.Lasting.{EndsAt, lasting-length, lasts-lines}
 use Rattle.laws_watch.proofs.LineBegins.{lines_same, same_moment}
 use Rattle.laws_watch.proofs.RowBegins.{IsKey}
 use Rattle.laws_watch.proofs.WatchedBegins.{watched_begins}
@@ -52,9 +52,6 @@ gap-max : (begin moment : ℤ) → int_gap begin (int_max begin moment) ≡ int_
 gap-max begin moment =
     ⊎_elim (λ (less : int_lt moment begin ≡ true). rw less (no_gap begin moment less)) (λ (more : int_lt moment begin ≡ false). rw more refl)
     (cases_Bool (int_lt moment begin))
-
-ended-length : (time_range : TimeRange) (moment : ℤ) (failed : Bool) (step : StepRead) → length_of time_range (ended moment failed step) ≡ int_gap step.begin moment
-ended-length time_range moment failed step = gap-max step.begin (int_max step.begin moment) ∙ gap-max step.begin moment
 
 -- ---- what an end names
 
@@ -194,10 +191,23 @@ known_begin address action steps =
     ap (option_map (λ (step : Step). step.begin)) (find-chosen (is_step address action false) steps)
     ∙ first_mapped (λ (step : Step). step.begin) (filter (is_step address action false) steps)
 
-pub told_is_drawn : (looks : Looks) (lines : List (List ℕ)) (line : List ℕ) (step : NamedStep) (moment : ℤ) (place : ℕ) (time_range : TimeRange) (absent : StepRead)
+-- the step that stands at an index
+from_index : (begin end : ℤ) (steps : List StepRead) (place : ℕ) (element : StepRead) → ((absent : StepRead) → get_or steps place absent ≡ element)
+    → element.begin ≡ begin → element.end ≡ Some end → EndsAt begin end steps place
+from_index begin end [] place element is from until =
+    let one : begun_step 0 [] [] (pos 0) ≡ element = is (begun_step 0 [] [] (pos 0)) in
+    let two : begun_step 1 [] [] (pos 0) ≡ element = is (begun_step 1 [] [] (pos 0)) in
+    let same : 0 ≡ 1 = ap (λ (s : StepRead). s.line) (one ∙ sym two) in
+    absurd (omega (arith, same))
+from_index begin end (step ∷ steps) zero element is from until =
+    let same : step ≡ element = is step in
+    (ap (λ (s : StepRead). s.begin) same ∙ from, ap (λ (s : StepRead). s.end) same ∙ until)
+from_index begin end (step ∷ steps) (suc place) element is from until = from_index begin end steps place element is from until
+
+pub told_is_drawn : (looks : Looks) (lines : List (List ℕ)) (line : List ℕ) (rest : List (List ℕ)) (step : NamedStep) (moment : ℤ) (place : ℕ) (time_range : TimeRange) (absent : StepRead)
     → All (IsTimed step.address step.action) lines → IsEndOf step moment line → bytes_eq (codes "refresh") step.action ≡ false → ended_place lines step ≡ Some place
-    → told_length looks lines step moment ≡ Some (length_of time_range (get_or (timeline_of (lines ++ line ∷ [])).steps place absent))
-told_is_drawn looks lines line step moment place time_range absent timed end no_refresh found =
+    → told_length looks lines step moment ≡ Some (length_of time_range (get_or (timeline_of (lines ++ line ∷ rest)).steps place absent))
+told_is_drawn looks lines line rest step moment place time_range absent timed end no_refresh found =
     let whole = whole_tree line end.tree end.message in
     let d = whole.whole in
     let tree = trimmed message_selection shape.Message d in
@@ -219,9 +229,15 @@ told_is_drawn looks lines line step moment place time_range absent timed end no_
     known_begin step.address step.action state.steps ∙ ap first_of same ∙ ap (λ steps. first_of (map (λ (s : StepRead). s.begin) steps)) stands.first in
     let told : told_length looks lines step moment ≡ Some (int_gap stands.element.begin moment) =
     ap (λ b. option_or (length_since b moment) (stated_length step.hook)) begin in
-    let later : timeline_of (lines ++ line ∷ []) ≡ with_line line (timeline_of lines) = fold-append (λ t line. with_line line t) empty_timeline lines (line ∷ []) in
-    let steps : (timeline_of (lines ++ line ∷ [])).steps ≡ at_place place (ended moment failed) (timeline_of lines).steps =
-    ap (λ (t : TimelineRead). t.steps) later ∙ drawn_end line end.name d step.address step.action failed moment (timeline_of lines) place whole.is typed time ending found in
-    let drawn : get_or (timeline_of (lines ++ line ∷ [])).steps place absent ≡ ended moment failed stands.element =
-    ap (λ steps. get_or steps place absent) steps ∙ stands.changed (ended moment failed) absent in
-    told ∙ ap Some (sym (ap (length_of time_range) drawn ∙ ended-length time_range moment failed stands.element))
+    let drawn = timeline_of lines in
+    let begun = stands.element.begin in
+    let later : timeline_of (lines ++ line ∷ rest) ≡ fold (λ t line. with_line line t) (with_line line drawn) rest = fold-append (λ t line. with_line line t) empty_timeline lines (line ∷ rest) in
+    let steps : (with_line line drawn).steps ≡ at_place place (ended moment failed) drawn.steps =
+    drawn_end line end.name d step.address step.action failed moment drawn place whole.is typed time ending found in
+    let stands_there : EndsAt begun (int_max begun moment) (at_place place (ended moment failed) drawn.steps) place =
+    from_index begun (int_max begun moment) (at_place place (ended moment failed) drawn.steps) place (ended moment failed stands.element) (stands.changed (ended moment failed)) refl refl in
+    let first : EndsAt begun (int_max begun moment) (with_line line drawn).steps place = subst (λ xs. EndsAt begun (int_max begun moment) xs place) (sym steps) stands_there in
+    let last : EndsAt begun (int_max begun moment) (timeline_of (lines ++ line ∷ rest)).steps place =
+    subst (λ (t : TimelineRead). EndsAt begun (int_max begun moment) t.steps place) (sym later) (lasts-lines begun (int_max begun moment) place rest (with_line line drawn) first) in
+    told ∙ ap Some (sym (lasting-length begun (int_max begun moment) time_range (timeline_of (lines ++ line ∷ rest)).steps place absent last
+    ∙ gap-max begun (int_max begun moment) ∙ gap-max begun moment))

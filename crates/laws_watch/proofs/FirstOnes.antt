@@ -1,8 +1,8 @@
 -- Lists of which some elements are chosen, and the first one that passes a test.
-use Rattle.std.proofs.Common.{◌≡◌, ◌∙◌, ℕ, zero, suc, ◌+◌, ◌<◌, ◌∷◌, ◌++◌, [], Bool, List, Option, None, Some, true, false, not, ⊎_elim, ap, arith, drop, get_or, length, map, refl, sym}
+use Rattle.std.proofs.Common.{◌≡◌, ◌∙◌, ℕ, suc, ◌+◌, ◌∷◌, [], Bool, List, Option, None, Some, true, false, ⊎_elim, ap, arith, drop, get_or, refl, sym}
 use Rattle.std.specs.Prelude.{filter, find, if◌then◌else◌, option_map}
 use Rattle.std.specs.Option.{option_map_or}
-use Rattle.std.proofs.lemmas.Bool.{cases_Bool, true≢false}
+use Rattle.std.proofs.lemmas.Bool.{cases_Bool}
 use Rattle.stream_timeline.specs.Steps.{at_place, first_of, places, places_from}
 use Rattle.stream_watch.specs.Steps.{without_first}
 

@@ -1,9 +1,8 @@
 -- A message changes the open steps in `watch` as its content changes them in `view`.
-use Rattle.std.proofs.Common.{◌≡◌, ◌∙◌, ℕ, ◌==◌, ◌∷◌, ◌++◌, [], Bool, List, Option, None, Some, true, false, cond, not, ⊎_elim, ap, ap₂, codes, refl, sym}
-use Rattle.std.specs.Prelude.{ℤ, ◌&&◌, count_by, filter, if◌then◌else◌, option_and_then, option_map, unwrap_or}
+use Rattle.std.proofs.Common.{◌≡◌, ◌∙◌, ℕ, ◌∷◌, [], Bool, List, Option, None, Some, true, false, cond, ap, codes, refl, sym}
+use Rattle.std.specs.Prelude.{option_map, unwrap_or}
 use Rattle.std.specs.Option.{option_map_or}
 use Rattle.std.specs.Str.{bytes_eq}
-use Rattle.std.proofs.lemmas.Bool.{cases_Bool}
 use Rattle.serde_json.specs.Data.{Data}
 use Rattle.apply_json.specs.Tree.{◌>>=◌, member_of, non_empty_text_of, text_of, unless_empty}
 use Rattle.apply_json.proofs.Held.{is_name}
@@ -15,23 +14,11 @@ use Rattle.stream_message.specs.declared.kind.Kind.{Kind}
 use Rattle.stream_message.specs.declared.kind.Kind.TheVariants as kind
 use Rattle.stream_message.specs.declared.stage.Stage.{Stage}
 use Rattle.stream_message.specs.declared.stage.Stage.TheVariants as stage
-use Rattle.stream_timeline.specs.Messages.{Content, begin_of, begins, content_of, diagnostic_content, diagnostic_with, end_of, ends, other, provisioner_begin_of, provisioner_end_of, refresh_begin_of, refresh_end_of, summary_in, summary_of, version}
-use Rattle.stream_watch.specs.Changes.{change_of}
-use Rattle.stream_watch.specs.DiagnosticRow as diagnostic
-use Rattle.stream_watch.specs.Hooks.{Hook, hook_of}
-use Rattle.stream_watch.specs.Progress.{under_way_told}
-use Rattle.stream_watch.specs.ProvisionerRows.{told_of_provisioner}
-use Rattle.stream_watch.specs.RefreshRow.{noted_refresh, refresh_state, refresh_told, reported_told}
+use Rattle.stream_timeline.specs.Messages.{Content, begin_of, begins, content_of, diagnostic_content, end_of, ends, other, provisioner_begin_of, provisioner_end_of, refresh_begin_of, refresh_end_of, summary_of, version}
+use Rattle.stream_watch.specs.Hooks.{Hook}
 use Rattle.stream_watch.specs.Shape.{message_selection}
-use Rattle.stream_watch.specs.State.{State, Told, nothing}
-use Rattle.stream_watch.specs.StepRows.{NamedStep, named_step, noted_step, step_of, step_told, told_before, told_of_step}
-use Rattle.stream_watch.specs.Steps.{Step, is_step, runs_at}
-use Rattle.stream_watch.specs.Telling.{kind_told}
-use Rattle.stream_watch.specs.declared.looks.Looks.{Looks}
+use Rattle.stream_watch.specs.StepRows.{NamedStep, named_step, step_of}
 use Rattle.stream_watch.specs.declared.message.shape.MessageShape.TheVariants as shape
-use Rattle.laws_watch.specs.Durations.{closes_read}
-use Rattle.laws_watch.proofs.DrawnBegins.{after_content}
-use Rattle.laws_watch.proofs.WatchedBegins.{before-steps, begins-begun, begins-ended, begins-provisioner, begins-read, begins-refresh, begins-refreshed, noted-steps, reported-steps, watched_begins}
 
 -- ---- the content of a kind of message
 

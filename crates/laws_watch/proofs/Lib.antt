@@ -13,6 +13,7 @@ pub mod Kept
 pub mod KindBegins
 pub mod KindRows
 pub mod LastRow
+pub mod Lasting
 pub mod LineBegins
 pub mod LineRows
 pub mod Lines

@@ -1,7 +1,6 @@
 -- A line changes the open steps in `watch` as it changes them in `view`.
-use Rattle.std.proofs.Common.{◌≡◌, ◌∙◌, ℕ, ◌==◌, ◌∷◌, ◌++◌, [], Bool, List, Option, None, Some, true, false, ⊎_elim, ap, ap₂, codes, fold, refl, sym}
-use Rattle.std.specs.Prelude.{ℤ, All, if◌then◌else◌, is_some, option_and_then, option_map, unwrap_or}
-use Rattle.std.specs.Option.{option_map_or}
+use Rattle.std.proofs.Common.{◌≡◌, ◌∙◌, ℕ, ◌∷◌, [], Bool, List, Option, None, Some, true, false, ⊎_elim, ap, codes, fold, refl, sym}
+use Rattle.std.specs.Prelude.{ℤ, All, is_some, option_and_then, option_map, unwrap_or}
 use Rattle.std.proofs.lemmas.Bool.{cases_Bool, true≢false}
 use Rattle.std.proofs.lemmas.List.Elements.{All-head, All-tail}
 use Rattle.serde_json.specs.Data.{Data}
@@ -29,7 +28,7 @@ use Rattle.stream_watch.specs.declared.message.shape.MessageShape.TheVariants as
 use Rattle.laws_watch.specs.Durations.{IsTimed, closes_read}
 use Rattle.laws_watch.proofs.Blank.{no_tree}
 use Rattle.laws_watch.proofs.DrawnBegins.{after_content, drawn-content, drawn_begins}
-use Rattle.laws_watch.proofs.KindBegins.{content_is, kind_content}
+use Rattle.laws_watch.proofs.KindBegins.{content_is}
 use Rattle.laws_watch.proofs.RowBegins.{IsKey, row-steps, steps_after}
 use Rattle.laws_watch.proofs.WatchedBegins.{watched_begins}
 

@@ -1,6 +1,6 @@
 -- The row of a message changes the open steps in `watch` as its content changes them in `view`.
-use Rattle.std.proofs.Common.{◌≡◌, ◌∙◌, ℕ, ◌==◌, ◌∷◌, ◌++◌, [], Bool, List, Option, None, Some, true, false, not, ⊎_elim, ap, ap₂, codes, refl, sym}
-use Rattle.std.specs.Prelude.{ℤ, ◌&&◌, filter, if◌then◌else◌, option_and_then, option_map, unwrap_or}
+use Rattle.std.proofs.Common.{◌≡◌, ◌∙◌, ℕ, ◌∷◌, ◌++◌, [], Bool, List, Option, None, Some, true, false, ⊎_elim, ap, codes, refl, sym}
+use Rattle.std.specs.Prelude.{ℤ, ◌&&◌, if◌then◌else◌, option_map}
 use Rattle.std.specs.Option.{option_map_or}
 use Rattle.std.specs.Str.{bytes_eq}
 use Rattle.std.proofs.Math.Bool.{and-false}
@@ -13,24 +13,23 @@ use Rattle.stream_message.specs.declared.kind.Kind.{Kind}
 use Rattle.stream_message.specs.declared.kind.Kind.TheVariants as kind
 use Rattle.stream_message.specs.declared.stage.Stage.{Stage}
 use Rattle.stream_message.specs.declared.stage.Stage.TheVariants as stage
-use Rattle.stream_timeline.specs.Messages.{Content, begin_of, begins, diagnostic_content, diagnostic_with, end_of, ends, ends_provisioner, no_totals, other, provisioner_begin_of, provisioner_end_of, refresh_begin_of, refresh_end_of, summary, summary_in, summary_of, unusable}
+use Rattle.stream_timeline.specs.Messages.{Content, begins, diagnostic_with, ends, no_totals, summary, summary_in, unusable}
 use Rattle.stream_watch.specs.AfterRefreshes.{told_after_refreshes}
-use Rattle.stream_watch.specs.Changes.{change_of, counting, drift_told, drift_words, planned_told, planned_words}
+use Rattle.stream_watch.specs.Changes.{change_of, counting, drift_told, drift_words, planned_words}
 use Rattle.stream_watch.specs.Marks.{planned_mark}
 use Rattle.stream_watch.specs.Outputs.{outputs_of}
 use Rattle.stream_watch.specs.declared.mark.Mark.TheVariants as mark
-use Rattle.stream_watch.specs.DiagnosticRow as diagnostic
-use Rattle.stream_watch.specs.DiagnosticRow.{diagnostic_told, severity_told, without_reads}
+use Rattle.stream_watch.specs.DiagnosticRow.{severity_told, without_reads}
 use Rattle.stream_watch.specs.Hooks.{Hook, hook_of, kind_of}
-use Rattle.stream_watch.specs.OutputRows.{all_told, has_outputs, outputs_told}
-use Rattle.stream_watch.specs.ProvisionerRows.{provision_told, told_of_provisioner}
-use Rattle.stream_watch.specs.RefreshRow.{noted_refresh, refresh_ended, refresh_state, refresh_told, reported_told}
+use Rattle.stream_watch.specs.OutputRows.{all_told, has_outputs}
+use Rattle.stream_watch.specs.ProvisionerRows.{told_of_provisioner}
+use Rattle.stream_watch.specs.RefreshRow.{noted_refresh, refresh_ended, refresh_state, reported_told}
 use Rattle.stream_watch.specs.Shape.{message_selection}
 use Rattle.stream_watch.specs.State.{State, Told, nothing}
-use Rattle.stream_watch.specs.StepRows.{NamedStep, noted_step, step_of, step_told, told_before, told_of_step}
-use Rattle.stream_watch.specs.Steps.{Step, is_step, new_step, reads_at, runs_at, without_first}
-use Rattle.stream_watch.specs.SummaryRow.{summary_told, summary_words}
-use Rattle.stream_watch.specs.Telling.{drift_told_if, kind_told, version_told, version_words}
+use Rattle.stream_watch.specs.StepRows.{NamedStep, step_of, step_told, told_of_step}
+use Rattle.stream_watch.specs.Steps.{Step, is_step, new_step, runs_at, without_first}
+use Rattle.stream_watch.specs.SummaryRow.{summary_words}
+use Rattle.stream_watch.specs.Telling.{kind_told, version_words}
 use Rattle.stream_watch.specs.declared.looks.Looks.{Looks}
 use Rattle.stream_watch.specs.declared.message.shape.MessageShape.TheVariants as shape
 use Rattle.laws_watch.specs.Durations.{closes_read}

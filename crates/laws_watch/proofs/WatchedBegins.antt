@@ -1,30 +1,21 @@
 -- When the open steps of an action and address began, as `watch` knows it, and how a message
 -- changes that.
-use Rattle.std.proofs.Common.{◌≡◌, ◌∙◌, ℕ, ◌==◌, ◌∷◌, ◌++◌, [], Bool, List, Option, None, Some, true, false, not, ⊎_elim, ap, ap₂, append-nil, codes, drop, map, refl, subst, sym}
-use Rattle.std.specs.Prelude.{ℤ, ◌&&◌, filter, find, if◌then◌else◌, is_some, option_and_then, option_map, unwrap_or}
+use Rattle.std.proofs.Common.{◌≡◌, ◌∙◌, ℕ, ◌==◌, ◌∷◌, ◌++◌, [], Bool, List, Option, None, Some, true, false, not, ⊎_elim, ap, ap₂, append-nil, codes, drop, map, refl}
+use Rattle.std.specs.Prelude.{ℤ, ◌&&◌, filter, find, if◌then◌else◌, is_some}
 use Rattle.std.specs.Option.{option_map_or}
 use Rattle.std.specs.Str.{bytes_eq}
 use Rattle.std.proofs.Math.Bool.{and-false}
-use Rattle.std.proofs.lemmas.Bool.{and_parts, cases_Bool, true≢false}
+use Rattle.std.proofs.lemmas.Bool.{and_parts, cases_Bool}
 use Rattle.std.proofs.lemmas.List.{map-append}
 use Rattle.std.proofs.lemmas.List.Elements.{filter-append}
-use Rattle.serde_json.specs.Data.{Data}
-use Rattle.apply_json.specs.Tree.{◌>>=◌, is_empty, member_of, non_empty_text_of, text_of}
 use Rattle.apply_json.proofs.Held.{is_name}
-use Rattle.stream_message.specs.declared.kind.Kind.{Kind}
-use Rattle.stream_message.specs.declared.kind.Kind.TheVariants as kind
-use Rattle.stream_message.specs.declared.stage.Stage.{Stage}
-use Rattle.stream_message.specs.declared.stage.Stage.TheVariants as stage
-use Rattle.stream_watch.specs.AfterRefreshes.{told_after_refreshes}
 use Rattle.stream_watch.specs.Counts.{is_change}
-use Rattle.stream_watch.specs.Hooks.{Hook, hook_of}
 use Rattle.stream_watch.specs.Noted.{with_length_of, with_noted}
 use Rattle.stream_watch.specs.RefreshRow.{reported_told}
-use Rattle.stream_watch.specs.State.{State, Told, nothing}
-use Rattle.stream_watch.specs.Steps.{Running, Step, changes_in, is_step, last_step, new_step, reads_at, with_provisioner, without_first}
-use Rattle.stream_watch.specs.StepRows.{NamedStep, noted_step, told_before}
+use Rattle.stream_watch.specs.State.{State, nothing}
+use Rattle.stream_watch.specs.Steps.{Running, Step, is_step, last_step, new_step, reads_at, with_provisioner, without_first}
+use Rattle.stream_watch.specs.StepRows.{told_before}
 use Rattle.stream_watch.specs.declared.looks.Looks.{Looks}
-use Rattle.stream_watch.specs.declared.mark.Mark.{Mark}
 use Rattle.laws_watch.proofs.FirstOnes.{kept-chosen, without-chosen, without-other}
 
 -- when the steps of this action and address began that are open

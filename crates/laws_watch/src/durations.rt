@@ -1,6 +1,6 @@
 //! Laws of durations.
 
-ghost use Rattle.std.specs.Prelude.{◌≡◌, ◌++◌, ◌∷◌, ℕ, ℤ, All, List, Some, [], codes, false, slice_index_or};
+ghost use Rattle.std.specs.Prelude.{◌≡◌, ◌++◌, ◌∷◌, ℕ, ℤ, All, List, Some, codes, false, slice_index_or};
 ghost use Rattle.std.specs.Str.{bytes_eq};
 ghost use Rattle.stream_message.specs.declared.stage.Stage.TheVariants.{Complete, Errored};
 ghost use Rattle.stream_timeline.specs.Intervals.{length_of};
@@ -16,12 +16,12 @@ ghost use Rattle.laws_watch.specs.Durations.{IsEndOf, IsTimed, ended_place, told
 
 /// Does `watch` tell the same duration of an end as `view` draws? Yes, where each message has a
 /// moment, and no diagnostic closes the step as a read that failed. The step is the one that `view`
-/// ends there, if one is open.
+/// ends there, if one is open. Lines behind the end change nothing.
 pub fn a_duration_is_that_of_view()
-    ensures length { (looks : Looks) (lines : List (List ℕ)) (line : List ℕ) (step : NamedStep) (moment : ℤ) (place : ℕ) (time_range : TimeRange) (absent : StepRead)
+    ensures length { (looks : Looks) (lines : List (List ℕ)) (line : List ℕ) (rest : List (List ℕ)) (step : NamedStep) (moment : ℤ) (place : ℕ) (time_range : TimeRange) (absent : StepRead)
         → All (IsTimed step.address step.action) lines → IsEndOf step moment line
         → bytes_eq (codes "refresh") step.action ≡ false → ended_place lines step ≡ Some place
-        → told_length looks lines step moment ≡ Some (length_of time_range (slice_index_or (timeline_of (lines ++ line ∷ [])).steps place absent)) }
+        → told_length looks lines step moment ≡ Some (length_of time_range (slice_index_or (timeline_of (lines ++ line ∷ rest)).steps place absent)) }
     ensures done { (looks : Looks) (state : State) (step : NamedStep) (moment : ℤ) → told_of_step looks state Complete moment step
         ≡ line_told looks (done_state (noted_step step moment state) step) Done
         (done_words (with_done step.action (noted_step step moment state).counts) step (step_length state.steps step moment)) }

@@ -9,8 +9,9 @@ ghost use Rattle.stream_watch.specs.Telling.{text_told};
 ghost use Rattle.laws_watch.specs.HiddenValues.{AreAlike, AreAlikeLines, IsSameOrAlike};
 
 /// Can the value of a sensitive output be learned from what is told? No. Let any values of
-/// sensitive outputs change in any lines of a stream: each line, the panel and the verdict are told
-/// as before. What is told shows only whether such an output has a value.
+/// sensitive outputs change in any lines of a stream: each line is told as before, in the same state,
+/// which is all that a panel shows. So is the end, with the same verdict. What is told shows only
+/// whether such an output has a value.
 pub fn sensitive_values_are_hidden()
     ensures outputs { (looks : _) (state : _) (outputs others : List OutputView) → AllZip AreAlike outputs others
         → all_told looks state outputs ≡ all_told looks state others }
