@@ -1,0 +1,4 @@
+pub mod Lines
+pub mod NamedGraph
+pub mod Quoted
+pub mod Reading
