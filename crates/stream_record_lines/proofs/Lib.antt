@@ -1,0 +1,5 @@
+pub mod Appended
+pub mod OutputLists
+pub mod OutputTexts
+pub mod OutputTurns
+pub mod Trimmed
