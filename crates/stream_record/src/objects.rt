@@ -23,7 +23,7 @@ pub fn push_comma(text: &mut MessageText, later: bool)
 pub fn push_entry(
     text: &mut MessageText,
     steps: &[PlannedStep<'_>],
-    waits: &[Vec<u32>],
+    waits: &[Vec<usize>],
     first: usize,
     change: &Change,
 )
@@ -53,7 +53,7 @@ fn push_deposed(text: &mut MessageText, deposed: Option<&str>)
 fn push_steps(
     text: &mut MessageText,
     steps: &[PlannedStep<'_>],
-    waits: &[Vec<u32>],
+    waits: &[Vec<usize>],
     first: usize,
     change: &Change,
 )
@@ -70,7 +70,7 @@ fn push_steps(
 }
 
 /// The numbers of the steps for which the step of this number waits.
-fn waits_at(waits: &[Vec<u32>], number: usize) -> &[u32]
+fn waits_at(waits: &[Vec<usize>], number: usize) -> &[usize]
     ensures { result.now ≡ waits_at (map (λ numbers. numbers.items) waits.now) number }
 {
     match waits.get(number) {
@@ -80,7 +80,7 @@ fn waits_at(waits: &[Vec<u32>], number: usize) -> &[u32]
 }
 
 /// Adds a step that takes a second, and waits for the steps with these numbers.
-fn push_step(text: &mut MessageText, steps: &[PlannedStep<'_>], numbers: &[u32])
+fn push_step(text: &mut MessageText, steps: &[PlannedStep<'_>], numbers: &[usize])
     ensures { AppendsText text.old text.new (compact_text (step_data steps.now numbers.now)) }
 {
     text.text("{\"seconds\":");
@@ -93,7 +93,7 @@ fn push_step(text: &mut MessageText, steps: &[PlannedStep<'_>], numbers: &[u32])
 }
 
 /// Adds the list of the waits for the steps with these numbers.
-fn push_waits(text: &mut MessageText, steps: &[PlannedStep<'_>], numbers: &[u32])
+fn push_waits(text: &mut MessageText, steps: &[PlannedStep<'_>], numbers: &[usize])
     ensures { AppendsText text.old text.new (compact_text (array (wait_items steps.now numbers.now))) }
 {
     text.text("[");
@@ -109,10 +109,10 @@ fn push_waits(text: &mut MessageText, steps: &[PlannedStep<'_>], numbers: &[u32]
 }
 
 /// The step of this number, if there is one.
-fn step_at<'s, 'p>(steps: &'s [PlannedStep<'p>], number: u32) -> Option<&'s PlannedStep<'p>>
+fn step_at<'s, 'p>(steps: &'s [PlannedStep<'p>], number: usize) -> Option<&'s PlannedStep<'p>>
     ensures { option_copied result ≡ slice_get steps.now number }
 {
-    steps.get(number as usize)
+    steps.get(number)
 }
 
 /// Adds a wait for a step: a text where the last step of a current object is meant.

@@ -26,7 +26,7 @@ pub const MAX_BYTES: usize = 67_108_864;
 pub fn plan_script(
     alloc: Global,
     plan: &Plan,
-    waits: &[Vec<u32>],
+    waits: &[Vec<usize>],
 ) -> Result<MessageText, ScriptFault>
     ensures ok { IfOk result (λ text. plan_script plan.now.changes (map (λ numbers. numbers.items) waits.now)
         ≡ Ok (text_bytes text)) }
