@@ -1,0 +1,3 @@
+pub mod Causes
+pub mod CommandLine
+pub mod Recorded
