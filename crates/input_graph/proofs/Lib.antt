@@ -1,0 +1,12 @@
+pub mod Among
+pub mod Counted
+pub mod Followed
+pub mod Joined
+pub mod Members
+pub mod Numbered
+pub mod Opening
+pub mod Quotes
+pub mod Rest
+pub mod Search
+pub mod Texts
+pub mod WaitsFound

@@ -1,0 +1,89 @@
+-- Members of lists, and nodes that join a list.
+use Rattle.std.proofs.Common.{◌≡◌, ◌⊎◌, ◌<◌, ◌≤◌, ℕ, zero, suc, List, [], ◌∷◌, ◌++◌, All, length, get_or, cond, true, false, Bool, refl, sym, ap, ◌∙◌, inl, inr, ⊎_elim, arith, subst, length-append}
+use Rattle.std.specs.Prelude.{◌||◌, slice_get}
+use Rattle.std.specs.List.{Contains, list_any}
+use Rattle.std.specs.Str.{bytes_eq}
+use Rattle.std.proofs.lemmas.Bool.{cases_Bool}
+use Rattle.std.proofs.lemmas.List.Elements.{All-cons, All-head, All-nil, All-push, All-tail, Contains-append_left, Contains-push}
+use Rattle.std.proofs.lemmas.Slice.Eq.{bytes_eq-Decides}
+use Rattle.input_graph.specs.Nodes.{with_all, with_node}
+
+pub in_front : {X : Type 0} (x : X) (xs : List X) → Contains (x ∷ xs) x
+in_front x xs = (0, omega arith, refl)
+
+pub further : {X : Type 0} (x y : X) (xs : List X) → Contains xs y → Contains (x ∷ xs) y
+further x y xs c = (suc c.0, omega (arith, c.1), c.2)
+
+at_place : {X : Type 0} (x y : X) (xs : List X) (k : ℕ) → k < length (x ∷ xs) → get_or (x ∷ xs) k y ≡ y → (x ≡ y) ⊎ Contains xs y
+at_place x y xs zero within is = inl is
+at_place x y xs (suc k) within is = inr (k, omega (arith, within), is)
+
+pub front_or_further : {X : Type 0} (x y : X) (xs : List X) → Contains (x ∷ xs) y → (x ≡ y) ⊎ Contains xs y
+front_or_further x y xs c = at_place x y xs c.0 c.1 c.2
+
+pub no_member : {X : Type 0} (y : X) → Contains [] y → ⊥
+no_member y c = omega (arith, c.1)
+
+-- a node that a test by bytes finds
+pub found_member : (node : List ℕ) (nodes : List (List ℕ)) → list_any (bytes_eq node) nodes ≡ true → Contains nodes node
+found_member node [] found = cc
+found_member node (x ∷ xs) found = ⊎_elim
+    (λ (yes : bytes_eq node x ≡ true). subst (λ (y : List ℕ). Contains (x ∷ xs) y) (sym ((bytes_eq-Decides node x).0 yes)) (in_front x xs))
+    (λ (no : bytes_eq node x ≡ false). further x node xs (found_member node xs (ap (λ b. b || list_any (bytes_eq node) xs) (sym no) ∙ found)))
+    (cases_Bool (bytes_eq node x))
+
+-- the items at the front stay where they are
+pub same_place : {X : Type 0} (xs ys : List X) (k : ℕ) → k < length xs → slice_get (xs ++ ys) k ≡ slice_get xs k
+same_place [] ys k within = absurd (omega (arith, within))
+same_place (x ∷ xs) ys zero within = refl
+same_place (x ∷ xs) ys (suc k) within = same_place xs ys k (omega (arith, within))
+
+-- a node joins
+pub record Joins (nodes : List (List ℕ)) (node : List ℕ) (new : List (List ℕ)) : Type 0 where
+  pub keeps : (other : List ℕ) → Contains nodes other → Contains new other
+  pub has : Contains new node
+  pub grows : length nodes ≤ length new
+  pub stays : (k : ℕ) → k < length nodes → slice_get new k ≡ slice_get nodes k
+
+joins_if : (nodes : List (List ℕ)) (node : List ℕ) (b : Bool) → list_any (bytes_eq node) nodes ≡ b → Joins nodes node (cond b nodes (nodes ++ node ∷ []))
+joins_if nodes node true is = record {
+  keeps = λ other c. c;
+  has = found_member node nodes is;
+  grows = omega arith;
+  stays = λ k within. refl;
+}
+joins_if nodes node false is = record {
+  keeps = λ other c. Contains-append_left nodes (node ∷ []) other c;
+  has = Contains-push nodes node;
+  grows = omega (arith, length-append nodes (node ∷ []));
+  stays = λ k within. same_place nodes (node ∷ []) k within;
+}
+
+joins : (nodes : List (List ℕ)) (node : List ℕ) → Joins nodes node (with_node nodes node)
+joins nodes node = joins_if nodes node (list_any (bytes_eq node) nodes) refl
+
+only_if : (P : List ℕ → Type 0) (nodes : List (List ℕ)) (node : List ℕ) (b : Bool) → All P nodes → P node → All P (cond b nodes (nodes ++ node ∷ []))
+only_if P nodes node true all one = all
+only_if P nodes node false all one = All-push P nodes node all one
+
+-- several join
+pub keeps_all : (more nodes : List (List ℕ)) (other : List ℕ) → Contains nodes other → Contains (with_all nodes more) other
+keeps_all [] nodes other c = c
+keeps_all (x ∷ xs) nodes other c = keeps_all xs (with_node nodes x) other ((joins nodes x).keeps other c)
+
+pub has_all : (more nodes : List (List ℕ)) → All (Contains (with_all nodes more)) more
+has_all [] nodes = All-nil (Contains (with_all nodes []))
+has_all (x ∷ xs) nodes = All-cons (Contains (with_all nodes (x ∷ xs))) x xs (keeps_all xs (with_node nodes x) x (joins nodes x).has) (has_all xs (with_node nodes x))
+
+pub grows_all : (more nodes : List (List ℕ)) → length nodes ≤ length (with_all nodes more)
+grows_all [] nodes = omega arith
+grows_all (x ∷ xs) nodes = omega (arith, (joins nodes x).grows, grows_all xs (with_node nodes x))
+
+pub stays_all : (more nodes : List (List ℕ)) (k : ℕ) → k < length nodes → slice_get (with_all nodes more) k ≡ slice_get nodes k
+stays_all [] nodes k within = refl
+stays_all (x ∷ xs) nodes k within = stays_all xs (with_node nodes x) k (omega (arith, within, (joins nodes x).grows)) ∙ (joins nodes x).stays k within
+
+pub only_all : (P : List ℕ → Type 0) (more nodes : List (List ℕ)) → All P nodes → All P more → All P (with_all nodes more)
+only_all P [] nodes all others = all
+only_all P (x ∷ xs) nodes all others =
+    only_all P xs (with_node nodes x) (only_if P nodes x (list_any (bytes_eq x) nodes) all (All-head P x xs others)) (All-tail P x xs others)

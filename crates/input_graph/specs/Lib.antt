@@ -1,0 +1,10 @@
+pub mod Lines
+pub mod NamedGraph
+pub mod Quoted
+pub mod Reading
+pub mod Nodes
+pub mod Numbers
+pub mod StepNodes
+pub mod Targets
+pub mod Waits
+pub mod AllWaits
