@@ -1,6 +1,7 @@
 //! Reads the input of a name.
 
-ghost use Rattle.std.specs.Prelude.{IfOk};
+ghost use Rattle.std.specs.Prelude.{◌≡◌, IfOk, codes, false};
+ghost use Rattle.std.specs.Str.{bytes_eq};
 ghost use Rattle.input_files.specs.Inputs.{IsInputOf};
 
 use crate::read_fault::ReadFault;
@@ -34,6 +35,8 @@ impl From<ReadFault> for InputFault {
 /// Reads the file of that name to its end, or `standard` for the name `-`. No more than 67,108,865
 /// bytes are stored.
 ///
+/// Standard input is left as it is for any other name.
+///
 /// `Err` is `InputFault::Unopened` if the file can't be opened, `InputFault::Unread` if a read
 /// failed, and `InputFault::Memory` if memory was refused.
 pub fn read_named<F: Files, R: Read>(
@@ -42,7 +45,8 @@ pub fn read_named<F: Files, R: Read>(
     name: &str,
     standard: &mut R,
 ) -> Result<ReadInput, InputFault>
-    ensures { IfOk result (λ read. IsInputOf F.File.remaining (R.remaining standard.old) name.now read.bytes.items) }
+    ensures read { IfOk result (λ read. IsInputOf F.File.remaining (R.remaining standard.old) name.now read.bytes.items) }
+    ensures kept { bytes_eq name.now (codes "-") ≡ false → R.remaining standard.new ≡ R.remaining standard.old }
 {
     if name == "-" {
         return Ok(read_all(alloc, standard)?);

@@ -33,7 +33,10 @@ pub fn refuse<E: Write>(faults: &mut E, fault: RecordFault) -> u8
 {
     match fault {
         RecordFault::Gone => FAILED,
-        RecordFault::Input(_) | RecordFault::Plan(_) | RecordFault::TooLarge => {
+        RecordFault::Input(_)
+        | RecordFault::Plan(_)
+        | RecordFault::Graph(_)
+        | RecordFault::TooLarge => {
             report(faults, fault);
             REFUSED
         }

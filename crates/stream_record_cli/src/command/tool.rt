@@ -4,12 +4,12 @@ ghost use Rattle.std.specs.Prelude.{false};
 ghost use Rattle.stream_record_cli.specs.CommandLine.{arguments};
 ghost use Rattle.stream_record_cli.specs.Recorded.{HasRecorded, IsQuiet};
 
-use crate::command::arguments::{Settings, command, settings_of};
+use crate::command::arguments::{Settings, command, conflict, settings_of};
+use crate::command::inputs::read_inputs;
 use crate::command::recording::record;
 use crate::command::refusals::refuse_input;
 use crate::record_fault::RecordFault;
 use clap::{ArgMatches, Command};
-use input_files::read_named;
 use std::alloc::{AllocError, Global};
 use std::io::{BufReader, Read, Write};
 use std::rt::Files;
@@ -19,7 +19,7 @@ use stream_tool::{Report, Tool, Usage};
 ///
 /// The exit status is:
 /// - 0 where the script was written, or help was printed.
-/// - 2 where the arguments or the plan are refused, the plan can't be read, or the script would be
+/// - 2 where the arguments, the plan or the graph are refused, an input can't be read, or the script would be
 ///   too large.
 /// - 3 where memory is refused, or the output can't be written.
 #[derive(Clone, Copy)]
@@ -44,8 +44,8 @@ impl Tool for Record {
         command(alloc)
     }
 
-    fn conflict(_alloc: Global, _words: &[String], _matches: &ArgMatches<'_>) -> Option<Usage> {
-        None
+    fn conflict(alloc: Global, _words: &[String], matches: &ArgMatches<'_>) -> Option<Usage> {
+        conflict(alloc, matches)
     }
 
     fn settings_of(alloc: Global, matches: &ArgMatches<'_>) -> Result<Settings, AllocError> {
@@ -73,12 +73,16 @@ impl Tool for Record {
         out: &mut W,
         faults: &mut E,
     ) -> Report<Result<(), RecordFault>> {
-        let name = settings.plan.as_str();
-        match read_named(files, alloc, name, reader) {
-            Ok(plan) => record(alloc, &plan.bytes, out, faults),
-            Err(fault) => Report {
-                status: refuse_input(alloc, faults, name, fault),
-                answer: Err(RecordFault::Input(fault)),
+        match read_inputs(files, alloc, settings, reader) {
+            Ok(inputs) => record(alloc, &inputs.plan.bytes, inputs.graph_bytes(), out, faults),
+            Err(unread) => Report {
+                status: refuse_input(
+                    alloc,
+                    faults,
+                    settings.name_of(unread.is_graph),
+                    unread.fault,
+                ),
+                answer: Err(RecordFault::Input(unread.fault)),
             },
         }
     }

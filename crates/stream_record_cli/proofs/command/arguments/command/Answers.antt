@@ -15,7 +15,8 @@ returns-clause-is c =
     ap app_of_fields c.after_help.ensures ∙ ap app_of_fields c.about.ensures ∙ ap app_of_fields c.no_binary_name.ensures
     ∙ ap (on_top (λ shape. record shape { no_binary_name = true })) c.new.ensures.app in
     let plan = c.with_option-line.ensures no_options _ none c.plan.ensures.0 c.plan.ensures.1 in
-    c.with_option.ensures _ _ plan c.only_plan.ensures.0 c.only_plan.ensures.1
+    let graph = c.with_option-line-2.ensures _ _ plan c.graph.ensures.0 c.graph.ensures.1 in
+    c.with_option.ensures _ _ graph c.only_plan.ensures.0 c.only_plan.ensures.1
 
 pub returns-clause-simple : goal.returns-clause-simple
 returns-clause-simple c = IfOk-weaker c.with_option.result _ _ (λ command is. ap is_simple is ∙ line_is_simple) (returns-clause-is c)
