@@ -1,0 +1,2 @@
+pub mod PlanScript
+pub mod Steps

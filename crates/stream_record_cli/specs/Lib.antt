@@ -1,0 +1,4 @@
+pub mod Causes
+pub mod CommandLine
+pub mod Recorded
+pub mod StepNames

@@ -1,0 +1,5 @@
+//! Tests of `stream_record`.
+#![tactic(auto)]
+
+#[cfg(test)]
+mod tests;
