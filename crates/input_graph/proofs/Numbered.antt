@@ -1,11 +1,14 @@
 -- The numbers of steps by name, from the last step to the first.
-use Rattle.std.proofs.Common.{◌≡◌, ◌<◌, ◌≤◌, ◌+◌, ◌-◌, ℕ, suc, List, [], ◌∷◌, length, drop, get_or, Option, Some, None, cond, true, false, Bool, sym, ap, ◌∙◌, ⊎_elim, arith, drop-cons}
+use Rattle.std.proofs.Common.{◌≡◌, ◌<◌, ◌≤◌, ◌+◌, ◌-◌, ℕ, suc, List, [], ◌∷◌, length, drop, get_or, Option, Some, None, cond, true, false, Bool, refl, sym, ap, ◌∙◌, ⊎_elim, arith, drop-cons}
 use Rattle.std.specs.Prelude.{IfSome, slice_get}
 use Rattle.std.specs.List.{position_from}
 use Rattle.std.specs.Str.{bytes_eq}
 use Rattle.std.proofs.lemmas.Bool.{cases_Bool, true≢false}
-use Rattle.std.proofs.lemmas.Option.{slice_get_within}
+use Rattle.std.proofs.lemmas.List.{get_or-map, length-map}
+use Rattle.std.proofs.lemmas.Option.{slice_get_read, slice_get_within}
 use Rattle.std.proofs.lemmas.Slice.Eq.{bytes_eq-Decides}
+use Rattle.input_graph.specs.declared.step_node.StepNode.{StepNode}
+use Rattle.input_graph.specs.StepNodes.{names_of}
 
 pub same_either_way : (a b : List ℕ) → bytes_eq a b ≡ bytes_eq b a
 same_either_way a b = ⊎_elim
@@ -25,6 +28,19 @@ one_more names n x name some within is =
     ∙ ap (λ (y : List ℕ). cond (bytes_eq name y) (Some (n - 1)) (position_from (bytes_eq name) (n - 1 + 1) (drop (suc (n - 1)) names))) (sym is)
     ∙ ap (λ (m : ℕ). cond (bytes_eq name x) (Some (n - 1)) (position_from (bytes_eq name) m (drop (suc (n - 1)) names))) next
     ∙ ap (λ (m : ℕ). cond (bytes_eq name x) (Some (n - 1)) (position_from (bytes_eq name) n (drop m names))) follows
+
+-- the name of the node of a step
+pub named_at : (steps : List StepNode) (k : ℕ) (step : StepNode) → k < length steps → step ≡ get_or steps k step
+    → (k < length (names_of steps)) × (step.name ≡ get_or (names_of steps) k step.name)
+named_at steps k step within is = (
+  rw length-map within,
+  ap (λ (s : StepNode). s.name) is ∙ sym (get_or-map (λ (s : StepNode). s.name) steps k step step.name within),
+)
+
+pub name_read : (steps : List StepNode) (k : ℕ) (step : StepNode) → k < length (names_of steps) → step ≡ get_or steps k step → slice_get (names_of steps) k ≡ Some step.name
+name_read steps k step within is =
+    let inside : k < length steps = rw length-map at within in
+    slice_get_read (names_of steps) (length (names_of steps)) k step.name refl within (named_at steps k step inside is).1
 
 -- one step more, before the others
 pub number_more : (names : List (List ℕ)) (n : ℕ) (x key name : List ℕ) (before after : Option ℕ) → 0 < n → n ≤ length names → x ≡ get_or names (n - 1) x → key ≡ x

@@ -25,6 +25,15 @@ inserted node nodes =
     chosen (list_any (λ other. bytes_eq node.now other.now) nodes) node nodes
     ∙ ap (λ (b : Bool). cond b (texts nodes) (texts nodes ++ node.now ∷ [])) (any_text node.now nodes)
 
+pub joined_text : (node : Bor (List ℕ)) (nodes new : List (Bor (List ℕ))) → new ≡ cond (list_any (λ other. bytes_eq node.now other.now) nodes) nodes (nodes ++ node ∷ [])
+    → texts new ≡ with_node (texts nodes) node.now
+joined_text node nodes new is = ap texts is ∙ inserted node nodes
+
+-- what a test by bytes says of the texts
+pub tested : (node : List ℕ) (nodes : List (Bor (List ℕ))) (test result : Bool) → test ≡ list_any (λ other. bytes_eq node other.now) nodes → test ≡ result
+    → list_any (bytes_eq node) (texts nodes) ≡ result
+tested node nodes test result is gives = sym (any_text node nodes) ∙ sym is ∙ gives
+
 -- one node more of those that join
 pub one_joins : (all : List (Bor (List ℕ))) (i : ℕ) (d : Bor (List ℕ)) (nodes new : List (Bor (List ℕ))) (first : List (List ℕ)) → i < length all
     → texts nodes ≡ with_all first (take i (texts all))

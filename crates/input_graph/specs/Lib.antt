@@ -8,3 +8,8 @@ pub mod StepNodes
 pub mod Targets
 pub mod Waits
 pub mod AllWaits
+pub mod GraphNodes
+pub mod Circles
+pub mod CircleSearch
+pub mod PlanEdges
+pub mod WaitsRefusal

@@ -1,13 +1,18 @@
 -- Which nodes of a graph are the steps of a plan. A step is given by the name of its node.
-use Rattle.std.specs.Prelude.{ℕ, ◌+◌, ◌-◌, ◌==◌, ◌&&◌, List, ◌++◌, length, take, drop, codes, nat_eq, not, Bool, true, false, is_some, if◌then◌else◌, Option, Some, None}
+use Rattle.std.specs.Prelude.{ℕ, ◌+◌, ◌-◌, ◌==◌, ◌&&◌, List, ◌++◌, length, map, take, drop, codes, nat_eq, not, Bool, true, false, is_some, if◌then◌else◌, Option, Some, None}
 use Rattle.std.specs.List.{position_from, position_or_len, starts_with, suffix_len}
 use Rattle.std.specs.Str.{bytes_eq}
+use Rattle.input_graph.specs.declared.step_node.StepNode.{StepNode}
 
 -- The name of the node of a step.
 abbrev pub step_name : (address : List ℕ) → (deposed : Option (List ℕ)) → (is_delete : Bool) → List ℕ
 step_name address deposed false = address
 step_name address None true = address ++ codes " (destroy)"
 step_name address (Some key) true = address ++ (codes " (destroy deposed " ++ (key ++ codes ")"))
+
+-- The names of the nodes of steps.
+abbrev pub names_of : List StepNode → List (List ℕ)
+names_of steps = map (λ step. step.name) steps
 
 -- The number of the first step whose node has that name.
 abbrev pub step_named : (steps : List (List ℕ)) → (name : List ℕ) → Option ℕ

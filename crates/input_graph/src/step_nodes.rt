@@ -3,7 +3,7 @@
 ghost use Rattle.std.specs.Prelude.{◌≡◌, IfOk};
 
 use crate::current_delete::current_delete;
-use apply_model::Text;
+use crate::step_node::StepNode;
 use std::alloc::{AllocError, Global};
 use std::collections::HashMap;
 use std::marker::Model;
@@ -12,7 +12,7 @@ use std::marker::Model;
 /// the steps.
 #[derive(Drop)]
 pub struct StepNodes<'a> {
-    names: &'a [Text],
+    steps: &'a [StepNode],
     /// The number of the first step with each name.
     numbers: HashMap<&'a str, usize>,
 }
@@ -20,28 +20,36 @@ pub struct StepNodes<'a> {
 impl<'a> Model for StepNodes<'a> {
     ghost use Rattle.std.specs.Prelude.{List, ℕ};
     ghost use Rattle.input_graph.specs.Numbers.{AreNumbers};
+    ghost use Rattle.input_graph.specs.StepNodes.{names_of};
 
     ghost Value = { List (List ℕ) };
 
-    ghost view = { λ nodes. nodes.names.now };
+    ghost view = { λ nodes. names_of nodes.steps.now };
 
-    ghost invariant = { λ nodes. AreNumbers nodes.numbers nodes.names.now };
+    ghost invariant = { λ nodes. AreNumbers nodes.numbers (names_of nodes.steps.now) };
 }
 
 impl<'a> StepNodes<'a> {
-    ghost use Rattle.input_graph.specs.StepNodes.{is_step, known_name, step_named, step_or};
+    ghost use Rattle.input_graph.specs.StepNodes.{is_step, known_name, names_of, step_named, step_or};
     ghost use Rattle.std.specs.Prelude.{◌<◌, IfSome, Some, length, slice_get};
 
-    /// The steps whose nodes have these names. `Err` where memory is refused.
-    pub fn new(alloc: Global, names: &'a [Text]) -> Result<StepNodes<'a>, AllocError>
-        ensures { IfOk result (λ nodes. nodes ≡ names.now) }
+    /// The steps, to be found by the names of their nodes. `Err` where memory is refused.
+    pub fn new(alloc: Global, steps: &'a [StepNode]) -> Result<StepNodes<'a>, AllocError>
+        ensures { IfOk result (λ nodes. nodes ≡ names_of steps.now) }
     {
         let mut numbers = HashMap::new(alloc);
         // From the last step to the first, so that a name of several steps gets the first.
-        for number in (0..names.len()).rev() {
-            numbers.insert(names[number].as_str(), number)?;
+        for number in (0..steps.len()).rev() {
+            numbers.insert(steps[number].name.as_str(), number)?;
         }
-        Ok(StepNodes { names, numbers })
+        Ok(StepNodes { steps, numbers })
+    }
+
+    /// The number of steps.
+    pub fn len(&self) -> usize
+        ensures { result ≡ length self.now }
+    {
+        self.steps.len()
     }
 
     /// The name of the node of a step.
@@ -49,7 +57,7 @@ impl<'a> StepNodes<'a> {
         requires { step < length self.now }
         ensures { slice_get self.now step ≡ Some result.now }
     {
-        self.names.get(step).unwrap().as_str()
+        self.steps.get(step).unwrap().name.as_str()
     }
 
     /// The number of the first step whose node has that name.

@@ -1,10 +1,15 @@
 //! Why a graph gives no waits.
 
+use apply_model::Text;
 use std::alloc::{AllocError, AllocFailed};
 
 /// Why a graph gives no waits.
-#[derive(Clone, Copy, Debug, Drop)]
+#[derive(Debug, Drop)]
 pub enum WaitsFault {
+    /// No node of the graph has the name of the step with that number.
+    NoNode { step: usize },
+    /// The edges go in a circle through the node of that name.
+    Circle { node: Text },
     /// There are more than 1,000,000 waits.
     TooMany,
     /// Memory was refused.

@@ -1,40 +1,35 @@
-use Rattle.std.proofs.Common.{◌≡◌, ◌+◌, ◌∙◌, ℕ, List, length, refl, sym, ap, arith, subst}
-use Rattle.std.proofs.lemmas.Result.{err_from_is_err_and}
-use Rattle.input_graph.specs.AllWaits.{lists_in}
-use Rattle.input_graph.specs.Waits.{AreWaits, known_edges}
-use Rattle.input_graph.proofs.Counted.{AreCounted, more_counted, too_many}
+use Rattle.std.proofs.Common.{◌≡◌, ◌∙◌, ◌++◌, ℕ, List, None, ap, subst, sym}
+use Rattle.std.specs.Prelude.{IfErr}
+use Rattle.input_graph.specs.Circles.{AreRanked}
+use Rattle.input_graph.specs.GraphNodes.{first_without_node}
+use Rattle.input_graph.specs.PlanEdges.{change_edges}
+use Rattle.input_graph.specs.StepNodes.{names_of}
+use Rattle.input_graph.specs.Targets.{edge_texts}
+use Rattle.input_graph.specs.Waits.{known_edges}
+use Rattle.input_graph.specs.WaitsRefusal.{IsOrderly, IsRefusedAlong}
+use Rattle.input_graph.proofs.WaitsRefused.{all_refused, on_ok, orderly}
 use Rattle.input_graph.proofs.waits.waits_of.Goals as goal
 
-pub returns-in_err-waits-clause-err : goal.returns-in_err-waits-clause-err
-returns-in_err-waits-clause-err c =
-    let p = err_from_is_err_and c.from_residual-in_err-waits.result c.from_residual-in_err-waits.ensures.1 in rw (p.1, p.2) (λ other. absurd (other refl))
+is_orderly : (c : goal.After-drop-nodes-inside-2) → IsOrderly c.args.steps.now c.args.graph.now
+is_orderly c =
+    let graph = c.args.graph.now in
+    let named = c.in_ok-nodes.ensures in
+    let none : first_without_node (names_of c.args.steps.now) graph ≡ None =
+    ap (λ (names : List (List ℕ)). first_without_node names graph) (sym named) ∙ sym c.in_ok-step.ensures ∙ c.in_default.is in
+    let edges_are : edge_texts c.deref-2.result.now ≡ known_edges (names_of c.args.steps.now) graph =
+    ap edge_texts c.deref-2.ensures.value ∙ c.in_ok-edges.ensures ∙ ap (λ (names : List (List ℕ)). known_edges names graph) named in
+    orderly c.args.steps.now graph none
+    (subst (λ (edges : List (List ℕ × List ℕ)). AreRanked (edges ++ change_edges c.args.steps.now)) edges_are (rw c.in_default-2.is at c.in_ok-node.ensures.ranked))
 
-pub returns-in_err-push-clause-err : goal.returns-in_err-push-clause-err
-returns-in_err-push-clause-err c =
-    let p = err_from_is_err_and c.from_residual-in_err-push.result c.from_residual-in_err-push.ensures.1 in rw (p.1, p.2) (λ other. absurd (other refl))
+pub returns-clause-orderly : goal.returns-clause-orderly
+returns-clause-orderly c = on_ok c.all_waits.result (is_orderly c)
 
-pub returns-then-len-count-clause-err : goal.returns-then-len-count-clause-err
-returns-then-len-count-clause-err c =
-    let edges_are : c.in_ok-targets.targets ≡ known_edges c.args.steps.now c.args.graph.now =
-    c.in_ok-targets.ensures ∙ c.in_ok-known_edges.ensures ∙ ap (λ (steps : List (List ℕ)). known_edges steps c.args.graph.now) c.in_ok-nodes.ensures in
-    let are = subst (λ (steps : List (List ℕ)). AreWaits steps (known_edges c.args.steps.now c.args.graph.now) c.loop-step.step c.in_ok-waits.waits.items) c.in_ok-nodes.ensures
-    (subst (λ (edges : List (List ℕ × List ℕ)). AreWaits c.in_ok-nodes.nodes edges c.loop-step.step c.in_ok-waits.waits.items) edges_are c.in_ok-waits.ensures) in
-    let size : c.len-len.result ≡ length c.in_ok-waits.waits.items = cc (c.len-len.ensures, c.in_ok-waits.waits.ok.0) in
-    let more = c.if-len-count.true in
-    let few = c.loop-step.invariant.few in
-    λ other. too_many c.args.steps.now c.args.graph.now c.loop-step.all.items c.loop-step.step c.loop-step.count c.in_ok-waits.waits c.loop-step.invariant.are are c.loop-step-test.true few (omega (arith, more, size))
-
-pub loop-step-preserved : goal.loop-step-preserved
-loop-step-preserved c =
-    let edges_are : c.in_ok-targets.targets ≡ known_edges c.args.steps.now c.args.graph.now =
-    c.in_ok-targets.ensures ∙ c.in_ok-known_edges.ensures ∙ ap (λ (steps : List (List ℕ)). known_edges steps c.args.graph.now) c.in_ok-nodes.ensures in
-    let are = subst (λ (steps : List (List ℕ)). AreWaits steps (known_edges c.args.steps.now c.args.graph.now) c.loop-step.step c.in_ok-waits.waits.items) c.in_ok-nodes.ensures
-    (subst (λ (edges : List (List ℕ × List ℕ)). AreWaits c.in_ok-nodes.nodes edges c.loop-step.step c.in_ok-waits.waits.items) edges_are c.in_ok-waits.ensures) in
-    let size : c.len-len.result ≡ length c.in_ok-waits.waits.items = cc (c.len-len.ensures, c.in_ok-waits.waits.ok.0) in
-    let less = c.if-len-count.false in
-    let few = c.loop-step.invariant.few in
-    record {
-      are = subst (λ (n : ℕ). AreCounted c.args.steps.now c.args.graph.now (lists_in c.push.new.self.items) (c.loop-step.step + 1) (c.loop-step.count + n)) (sym size)
-          (more_counted c.args.steps.now c.args.graph.now c.loop-step.all.items c.loop-step.step c.loop-step.count c.in_ok-waits.waits c.loop-step.invariant.are are c.push.new.self.items c.in_ok-push.ensures.items);
-      few = omega (arith, less, few);
-    }
+pub returns-clause-err : goal.returns-clause-err
+returns-clause-err c =
+    let graph = c.args.graph.now in
+    let named = c.in_ok-nodes.ensures in
+    let edges_are : edge_texts c.in_ok-edges.edges.items ≡ known_edges (names_of c.args.steps.now) graph =
+    c.in_ok-edges.ensures ∙ ap (λ (names : List (List ℕ)). known_edges names graph) named in
+    all_refused c.args.steps.now graph c.all_waits.result (is_orderly c)
+    (subst (λ (edges : List (List ℕ × List ℕ)). IfErr c.all_waits.result (IsRefusedAlong (names_of c.args.steps.now) edges)) edges_are
+    (subst (λ (names : List (List ℕ)). IfErr c.all_waits.result (IsRefusedAlong names (edge_texts c.in_ok-edges.edges.items))) named c.all_waits.ensures.err))
