@@ -33,7 +33,7 @@ impl Model for Outputs {
 
 impl Outputs {
     /// These outputs, in this order.
-    fn new(outputs: Vec<Output>) -> Outputs
+    pub fn new(outputs: Vec<Output>) -> Outputs
         ensures { result ≡ outputs.items }
     {
         Outputs { outputs }
