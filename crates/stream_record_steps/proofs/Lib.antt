@@ -1,0 +1,5 @@
+pub mod Busy
+pub mod Finds
+pub mod PlanSteps
+pub mod StrayKinds
+pub mod Taken

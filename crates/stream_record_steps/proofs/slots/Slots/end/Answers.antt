@@ -1,0 +1,14 @@
+use Rattle.std.proofs.Common.{arith}
+use Rattle.std.specs.Prelude.{option_map}
+use Rattle.stream_record_steps.specs.Begun.{begun_at}
+use Rattle.stream_record_steps.specs.UnderWay.{ended}
+use Rattle.stream_record_steps.proofs.Busy.{busy_changed, busy_within}
+use Rattle.stream_record_steps.proofs.slots.Slots.end.Goals as goal
+
+pub overflow_sub-self : goal.overflow_sub-self
+overflow_sub-self c = grind (arith, busy_within c.self.inside.slots.items c.args.place)
+
+pub invariant_of-self : goal.invariant_of-self
+invariant_of-self c =
+    let slots = c.self.inside.slots.items in
+    grind (arith, busy_within slots c.args.place, busy_changed slots c.args.place (option_map (ended c.args.end) (begun_at slots c.args.place)))

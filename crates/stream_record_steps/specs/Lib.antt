@@ -1,0 +1,9 @@
+pub mod Begun
+pub mod ByAddress
+pub mod Starts
+pub mod Steps
+pub mod StrayKinds
+pub mod Strays
+pub mod Taken
+pub mod Tallies
+pub mod UnderWay

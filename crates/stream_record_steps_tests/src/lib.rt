@@ -1,0 +1,5 @@
+//! Tests of `stream_record_steps`.
+#![tactic(auto)]
+
+#[cfg(test)]
+mod tests;
