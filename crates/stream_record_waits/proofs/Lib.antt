@@ -1,0 +1,17 @@
+pub mod Earliest
+pub mod Ends
+pub mod FirstWaits
+pub mod InOrder
+pub mod InTime
+pub mod Marks
+pub mod Members
+pub mod Moments
+pub mod AfterRound
+pub mod Ranges
+pub mod Pinned
+pub mod Rows
+pub mod Search
+pub mod Seconds
+pub mod SoundWaits
+pub mod StepStates
+pub mod WithWait

@@ -1,0 +1,6 @@
+use Rattle.std.proofs.Common.{◌≡◌, ◌++◌, take}
+use Rattle.std.specs.Prelude.{filter, nat_lt}
+use Rattle.stream_record_waits.proofs.pins.add_higher.Given as goal
+
+abbrev pub invariant-loop-number : goal.invariant-loop-number
+invariant-loop-number l = l.row.items ≡ l.initial.row.items ++ filter (λ number. nat_lt l.limit number) (take l.number-index l.numbers)

@@ -1,0 +1,12 @@
+pub mod Basis
+pub mod Behind
+pub mod Course
+pub mod Ends
+pub mod Graph
+pub mod Guess
+pub mod Joined
+pub mod LaneTime
+pub mod Reached
+pub mod Recorded
+pub mod States
+pub mod Steps
