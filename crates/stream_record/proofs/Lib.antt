@@ -1,5 +1,5 @@
 pub mod Begun
-pub mod Entries
-pub mod Parts
-pub mod PlanSteps
+pub mod EvenSteps
+pub mod EntryTexts
+pub mod Items
 pub mod Remains

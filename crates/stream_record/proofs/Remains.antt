@@ -4,6 +4,11 @@ use Rattle.term_words.specs.MessageTexts.{AppendsText}
 use Rattle.term_words.specs.declared.message_text.MessageText.{MessageText}
 use Rattle.term_words.proofs.Appended.{text_as, text_none, text_then}
 
+-- another text was added, which equals `piece`
+pub then_as : (a b c : MessageText) (before added piece : List ℕ) → added ≡ piece → AppendsText a b before → AppendsText b c added
+    → AppendsText a c (before ++ piece)
+then_as a b c before added piece is first second = text_then a b c before piece first (text_as b c added piece is second)
+
 -- A part of `whole` was added, and `rest` remains to be added.
 pub record Remains (rest whole : List ℕ) (before after : MessageText) : Type 0 where
   pub text : List ℕ

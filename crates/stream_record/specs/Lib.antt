@@ -1,2 +1,3 @@
-pub mod PlanScript
-pub mod Steps
+pub mod EvenScript
+pub mod Parts
+pub mod ScriptText

@@ -1,10 +1,20 @@
-//! The script of an apply: of its plan alone, or with the waits that its graph states.
+//! Writes scripts of a plan, each as one line of JSON.
 #![tactic(auto)]
 
-mod objects;
-mod planned_step;
+mod diagnostics;
+mod entries;
+mod even;
+mod output;
+mod parts;
+mod planned_steps;
+mod provisioners;
 mod script_fault;
+mod script_outputs;
 mod scripting;
+mod steps;
+mod waits;
 
+pub use even::even_script;
+pub use output::Output;
 pub use script_fault::ScriptFault;
-pub use scripting::{MAX_BYTES, plan_script};
+pub use scripting::{MAX_BYTES, script_text};

@@ -1,52 +1,58 @@
-//! The script of a plan, with what its steps wait for.
+//! The text of a script.
 
-ghost use Rattle.std.specs.Prelude.{◌≡◌, ◌≢◌, ◌≤◌, ◌<◌, IfErr, IfOk, Ok, Err, OnOk, length, map, true};
+ghost use Rattle.std.specs.Prelude.{◌≡◌, ◌≢◌, ◌≤◌, ◌<◌, IfErr, IfOk, Ok, Err, OnOk, length, true};
 ghost use Rattle.stream_record.specs.declared.script_fault.ScriptFault.TheVariants.{Memory, TooLarge};
-ghost use Rattle.stream_record.specs.PlanScript.{max_bytes, plan_script};
+ghost use Rattle.stream_record.specs.ScriptText.{max_bytes, script_within};
 ghost use Rattle.term_words.specs.MessageTexts.{is_whole_text, text_bytes};
 
-use crate::objects::{push_comma, push_entry};
-use crate::planned_step::planned_steps;
+use crate::diagnostics::push_notes;
+use crate::entries::{entry_steps, push_entry};
+use crate::output::Output;
+use crate::parts::push_opening;
 use crate::script_fault::ScriptFault;
-use apply_model::Plan;
+use crate::script_outputs::push_outputs;
+use apply_model::{Note, Plan, StepOutcomes};
 use std::alloc::Global;
 use term_words::MessageText;
 
 /// The most bytes of a script: 64 MiB, as many as a run takes.
 pub const MAX_BYTES: usize = 67_108_864;
 
-/// The script in which each step of the plan takes a second, on one line that ends in a line feed.
+/// The text of a script of that plan, on one line that ends in a line feed.
 ///
-/// The list `waits` has for each step of the plan, in the plan's order, the numbers of the steps
-/// that it waits for; these count from 0 in that order. A step without a list waits for none.
-/// Numbers of no step are ignored.
+/// `script` has an item for each change of the plan, by number: the steps that the script states, or
+/// nothing. Each change with stated steps has an entry, in the plan's order. Waits for steps that the plan
+/// does not have are ignored. Types, values, ranges and snippets are written as they are.
 ///
 /// `ScriptFault::TooLarge` if the script has more than 67,108,864 bytes, and `ScriptFault::Memory`
 /// if memory is refused.
-pub fn plan_script(
+pub fn script_text(
     alloc: Global,
     plan: &Plan,
-    waits: &[Vec<usize>],
+    script: &[Option<StepOutcomes>],
+    outputs: &[Output],
+    notes: &[Note],
 ) -> Result<MessageText, ScriptFault>
-    ensures ok { IfOk result (λ text. plan_script plan.now.changes (map (λ numbers. numbers.items) waits.now)
-        ≡ Ok (text_bytes text)) }
+    ensures ok { IfOk result (λ text. script_within plan.now.changes script.now outputs.now notes.now ≡ Ok (text_bytes text)) }
     ensures err { IfErr result (λ fault. fault ≢ Memory
-        → plan_script plan.now.changes (map (λ numbers. numbers.items) waits.now) ≡ Err fault) }
+        → script_within plan.now.changes script.now outputs.now notes.now ≡ Err fault) }
 {
-    let steps = planned_steps(alloc, plan)?;
     let mut text = MessageText::new(alloc);
     text.text("{\"changes\":[");
-    let mut first = 0;
-    for place in 0..plan.len() {
-        let change = plan.change(place);
-        if !change.steps().is_empty() {
-            push_comma(&mut text, first > 0);
-            push_entry(&mut text, &steps, waits, first, change);
-            first += change.steps().len();
+    let mut later = false;
+    for number in 0..plan.len() {
+        let change = plan.change(number);
+        if let Some(steps) = entry_steps(script, number) {
+            push_opening(&mut text, "", later);
+            push_entry(&mut text, plan, change, steps);
             check_size(&text)?;
+            later = true;
         }
     }
-    text.text("]}\n");
+    text.text("]");
+    push_outputs(&mut text, outputs);
+    push_notes(&mut text, notes);
+    text.text("}\n");
     check_size(&text)?;
     Ok(text)
 }
