@@ -1,29 +1,30 @@
 -- The outcome of a recording.
-use Rattle.std.proofs.Common.{◌≡◌, ◌≢◌, ◌∙◌, ℕ, List, [], length, Bool, true, false, Option, None, Some, Result, Ok, Err, ap, arith, inl, inr, refl, subst, sym, take}
-use Rattle.std.specs.Prelude.{IsErrAnd, OnErr, codes, if◌then◌else◌}
+use Rattle.std.proofs.Common.{◌≡◌, ◌≢◌, ◌∙◌, ℕ, List, [], length, Bool, true, false, Option, None, Some, Result, Ok, Err, ap, arith, inl, inr, ◌≤◌, refl, subst, sym, take}
+use Rattle.std.specs.Prelude.{IsErrAnd, OnErr, codes, if◌then◌else◌, sum_by}
 use Rattle.std.specs.Io.KnownBytes.{Appends, Keeps}
 use Rattle.std.specs.Str.{bytes_eq}
 use Rattle.std.proofs.KnownBytes.{Appends-kept, Keeps-refl}
 use Rattle.std.proofs.lemmas.List.{take_all}
 use Rattle.apply_model.specs.Plan.ResourceChange.{ResourceChange}
+use Rattle.apply_model.specs.Script.Limits.{max_waits}
 use Rattle.apply_model.specs.Plan.SavedPlan.{SavedPlan}
 use Rattle.apply_plan.specs.Plan.SavedPlan.{plan_of}
 use Rattle.input_files.specs.Inputs.{IsInput}
-use Rattle.input_graph.specs.AllWaits.{HasTooManyWaits}
 use Rattle.input_graph.specs.NamedGraph.{NamedGraph}
 use Rattle.input_graph.specs.Reading.{graph_in}
+use Rattle.input_graph.specs.WaitsRefusal.{IsRefusedFor}
+use Rattle.input_graph.specs.declared.step_node.StepNode.{StepNode}
 use Rattle.input_graph.specs.declared.graph_fault.GraphFault.{GraphFault}
 use Rattle.input_graph.specs.declared.graph_fault.GraphFault.TheVariants as graph
 use Rattle.input_graph.specs.declared.waits_fault.WaitsFault.{WaitsFault}
 use Rattle.input_graph.specs.declared.waits_fault.WaitsFault.TheVariants as waits
-use Rattle.stream_record.specs.PlanScript.{plan_script}
 use Rattle.stream_record.specs.declared.script_fault.ScriptFault.{ScriptFault}
 use Rattle.stream_record.specs.declared.script_fault.ScriptFault.TheVariants as script
 use Rattle.stream_tool.specs.declared.writing.WriteFault.{WriteFault}
 use Rattle.stream_tool.specs.declared.writing.WriteFault.TheVariants as write
 use Rattle.stream_record_cli.specs.Causes.{as_record_fault, of_graph_fault, of_script_fault, of_waits_fault}
-use Rattle.stream_record_cli.specs.Recorded.{AreWaitsIn, IsGraphOf, IsPlanFault, IsRefused, IsScriptOf, IsWaitsFault, WasWritten, left_by}
-use Rattle.stream_record_cli.specs.StepNames.{step_names}
+use Rattle.stream_record_cli.specs.Recorded.{AreWaitsIn, IsGraphOf, IsPlanFault, IsRefused, IsScriptOf, IsWaitsFault, WasWritten, left_by, plan_script}
+use Rattle.stream_record_cli.specs.StepNames.{step_nodes}
 use Rattle.stream_record_cli.specs.declared.record_fault.RecordFault.{RecordFault}
 use Rattle.stream_record_cli.specs.declared.record_fault.RecordFault.TheVariants as fault
 
@@ -33,6 +34,12 @@ pub flushed : {A E : Type 0} (made : Result A E) (before written after : Option 
 flushed (Ok done) before written after text appended kept = tt
 flushed (Err failed) before written after text appended kept =
     (length text, subst (Appends before after) (sym (take_all (length text) text (omega arith))) (Appends-kept before written after text appended kept))
+
+-- there are not too many waits
+pub few_waits : (changes : List ResourceChange) (given : Option (List ℕ)) (lists : List (List ℕ)) → AreWaitsIn changes given lists
+    → sum_by length lists ≤ max_waits
+few_waits changes None lists none = subst (λ (ls : List (List ℕ)). sum_by length ls ≤ max_waits) (sym none) (omega arith)
+few_waits changes (Some bytes) lists stated = stated.2.few
 
 -- the script of a plan that was read
 module _ (bytes : List ℕ) (given : Option (List ℕ)) (plan : SavedPlan) (read : plan_of bytes ≡ Ok plan) where
@@ -73,13 +80,17 @@ graphless changes bytes graph.NoGraph is = inl (graph.NoGraph, is (λ same. cc),
 graphless changes bytes graph.NoNode is = inl (graph.NoNode, is (λ same. cc), refl)
 graphless changes bytes graph.Memory is = tt
 
--- it states too many waits
-pub waitless : (changes : List ResourceChange) (bytes : List ℕ) (read : NamedGraph) (names : List (List ℕ)) (given : WaitsFault)
-    → graph_in bytes ≡ Ok read → names ≡ step_names changes → (given ≢ waits.Memory → HasTooManyWaits names read)
+-- it gives no waits
+pub waitless : (changes : List ResourceChange) (bytes : List ℕ) (read : NamedGraph) (nodes : List StepNode) (given : WaitsFault)
+    → graph_in bytes ≡ Ok read → nodes ≡ step_nodes changes → IsRefusedFor nodes read given
     → IsWaitsFault changes (Some bytes) (of_waits_fault given)
-waitless changes bytes read names waits.TooMany is same many =
-    inr (refl, read, is, subst (λ (ns : List (List ℕ)). HasTooManyWaits ns read) same (many (λ bad. cc)))
-waitless changes bytes read names waits.Memory is same many = tt
+waitless changes bytes read nodes (waits.NoNode step) is same why =
+    inr (read, waits.NoNode step, is, subst (λ (ns : List StepNode). IsRefusedFor ns read (waits.NoNode step)) same why, refl)
+waitless changes bytes read nodes (waits.Circle node) is same why =
+    inr (read, waits.Circle node, is, subst (λ (ns : List StepNode). IsRefusedFor ns read (waits.Circle node)) same why, refl)
+waitless changes bytes read nodes waits.TooMany is same why =
+    inr (read, waits.TooMany, is, subst (λ (ns : List StepNode). IsRefusedFor ns read waits.TooMany) same why, refl)
+waitless changes bytes read nodes waits.Memory is same why = tt
 
 -- nothing is written where there is no script
 pub unwritten : (plan : List ℕ) (given before : Option (List ℕ)) (why : RecordFault) → IsRefused plan given why → WasWritten plan given before before (Err why)

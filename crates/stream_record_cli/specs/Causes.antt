@@ -23,6 +23,8 @@ of_graph_fault graph.Memory = fault.Memory
 
 -- The graph gives no waits.
 abbrev pub of_waits_fault : WaitsFault → RecordFault
+of_waits_fault (waits.NoNode step) = fault.Graph (refusal.LacksStep step)
+of_waits_fault (waits.Circle node) = fault.Graph refusal.Circle
 of_waits_fault waits.TooMany = fault.Graph refusal.TooManyWaits
 of_waits_fault waits.Memory = fault.Memory
 

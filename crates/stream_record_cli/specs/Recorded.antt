@@ -6,19 +6,22 @@ use Rattle.apply_model.specs.Plan.ResourceChange.{ResourceChange}
 use Rattle.apply_model.specs.Plan.SavedPlan.{SavedPlan}
 use Rattle.apply_plan.specs.Plan.SavedPlan.{plan_of}
 use Rattle.input_files.specs.Inputs.{IsInputOf}
-use Rattle.input_graph.specs.AllWaits.{AreAllWaits, HasTooManyWaits}
+use Rattle.input_graph.specs.AllWaits.{AreAllWaits}
 use Rattle.input_graph.specs.NamedGraph.{NamedGraph}
 use Rattle.input_graph.specs.Reading.{graph_in}
+use Rattle.input_graph.specs.StepNodes.{names_of}
+use Rattle.input_graph.specs.WaitsRefusal.{IsRefusedFor}
+use Rattle.input_graph.specs.declared.waits_fault.WaitsFault.{WaitsFault}
 use Rattle.input_graph.specs.declared.graph_fault.GraphFault.{GraphFault}
-use Rattle.stream_record.specs.PlanScript.{plan_script}
+use Rattle.stream_record.specs.EvenScript.{even_script}
+use Rattle.stream_record.specs.ScriptText.{script_within}
 use Rattle.stream_record.specs.declared.script_fault.ScriptFault.{ScriptFault}
 use Rattle.stream_record.specs.declared.script_fault.ScriptFault.TheVariants as script
 use Rattle.stream_tool.specs.Running.{Giving}
-use Rattle.stream_record_cli.specs.Causes.{fault_status_of, of_graph_fault}
-use Rattle.stream_record_cli.specs.StepNames.{step_names}
+use Rattle.stream_record_cli.specs.Causes.{fault_status_of, of_graph_fault, of_waits_fault}
+use Rattle.stream_record_cli.specs.StepNames.{step_nodes}
 use Rattle.stream_record_cli.specs.declared.command.arguments.Settings.{Settings}
 use Rattle.stream_record_cli.specs.declared.graph_refusal.GraphRefusal.{GraphRefusal}
-use Rattle.stream_record_cli.specs.declared.graph_refusal.GraphRefusal.TheVariants.{TooManyWaits}
 use Rattle.stream_record_cli.specs.declared.record_fault.RecordFault.{RecordFault}
 use Rattle.stream_record_cli.specs.declared.record_fault.RecordFault.TheVariants as fault
 
@@ -27,21 +30,26 @@ use Rattle.stream_record_cli.specs.declared.record_fault.RecordFault.TheVariants
 -- The waits that the graph states, for each step of the changes. Without a graph there are none.
 abbrev pub AreWaitsIn : List ResourceChange → (graph : Option (List ℕ)) → (waits : List (List ℕ)) → Type 0
 AreWaitsIn changes None waits = waits ≡ []
-AreWaitsIn changes (Some bytes) waits = (graph : NamedGraph) × (graph_in bytes ≡ Ok graph) × AreAllWaits (step_names changes) graph waits
+AreWaitsIn changes (Some bytes) waits = (graph : NamedGraph) × (graph_in bytes ≡ Ok graph) × AreAllWaits (names_of (step_nodes changes)) graph waits
 
 -- The bytes are no graph of a plan.
 abbrev pub IsNoGraph : (bytes : List ℕ) → GraphRefusal → Type 0
 IsNoGraph bytes why = (given : GraphFault) × (graph_in bytes ≡ Err given) × (of_graph_fault given ≡ fault.Graph why)
 
--- The steps have too many waits.
-abbrev pub IsTooMany : List ResourceChange → (bytes : List ℕ) → GraphRefusal → Type 0
-IsTooMany changes bytes why =
-    (why ≡ TooManyWaits) × (graph : NamedGraph) × (graph_in bytes ≡ Ok graph) × HasTooManyWaits (step_names changes) graph
+-- The graph gives no waits for the steps: one has no node, edges go in a circle, or there are too
+-- many waits.
+abbrev pub IsWaitless : List ResourceChange → (bytes : List ℕ) → GraphRefusal → Type 0
+IsWaitless changes bytes why =
+    (graph : NamedGraph)
+    × (given : WaitsFault)
+    × (graph_in bytes ≡ Ok graph)
+    × IsRefusedFor (step_nodes changes) graph given
+    × (of_waits_fault given ≡ fault.Graph why)
 
 -- Why the graph states no waits.
 abbrev pub IsGraphRefused : List ResourceChange → (graph : Option (List ℕ)) → GraphRefusal → Type 0
 IsGraphRefused changes None why = ⊥
-IsGraphRefused changes (Some bytes) why = IsNoGraph bytes why ⊎ IsTooMany changes bytes why
+IsGraphRefused changes (Some bytes) why = IsNoGraph bytes why ⊎ IsWaitless changes bytes why
 
 -- The graph states no waits for this cause, or memory was refused.
 abbrev pub IsWaitsFault : List ResourceChange → (graph : Option (List ℕ)) → RecordFault → Type 0
@@ -68,6 +76,10 @@ IsPlanFault bytes fault.TooLarge = ⊥
 IsPlanFault bytes fault.Memory = ⊤
 IsPlanFault bytes fault.Gone = ⊥
 IsPlanFault bytes fault.Unwritten = ⊥
+
+-- The text of the script in which each step takes a second, with these waits, or why there is none.
+abbrev pub plan_script : List ResourceChange → (waits : List (List ℕ)) → Result (List ℕ) ScriptFault
+plan_script changes waits = script_within changes (even_script changes waits) [] []
 
 -- The script of the plan that the bytes state, with the waits that the graph states, is this one;
 -- or it would be too large.

@@ -20,6 +20,12 @@ pub enum GraphRefusal {
     /// No line is a node or an edge.
     #[error("the graph has no node: terraform graph -plan=FILE prints it, before the plan is applied")]
     NoNode,
+    /// No node is the step of the plan with that number, counted from 0. It is the first such step.
+    #[error("the graph has no node for a step of the plan: is it that of this plan? terraform graph -plan=FILE prints it, before the plan is applied")]
+    LacksStep(usize),
+    /// The edges go in a circle.
+    #[error("the graph goes in a circle")]
+    Circle,
     /// The steps of the plan have more than 1,000,000 waits.
     #[error("the graph has more than 1000000 waits")]
     TooManyWaits,

@@ -77,6 +77,8 @@ impl From<WaitsFault> for RecordFault {
 
     fn from(given: WaitsFault) -> RecordFault {
         match given {
+            WaitsFault::NoNode { step } => RecordFault::Graph(GraphRefusal::LacksStep(step)),
+            WaitsFault::Circle { node: _ } => RecordFault::Graph(GraphRefusal::Circle),
             WaitsFault::TooMany => RecordFault::Graph(GraphRefusal::TooManyWaits),
             WaitsFault::Memory => RecordFault::Memory,
         }

@@ -9,13 +9,13 @@ ghost use Rattle.stream_record_cli.specs.declared.record_fault.RecordFault.TheVa
 ghost use Rattle.term_words.specs.MessageTexts.{text_bytes};
 
 use crate::command::refusals::refuse;
-use crate::command::step_names::step_names;
+use crate::command::step_names::step_nodes;
 use crate::record_fault::RecordFault;
 use apply_plan::{Plan, PlanError, read_plan};
 use input_graph::{read_graph, waits_of};
 use std::alloc::Global;
 use std::io::Write;
-use stream_record::plan_script;
+use stream_record::{even_script, script_text};
 use stream_tool::{Report, WriteFault, flush, write_whole};
 use term_words::MessageText;
 
@@ -81,7 +81,8 @@ fn script_of(alloc: Global, plan: &[u8], graph: Option<&[u8]>) -> Result<Message
 {
     let plan = plan_of(alloc, plan)?;
     let waits = waits_in(alloc, &plan, graph)?;
-    Ok(plan_script(alloc, &plan, &waits)?)
+    let script = even_script(alloc, &plan, &waits)?;
+    Ok(script_text(alloc, &plan, &script, &[], &[])?)
 }
 
 /// The waits that the graph states; none without a graph. `Err` is as in `script_of`.
@@ -105,8 +106,8 @@ fn graph_waits(alloc: Global, plan: &Plan, graph: &[u8]) -> Result<Vec<Vec<usize
     ensures err { IfErr result (IsWaitsFault plan.now.changes (Some graph.now)) }
 {
     let graph = read_graph(alloc, graph)?;
-    let names = step_names(alloc, plan)?;
-    Ok(waits_of(alloc, &graph, &names)?)
+    let nodes = step_nodes(alloc, plan)?;
+    Ok(waits_of(alloc, &graph, &nodes)?)
 }
 
 /// Reads the plan. `Err` is as in `script_of`.

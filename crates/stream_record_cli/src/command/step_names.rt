@@ -1,32 +1,38 @@
-//! The names that a graph has for the steps of a plan.
+//! The nodes that a graph has for the steps of a plan.
 //!
 //! Every `Err` means that memory was refused.
 
 ghost use Rattle.std.specs.Prelude.{◌≡◌, ◌++◌, IfOk, OnOk};
-ghost use Rattle.stream_record_cli.specs.StepNames.{names_of_change, step_names};
+ghost use Rattle.stream_record_cli.specs.StepNames.{nodes_of_change, step_nodes};
 
-use apply_plan::{Change, Plan, Text};
-use input_graph::step_name;
+use apply_plan::{Change, Plan};
+use input_graph::{StepNode, step_name};
 use std::alloc::{AllocError, Global};
 
-/// The names of the nodes of all steps, in the plan's order.
-pub fn step_names(alloc: Global, plan: &Plan) -> Result<Vec<Text>, AllocError>
-    ensures { IfOk result (λ names. names.items ≡ step_names plan.now.changes) }
+/// The nodes of all steps, in the plan's order.
+pub fn step_nodes(alloc: Global, plan: &Plan) -> Result<Vec<StepNode>, AllocError>
+    ensures { IfOk result (λ nodes. nodes.items ≡ step_nodes plan.now.changes) }
 {
-    let mut names = Vec::new(alloc);
+    let mut nodes = Vec::new(alloc);
     for place in 0..plan.len() {
-        push_names(alloc, &mut names, plan.change(place))?;
+        push_nodes(alloc, &mut nodes, plan.change(place))?;
     }
-    Ok(names)
+    Ok(nodes)
 }
 
-/// Adds the names of the nodes of a change.
-fn push_names(alloc: Global, names: &mut Vec<Text>, change: &Change) -> Result<(), AllocError>
-    ensures { OnOk result (names.new.items ≡ names.old.items ++ names_of_change change.now) }
+/// Adds the nodes of a change.
+fn push_nodes(
+    alloc: Global,
+    nodes: &mut Vec<StepNode>,
+    change: &Change,
+) -> Result<(), AllocError>
+    ensures { OnOk result (nodes.new.items ≡ nodes.old.items ++ nodes_of_change change.now) }
 {
+    let mut follows = false;
     for kind in change.steps() {
         let name = step_name(alloc, change.address(), change.deposed(), kind.is_delete())?;
-        names.push(name)?;
+        nodes.push(StepNode { name, follows })?;
+        follows = true;
     }
     Ok(())
 }
