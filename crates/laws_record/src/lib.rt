@@ -1,7 +1,9 @@
-//! Laws of what `record` reads: which lines have a message.
+//! Laws of what `record` reads, which lines have a message, and of the scripts that it writes.
 //!
 //! Each function does nothing: its contract is the law. No program links this crate.
 #![tactic(auto)]
+
+mod scripts;
 
 ghost use Rattle.std.specs.Prelude.{◌≡◌, ◌≤◌, ℕ, Bool, List, length, not};
 ghost use Rattle.stream_check.specs.Lines.{line_message};
@@ -9,6 +11,9 @@ ghost use Rattle.stream_lines.specs.Limits.{max_bytes};
 ghost use Rattle.stream_record_lines.specs.Lines.{is_message, stated_line};
 ghost use Rattle.stream_watch.specs.MessageLaws.{is_no_message};
 
+pub use scripts::{
+    a_run_in_form_reads_back_outputs_and_diagnostics, a_run_reads_back_what_record_writes,
+};
 use stream_watch::a_line_has_a_message_where_check_finds_one;
 
 /// `record` reads a message in a line if and only if `check` finds one in it: a line that is no
