@@ -1,8 +1,8 @@
 -- Diagnostics that are given to steps one after another.
-use Rattle.std.proofs.Common.{◌≡◌, ◌∙◌, ℕ, ◌+◌, ◌<◌, List, [], ◌∷◌, Option, None, Some, Bool, ap, drop, get_or, length, map, refl, sym}
+use Rattle.std.proofs.Common.{◌≡◌, ◌∙◌, ℕ, ◌+◌, ◌<◌, List, ◌∷◌, Option, None, Some, Bool, ap, drop, get_or, length, map, refl, sym}
 use Rattle.std.specs.Borrow.{Bor}
 use Rattle.std.specs.Prelude.{option_map, position, slice_get}
-use Rattle.std.specs.List.{after_first, find, position_or_len}
+use Rattle.std.specs.List.{after_first, find}
 use Rattle.std.specs.Option.{option_map_or}
 use Rattle.std.proofs.lemmas.List.{drop_more}
 use Rattle.apply_model.specs.declared.details.note.Note.{Note}

@@ -1,5 +1,5 @@
 -- Provisioners run one after another.
-use Rattle.std.proofs.Common.{◌≡◌, ℕ, zero, suc, ◌+◌, ◌-◌, ◌≤◌, ◌<◌, ◌++◌, List, [], ◌∷◌, Option, None, Some, Bool, true, false, ap, arith, length, reverse, subst, sym}
+use Rattle.std.proofs.Common.{◌≡◌, ℕ, zero, suc, ◌+◌, ◌-◌, ◌≤◌, ◌++◌, List, [], ◌∷◌, Option, None, Some, Bool, true, false, ap, arith, length, reverse, subst, sym}
 use Rattle.std.specs.Prelude.{All, if◌then◌else◌, slice_get, sum_by}
 use Rattle.std.specs.List.{before_first, find, position_or_len}
 use Rattle.std.specs.Option.{option_map_or}

@@ -1,5 +1,5 @@
 -- The first place that passes a test.
-use Rattle.std.proofs.Common.{◌≡◌, ◌∙◌, ℕ, ◌+◌, ◌<◌, ◌≤◌, ◌++◌, List, [], ◌∷◌, Option, None, Some, Bool, true, false, cond, ap, arith, drop, get_or, length, sym, refl, take}
+use Rattle.std.proofs.Common.{◌≡◌, ◌∙◌, ℕ, ◌≤◌, ◌++◌, List, Option, None, Some, Bool, true, false, cond, ap, arith, drop, length, sym, refl, take}
 use Rattle.std.specs.Prelude.{if◌then◌else◌, nat_lt, not, option_map, position, slice_get}
 use Rattle.std.specs.List.{before_first, filter_map, find, position_or_len}
 use Rattle.std.specs.Option.{option_map_or}

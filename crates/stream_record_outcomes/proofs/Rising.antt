@@ -23,7 +23,7 @@ abbrev pub AreWithin : (whole : ℕ) → List TimedFact → Type 0
 AreWithin whole [] = Unit {0}
 AreWithin whole (fact ∷ facts) = (fact.second ≤ whole) × AreWithin whole facts
 
--- ---- from behind
+-- ---- from the last to the first
 
 capped_latest : (whole latest : ℕ) (o : Option ℕ) → latest ≤ whole → option_map_or (λ seconds. min (seconds - 1) whole) o latest ≤ whole
 capped_latest whole latest None within = within
@@ -44,7 +44,7 @@ bounded_within begin whole (fact ∷ facts) = (
   bounded_within begin whole facts,
 )
 
--- ---- from the front
+-- ---- from the first to the last
 
 rising_rises : (low whole : ℕ) (facts : List TimedFact) → low ≤ whole → AreWithin whole facts → Rises low whole (rising low facts)
 rising_rises low whole [] below within = tt

@@ -1,5 +1,5 @@
 -- Which diagnostic each step has.
-use Rattle.std.specs.Prelude.{ℕ, ◌+◌, ◌-◌, ◌==◌, List, [], ◌∷◌, codes, filter, length, replicate, slice_get, slice_set, take, Bool, true, false, ◌&&◌, ◌||◌, is_none, not, if◌then◌else◌, Option, Some, None, option_and_then, option_map, unwrap_or}
+use Rattle.std.specs.Prelude.{ℕ, ◌+◌, ◌-◌, List, [], ◌∷◌, codes, filter, length, replicate, slice_get, slice_set, take, Bool, true, false, ◌&&◌, is_none, not, if◌then◌else◌, Option, Some, None, option_and_then, option_map}
 use Rattle.std.specs.List.{after_first, filter_map, find}
 use Rattle.std.specs.Option.{option_map_or, option_or}
 use Rattle.std.specs.Str.{bytes_eq}

@@ -1,5 +1,5 @@
 -- The outcome of a step, as a script states it.
-use Rattle.std.specs.Prelude.{◌≡◌, ℕ, ◌+◌, ◌-◌, ◌<◌, ℤ, List, [], ◌∷◌, All, length, Bool, true, false, ◌&&◌, ◌||◌, is_none, not, if◌then◌else◌, Option, Some, None, IfSome, option_map, unwrap_or}
+use Rattle.std.specs.Prelude.{◌≡◌, ℕ, ◌-◌, ◌<◌, List, [], ◌∷◌, All, length, Bool, true, false, ◌&&◌, ◌||◌, is_none, not, if◌then◌else◌, Option, Some, None, IfSome, option_map, unwrap_or}
 use Rattle.std.specs.Option.{option_map_or}
 use Rattle.apply_model.specs.declared.details.note.Note.{Note}
 use Rattle.apply_model.specs.declared.details.note.Severity.{Severity}

@@ -1,5 +1,5 @@
 -- The outcomes of the steps of a stream.
-use Rattle.std.specs.Prelude.{◌≡◌, ℕ, ℤ, ◌+◌, List, [], ◌∷◌, slice_get, Option, Some, None, option_map}
+use Rattle.std.specs.Prelude.{◌≡◌, ℕ, ℤ, ◌+◌, List, [], ◌∷◌, slice_get, Option, Some, option_map}
 use Rattle.apply_model.specs.declared.details.note.Note.{Note}
 use Rattle.stream_record_steps.specs.declared.begun_step.BegunStep.{BegunStep}
 use Rattle.stream_record_steps.specs.Begun.{Begun, begun_at}

@@ -12,7 +12,7 @@ pub record TimedFact : Type 0 where
   pub second : ℕ
   pub stated : Stated
 
--- ---- from behind
+-- ---- from the last to the first
 
 -- The latest second of what comes before this fact, by that of what comes before the facts after it.
 abbrev pub latest_with : (whole latest : ℕ) → StepFact → ℕ
@@ -38,7 +38,7 @@ abbrev pub bounded : (begin : ℤ) → (whole : ℕ) → List StepFact → List 
 bounded begin whole [] = []
 bounded begin whole (fact ∷ facts) = own_fact begin whole (latest_before whole facts) fact ∷ bounded begin whole facts
 
--- ---- from the front
+-- ---- from the first to the last
 
 abbrev pub no_earlier : (low : ℕ) → TimedFact → TimedFact
 no_earlier low fact = record { second = max low fact.second; stated = fact.stated }

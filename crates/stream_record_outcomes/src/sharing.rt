@@ -115,7 +115,7 @@ fn takes_read(assignment: &Assignment, note: &Note, taker: &Taker<'_>) -> bool
     taker.is_open_read() && assignment.has_none(taker) && taker.is_fit(note)
 }
 
-/// Gives what is left to the steps whose turn it is.
+/// Gives what is left to the steps whose turn it is. Each of these looks through the diagnostics.
 fn share_left(notes: &[&Note], takers: &[Taker<'_>], turn: Turn, assignment: &mut Assignment)
     ensures { assignment.new ≡ share_left (map (λ note. note.now) notes.now) (filter (is_in_turn turn) takers.now) assignment.old }
 {

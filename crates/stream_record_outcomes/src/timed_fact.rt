@@ -33,11 +33,11 @@ pub fn timed_facts<'a>(
 ) -> Result<Vec<TimedFact<'a>>, AllocError>
     ensures { IfOk result (λ facts. facts.items ≡ timed_facts whole begun.now) }
 {
-    rising(alloc, bounded_from_behind(alloc, begun, whole)?)
+    rising(alloc, bounded_backwards(alloc, begun, whole)?)
 }
 
 /// The facts from the last to the first, each no later than the facts after it allow.
-fn bounded_from_behind<'a>(
+fn bounded_backwards<'a>(
     alloc: Global,
     begun: &'a BegunStep,
     whole: u32,
@@ -45,16 +45,16 @@ fn bounded_from_behind<'a>(
     ensures { IfOk result (λ facts. facts.items ≡ reverse (bounded begun.now.second whole begun.now.facts)) }
 {
     let facts = begun.facts.as_slice();
-    let mut from_behind = Vec::new(alloc);
+    let mut backwards = Vec::new(alloc);
     let mut latest = whole;
     let mut place = facts.len();
     while place > 0 {
         place -= 1;
         let fact = &facts[place];
-        from_behind.push(own_fact(begun, whole, latest, fact))?;
+        backwards.push(own_fact(begun, whole, latest, fact))?;
         latest = latest_with(whole, latest, fact);
     }
-    Ok(from_behind)
+    Ok(backwards)
 }
 
 /// A fact with the second that it has by itself.
@@ -90,13 +90,13 @@ fn at_most(seconds: u64, most: u32) -> u32
 /// The facts from the first to the last, none earlier than a fact before it.
 fn rising<'a>(
     alloc: Global,
-    mut from_behind: Vec<TimedFact<'a>>,
+    mut backwards: Vec<TimedFact<'a>>,
 ) -> Result<Vec<TimedFact<'a>>, AllocError>
-    ensures { IfOk result (λ facts. facts.items ≡ rising 0 (reverse from_behind.entry.items)) }
+    ensures { IfOk result (λ facts. facts.items ≡ rising 0 (reverse backwards.entry.items)) }
 {
     let mut rising = Vec::new(alloc);
     let mut low = 0;
-    while let Some(fact) = from_behind.pop() {
+    while let Some(fact) = backwards.pop() {
         low = fact.second.max(low);
         rising.push(TimedFact {
             second: low,

@@ -1,4 +1,4 @@
-use Rattle.std.proofs.Common.{◌≡◌, ◌∙◌, arith, length, sym, drop}
+use Rattle.std.proofs.Common.{◌∙◌, arith, sym, drop}
 use Rattle.std.specs.List.{filter_map}
 use Rattle.apply_model.specs.Script.Limits.{max_outputs}
 use Rattle.stream_record_outcomes.specs.Provisioners.{timed_output}

@@ -1,5 +1,4 @@
 use Rattle.std.proofs.Common.{List, Option, subst, sym}
-use Rattle.std.specs.Prelude.{map}
 use Rattle.stream_record_outcomes.specs.Recording.{AreAllowed}
 use Rattle.stream_record_outcomes.specs.declared.recorded_step.RecordedStep.{RecordedStep}
 use Rattle.stream_record_outcomes.proofs.Allowed.{all_allowed}

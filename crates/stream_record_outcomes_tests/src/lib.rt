@@ -1,0 +1,5 @@
+//! Tests of `stream_record_outcomes`.
+#![tactic(auto)]
+
+#[cfg(test)]
+mod tests;
