@@ -21,11 +21,7 @@ pub fn step_nodes(alloc: Global, plan: &Plan) -> Result<Vec<StepNode>, AllocErro
 }
 
 /// Adds the nodes of a change.
-fn push_nodes(
-    alloc: Global,
-    nodes: &mut Vec<StepNode>,
-    change: &Change,
-) -> Result<(), AllocError>
+fn push_nodes(alloc: Global, nodes: &mut Vec<StepNode>, change: &Change) -> Result<(), AllocError>
     ensures { OnOk result (nodes.new.items ≡ nodes.old.items ++ nodes_of_change change.now) }
 {
     let mut follows = false;
