@@ -46,8 +46,8 @@ pub record IsCourse (basis : Basis) (rounds : ℕ) (course : Course) : Type 0 wh
   pub in_time : All (λ end. IfSome end (λ end. IsWithin rounds end.at)) course.ends
   pub follow : (step : ℕ) → end_at course step ≡ None → is_joined basis (step + 1) ≡ true → end_at course (step + 1) ≡ None
 
--- All waits of a step but the first `left` are done. `at` is the latest of the rounds after those in which
--- they are done.
+-- All waits of a step but the first `left` are done. `at` is the latest of the rounds after those
+-- in which they are done.
 abbrev pub IsMark : Basis → Course → (after : List ℕ) → Mark → Type 0
 IsMark basis course after mark = (mark.left ≤ length after) × (done_by basis course (drop mark.left after) ≡ Some mark.at)
 

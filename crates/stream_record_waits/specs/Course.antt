@@ -1,5 +1,5 @@
--- The schedule of the steps that began, in lanes. In it a step waits for the step behind which it begins
--- in the stream, where it would begin too early otherwise.
+-- The schedule of the steps that began, in lanes. In it a step waits for the step behind which it
+-- begins in the stream, where it would begin too early otherwise.
 use Rattle.std.specs.Prelude.{ℕ, zero, suc, ◌+◌, ◌*◌, ◌&&◌, ◌||◌, List, [], ◌∷◌, ◌++◌, Bool, true, false, filter, is_some, length, map, nat_lt, not, option_map, option_to_list, replicate, set, slice_index_or, Option, Some, None, if◌then◌else◌}
 use Rattle.std.specs.List.{range_with_len}
 use Rattle.std.specs.Option.{option_map_or}
@@ -11,16 +11,16 @@ use Rattle.stream_record_waits.specs.Graph.{waits_at}
 use Rattle.stream_record_waits.specs.LaneTime.{first_earliest, first_lane_time, is_earlier, later_by, later_of, next_round}
 use Rattle.stream_record_waits.specs.Steps.{has_begun, is_failure, step_at, step_before}
 
--- What a schedule goes by: the steps and their waits, which steps run in one turn with the step before
--- them, and the step behind which each begins in the stream.
+-- What a schedule goes by: the steps and their waits, which steps run in one turn with the step
+-- before them, and the step behind which each begins in the stream.
 pub record Basis : Type 0 where
   pub steps : List StepOfPlan
   pub after : List (List ℕ)
   pub joined : List Bool
   pub behind : List (Option ℕ)
 
--- A schedule under way: when each step ends and in which lane, when each lane is free, and which steps
--- were put back.
+-- A schedule under way: when each step ends and in which lane, when each lane is free, and which
+-- steps were put back.
 pub record Course : Type 0 where
   pub ends : List (Option LaneEnd)
   pub free : List LaneTime
@@ -105,13 +105,14 @@ first_ready basis course (step ∷ steps) = earlier_of (next_of basis course ste
 
 -- ---- one round
 
--- A step has no end yet, or its end stands in the time line after the begin of a turn then and there.
+-- A step has no end yet, or its end stands in the time line after the begin of a turn then and
+-- there.
 abbrev pub ends_later : Option LaneEnd → (begin : LaneTime) → (lane : ℕ) → Bool
 ends_later None begin lane = true
 ends_later (Some end) begin lane = is_earlier begin end.at || not (is_earlier end.at begin) && nat_lt lane end.lane
 
--- A turn is put back once, where it would begin before the end of the step behind which it begins in the
--- stream.
+-- A turn is put back once, where it would begin before the end of the step behind which it begins
+-- in the stream.
 abbrev pub is_put_back : Basis → Course → ℕ → (begin : LaneTime) → (lane : ℕ) → Bool
 is_put_back basis course step begin lane =
     not (is_pinned course step) && option_map_or (λ other. ends_later (end_at course other) begin lane) (behind_at basis step) false

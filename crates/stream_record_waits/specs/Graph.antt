@@ -20,8 +20,8 @@ pub record AreWaitsOf (count : ℕ) (lists : List (List ℕ)) : Type 0 where
 abbrev pub passed_on : (steps : List StepOfPlan) → (graph : List (List ℕ)) → ℕ → List ℕ
 passed_on steps graph step = waits_at graph step ++ option_to_list (step_before steps step)
 
--- The steps that a step reaches: those that it waits for, and those that a reached step passes on. A
--- step passes on where it was not done before that line.
+-- The steps that a step reaches: those that it waits for, and those that a reached step passes on.
+-- A step passes on where it was not done before that line.
 pub data Reaches (steps : List StepOfPlan) (graph : List (List ℕ)) (start line : ℕ) : ℕ → Type 0 where
   directly : (other : ℕ) → Contains (waits_at graph start) other → Reaches steps graph start line other
   through : (step other : ℕ) → Reaches steps graph start line step → is_done_before steps step line ≡ false
@@ -33,8 +33,8 @@ pub record WaitsFor (steps : List StepOfPlan) (graph : List (List ℕ)) (step li
   pub done : is_done_before steps other line ≡ true
   pub differs : other ≢ step
 
--- A step began too early for each step that it reaches and that had begun, or began later, but was not
--- done before.
+-- A step began too early for each step that it reaches and that had begun, or began later, but was
+-- not done before.
 pub record IsEarlyFor (steps : List StepOfPlan) (graph : List (List ℕ)) (step line other : ℕ) : Type 0 where
   pub reaches : Reaches steps graph step line other
   pub begun : has_begun steps other ≡ true
@@ -46,8 +46,8 @@ pub record AreAll (P : ℕ → Type 0) (numbers : List ℕ) : Type 0 where
   pub sound : (number : ℕ) → Contains numbers number → P number
   pub complete : (number : ℕ) → P number → Contains numbers number
 
--- What a step waits for, and for which steps it began too early. A step that did not begin keeps all
--- its waits.
+-- What a step waits for, and for which steps it began too early. A step that did not begin keeps
+-- all its waits.
 abbrev pub AreStepWaits : (steps : List StepOfPlan) → (graph : List (List ℕ)) → (step : ℕ) → Option StepRun → (after early : List ℕ) → Type 0
 AreStepWaits steps graph step None after early = (after ≡ waits_at graph step) × (early ≡ [])
 AreStepWaits steps graph step (Some run) after early =

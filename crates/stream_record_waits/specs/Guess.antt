@@ -9,14 +9,14 @@ use Rattle.stream_record_waits.specs.Steps.{are_same, both_began, follows_at_onc
 abbrev pub cause_of : (steps : List StepOfPlan) → (guesses : Bool) → Option ℕ
 cause_of steps guesses = if guesses && count_by has_failed steps == 1 then position has_failed steps else None
 
--- The first step of a change that did not begin waits for the one that failed, unless that is the step
--- before it.
+-- The first step of a change that did not begin waits for the one that failed, unless that is the
+-- step before it.
 abbrev pub guessed_wait : (steps : List StepOfPlan) → (cause : Option ℕ) → ℕ → Option ℕ
 guessed_wait steps cause step =
     if option_map_or (has_begun steps) (step_before steps step) true && not (are_same cause (step_before steps step)) then cause else None
 
--- The second step of a change that did not follow the first one at once waits for the step behind which
--- it begins.
+-- The second step of a change that did not follow the first one at once waits for the step behind
+-- which it begins.
 abbrev pub queue_wait : (steps : List StepOfPlan) → (behind : List (Option ℕ)) → ℕ → Option ℕ
 queue_wait steps behind step =
     if both_began steps step && not (follows_at_once steps step) then slice_index_or behind step None else None

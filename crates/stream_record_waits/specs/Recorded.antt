@@ -63,7 +63,8 @@ abbrev pub AreDoneBefore : (steps : List StepOfPlan) → (after : List (List ℕ
 AreDoneBefore steps after = (step : ℕ) (run : StepRun) → step < length steps → (step_at steps step).run ≡ Some run
     → All (λ other. is_done_before steps other run.line ≡ true) (waits_at after step)
 
--- The waits of each step are in order, of steps that there are, and were done before the step began.
+-- The waits of each step are in order, of steps that there are, and were done before the step
+-- began.
 pub record AreSoundWaits (steps : List StepOfPlan) (after : List (List ℕ)) : Type 0 where
   pub of_steps : AreWaitsOf (length steps) after
   pub done : AreDoneBefore steps after
@@ -79,8 +80,8 @@ pub record HasTooManyWaits (steps : List StepOfPlan) (graph : List (List ℕ)) :
   pub are : AreFirstWaits steps graph count after early
   pub many : max_waits < count_of after early
 
--- The first steps have too many waits in the graph, or all steps have too many with the waits of those
--- that are put back.
+-- The first steps have too many waits in the graph, or all steps have too many with the waits of
+-- those that are put back.
 pub data HasTooMany (steps : List StepOfPlan) (graph : Option (List (List ℕ))) (choices : Choices) : Type 0 where
   in_graph : (lists : List (List ℕ)) → graph ≡ Some lists → HasTooManyWaits steps lists → HasTooMany steps graph choices
   in_all : (after early : List (List ℕ)) → AreRecordedWaits steps graph choices after early → max_waits < count_of after early → HasTooMany steps graph choices

@@ -20,8 +20,8 @@ step_before steps step = if step == 0 || (step_at steps step).is_first then None
 abbrev pub has_begun : (steps : List StepOfPlan) → ℕ → Bool
 has_begun steps step = is_some (step_at steps step).run
 
--- The line after which a step is done: that of its end. A read that only warned has none. It is done
--- once it began.
+-- The line after which a step is done: that of its end. A read that only warned has none. It is
+-- done once it began.
 abbrev pub done_line_of : RunFate → (line : ℕ) → (end : Option ℕ) → Option ℕ
 done_line_of Done line end = end
 done_line_of Warned line end = Some line
@@ -70,7 +70,8 @@ both_began steps step = has_begun steps step && option_map_or (has_begun steps) 
 abbrev pub are_same : Option ℕ → Option ℕ → Bool
 are_same first second = option_map_or (λ a. option_map_or (λ b. a == b) second false) first false
 
--- The message about a step before the start of this step is the end of the step before it in its change.
+-- The message about a step before the start of this step is the end of the step before it in its
+-- change.
 abbrev pub follows_at_once : (steps : List StepOfPlan) → ℕ → Bool
 follows_at_once steps step = are_same
     (option_and_then (λ run. run.previous) (step_at steps step).run)

@@ -43,7 +43,8 @@ impl StepBasis<'_> {
         }
     }
 
-    /// Whether the step runs in one turn with the step before it. A step that is not there does not.
+    /// Whether the step runs in one turn with the step before it. A step that is not there does
+    /// not.
     pub(crate) fn is_joined(&self, step: usize) -> bool
         ensures { result ≡ is_joined (basis_of self.now) step }
     {

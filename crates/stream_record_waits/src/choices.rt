@@ -7,7 +7,7 @@ pub struct Choices {
     pub begins: bool,
     /// The number of lanes in which the script is to run.
     pub lanes: u8,
-    /// Without a graph: whether a wait may be guessed. It may where each error belongs to a step and
-    /// the stream is not cut off.
+    /// Without a graph: whether a wait may be guessed. It may where each error belongs to a step
+    /// and the stream is not cut off.
     pub guesses: bool,
 }

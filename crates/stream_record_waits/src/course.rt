@@ -56,11 +56,12 @@ impl LaneCourse {
         requires ends { step < length self.now.ends.items }
         ensures { result ≡ done_at (basis_of basis.now) (course_of self.now) step }
     {
-        if !basis.goes_on(step) {
-            return None;
-        }
         let end = self.ends[step]?;
-        Some(end.at)
+        if basis.goes_on(step) {
+            Some(end.at)
+        } else {
+            None
+        }
     }
 
     /// The later of a time and of the round after that in which a step is done.

@@ -25,7 +25,8 @@ pub(crate) fn joined_by_graph(
     Ok(joined)
 }
 
-/// Without a graph, the steps that follow the step before them at once. `Err` where memory is refused.
+/// Without a graph, the steps that follow the step before them at once. `Err` where memory is
+/// refused.
 pub(crate) fn joined_by_lines(alloc: Global, steps: &[StepOfPlan]) -> Result<Vec<bool>, AllocError>
     ensures { IfOk result (λ joined. joined.items ≡ joined_by_lines steps.now (length steps.now)) }
 {

@@ -9,7 +9,8 @@ use crate::basis::StepBasis;
 use crate::course::LaneCourse;
 use std::alloc::{AllocError, Global};
 
-/// The waits of all steps, with those of the steps that were put back. `Err` where memory is refused.
+/// The waits of all steps, with those of the steps that were put back. `Err` where memory is
+/// refused.
 pub(crate) fn with_pins(
     alloc: Global,
     basis: &StepBasis<'_>,

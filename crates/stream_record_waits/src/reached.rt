@@ -103,7 +103,8 @@ impl Reached {
         }
     }
 
-    /// Finds the steps that a step reaches, by the line of its start. `Err` where memory is refused.
+    /// Finds the steps that a step reaches, by the line of its start. `Err` where memory is
+    /// refused.
     pub(crate) fn search(
         &mut self,
         steps: &[StepOfPlan],

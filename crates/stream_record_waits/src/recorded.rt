@@ -172,7 +172,8 @@ fn are_few(waits: &FoundWaits) -> bool
     }
 }
 
-/// How many more waits there may be than in these lists. `None` where the lists alone have too many.
+/// How many more waits there may be than in these lists. `None` where the lists alone have too
+/// many.
 fn room_after(lists: &[Vec<usize>], limit: usize) -> Option<usize>
     ensures { MatchOption result (limit < sum_by length (lists_in lists.now)) (λ room. room + sum_by length (lists_in lists.now) ≡ limit) }
 {

@@ -70,8 +70,8 @@ impl LaneCourse {
         }
     }
 
-    /// One round: the turn that is ready first is put back, or starts in the lane that is free first.
-    /// Returns whether a turn was ready.
+    /// One round: the turn that is ready first is put back, or starts in the lane that is free
+    /// first. Returns whether a turn was ready.
     pub(crate) fn round(
         &mut self,
         basis: &StepBasis<'_>,

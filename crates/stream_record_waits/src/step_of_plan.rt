@@ -3,7 +3,8 @@
 /// A step of a plan. Steps are numbered from 0 in the order of the plan.
 #[derive(Clone, Copy, Debug)]
 pub struct StepOfPlan {
-    /// Whether it is the first step of its change. Otherwise the step before it is of the same change.
+    /// Whether it is the first step of its change. Otherwise the step before it is of the same
+    /// change.
     pub is_first: bool,
     /// How it ran. `None` where it did not begin.
     pub run: Option<StepRun>,

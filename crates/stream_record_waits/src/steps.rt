@@ -60,8 +60,8 @@ pub(crate) fn are_same(first: Option<u64>, second: Option<u64>) -> bool
     }
 }
 
-/// Whether the message about a step before the start of this one is the end of the step before it in
-/// its change.
+/// Whether the message about a step before the start of this one is the end of the step before it
+/// in its change.
 pub(crate) fn follows_at_once(steps: &[StepOfPlan], step: usize) -> bool
     requires { step < length steps.now }
     ensures { result ≡ follows_at_once steps.now step }
