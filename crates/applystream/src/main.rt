@@ -14,6 +14,7 @@ use stream_ahead::{NoPace, read_ahead};
 use stream_check::Check;
 use stream_panel::Size;
 use stream_play::Play;
+use stream_record_cli::Record;
 use stream_tool::{Tool, read_words, run_tool};
 use stream_view::View;
 use stream_watch_cli::{Terminal, Watch, has_panel};
@@ -33,6 +34,10 @@ const NO_STREAM_TO_VIEW: &str =
 /// Printed when somebody types `applystream watch` alone.
 const NO_STREAM_TO_WATCH: &str =
     "a stream is awaited from this terminal: name its file, as in applystream watch stream.jsonl";
+
+/// Printed when somebody types `applystream record` with a plan alone.
+const NO_STREAM_TO_RECORD: &str =
+    "a stream is awaited from this terminal: name its file, as in applystream record --plan plan.json stream.jsonl";
 
 /// Printed when somebody types `applystream validate` alone.
 const NO_PLAN: &str =
@@ -62,6 +67,12 @@ fn use_tool<T: Threads + Wait + Clock + Sync>(
     match words.get(1)?.as_str() {
         "check" => Some(run(rt, &Check, words, NO_STREAM)),
         "play" => Some(run(rt, &Play { clock: rt }, words, NO_STREAM_TO_PLAY)),
+        "record" => {
+            let tool = Record {
+                is_terminal: rt.stdin().is_terminal(),
+            };
+            Some(run(rt, &tool, words, NO_STREAM_TO_RECORD))
+        }
         "view" => {
             let is_colour_wanted = rt.stdout().is_terminal() && wants_colour(rt);
             let tool = View { is_colour_wanted };

@@ -6,7 +6,7 @@ ghost use Rattle.std.specs.Prelude.{◌≡◌, ◌≤◌, IfOk, length, map, sli
 ghost use Rattle.apply_model.specs.Script.Limits.{max_waits};
 ghost use Rattle.stream_record.specs.EvenScript.{even_script, even_step, even_steps, steps_at, waits_at};
 
-use crate::planned_steps::planned_steps;
+use crate::planned::planned_steps;
 use apply_model::{
     Ending, Outcome, Plan, Provisioners, ScriptStep, StepKind, StepOutcomes, Wait, Waits,
 };
@@ -68,8 +68,8 @@ fn waits_at(waits: &[Vec<usize>], number: usize) -> &[usize]
     }
 }
 
-/// The steps with these numbers.
-fn steps_at(alloc: Global, planned: &[Wait], numbers: &[usize]) -> Result<Vec<Wait>, AllocError>
+/// The steps with these numbers, of all steps of a plan. Numbers of no step are ignored.
+pub fn steps_at(alloc: Global, planned: &[Wait], numbers: &[usize]) -> Result<Vec<Wait>, AllocError>
     ensures { IfOk result (λ steps. steps.items ≡ steps_at planned.now numbers.now) }
 {
     numbers
@@ -86,7 +86,7 @@ fn step_at(planned: &[Wait], number: usize) -> Option<Wait>
 }
 
 /// A step that takes a second and waits for these steps.
-fn even_step(alloc: Global, after: Vec<Wait>) -> ScriptStep
+pub fn even_step(alloc: Global, after: Vec<Wait>) -> ScriptStep
     requires { length after.items ≤ max_waits }
     ensures { result ≡ even_step after.items }
 {

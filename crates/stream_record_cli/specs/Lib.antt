@@ -1,4 +1,12 @@
+pub mod Alone
 pub mod Causes
+pub mod Chosen
 pub mod CommandLine
+pub mod Graphs
+pub mod Inputs
+pub mod Outcomes
+pub mod Plans
 pub mod Recorded
 pub mod StepNames
+pub mod StreamsRead
+pub mod Tools

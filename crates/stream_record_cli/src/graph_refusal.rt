@@ -21,9 +21,10 @@ pub enum GraphRefusal {
     #[error("the graph has no node: terraform graph -plan=FILE prints it, before the plan is applied")]
     NoNode,
     /// No node is the step of the plan with that number, counted from 0. It is the first such step.
-    #[error("the graph has no node for a step of the plan: is it that of this plan? terraform graph -plan=FILE prints it, before the plan is applied")]
+    /// The message names it.
+    #[error("the graph has no node for step {0}")]
     LacksStep(usize),
-    /// The edges go in a circle.
+    /// The edges go in a circle. The message names a node on it.
     #[error("the graph goes in a circle")]
     Circle,
     /// The steps of the plan have more than 1,000,000 waits.

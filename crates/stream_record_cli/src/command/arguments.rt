@@ -1,75 +1,63 @@
 //! The arguments of `record`.
 
-ghost use Rattle.std.specs.Prelude.{◌≡◌, [], IfOk, codes, false, true, option_map, string_bytes, unwrap_or};
-ghost use Rattle.std.specs.Option.{option_copied};
+ghost use Rattle.std.specs.Prelude.{◌≡◌, ◌≤◌, [], None, Some, IfOk, IfSome, codes, false, option_map, string_bytes, true, unwrap_or};
 ghost use Rattle.clap.specs.Faults.{is_simple_and_free};
 ghost use Rattle.clap.specs.Matches.{found_of};
 ghost use Rattle.clap.specs.Simple.{app_of, is_simple};
-ghost use Rattle.clap.specs.Walk.{first_of, rows_of, rule_of};
-ghost use Rattle.stream_record_cli.specs.CommandLine.{AreStated, are_both_standard, command_line, graph_rule, is_standard, only_plan_rule, plan_rule};
-ghost use Rattle.stream_tool.specs.Refused.{IsConflict, IsRefusal};
+ghost use Rattle.clap.specs.Walk.{first_of, one_of, rows_of, rule_of};
+ghost use Rattle.stream_record_cli.specs.CommandLine.{AreStated, IsLanes, command_line, graph_rule, lanes_rule, plan_rule};
+ghost use Rattle.stream_tool.specs.Words.{flag_rule};
 
-use clap::{Arg, ArgMatches, Command};
+use crate::command::settings::Settings;
+use clap::{Arg, ArgMatches, Command, value_parser};
 use std::alloc::{AllocError, Global};
-use stream_tool::{Usage, flag, with_option};
+use stream_runs::{run_of, run_option};
+use stream_tool::{FIND, file, file_of, flag, is_given, with_option};
+
+/// The lanes by default: as many changes as Terraform applies at once.
+const LANES: u8 = 10;
 
 const ABOUT: &str =
-    "Writes a script for a plan. With the script, a run tells an apply of the plan in which each step takes a second, and waits for the steps that the graph states.
+    "Makes a script of a stream: with it a run of the plan tells the apply of the stream again.
 
-Input: the plan, as `terraform show -json` prints it, and the graph, as `terraform graph -plan=FILE` prints it.
+Standard input: the stream of `terraform apply -json`, whole or cut off, unless FILE is named. It is read to its end.
 Standard output: the script, on one line.
-Standard error: why there is no script.";
+Standard error: what the script does not say, a line each; or why there is no script.";
 
 const AFTER: &str = r#"Example:
   terraform plan -out=tfplan && terraform show -json tfplan > plan.json && terraform graph -plan=tfplan > graph.dot
-  applystream record --plan plan.json --graph graph.dot --only-plan > script.json
+  terraform apply -json tfplan | tee -p stream.jsonl | applystream check
+  applystream record --plan plan.json --graph graph.dot stream.jsonl > script.json
   applystream --form terraform --parallelism 10 --script script.json < plan.json
+
+Example of a plan that was not applied:
+  applystream record --plan plan.json --graph graph.dot --only-plan > script.json
 
 Exit status:
   0  the script was written; or help was printed
-  2  wrong options, a file that can't be read, a plan that a run refuses, or a graph that is not of a plan
+  1  the script was written, and standard error has what it does not say
+  2  wrong options, a file that can't be read, a plan that a run refuses, a graph or a stream that is not of the plan, or no such run
   3  out of memory, or the output could not be written"#;
-
-/// Printed where both inputs are standard input.
-const BOTH_STANDARD: &str =
-    "error: invalid value '-' for '--graph <GRAPH>': the plan is read from standard input\n\nFor more information, try '--help'.\n";
-
-/// What the arguments state.
-#[derive(Debug, Drop)]
-pub struct Settings {
-    /// The name of the plan's file; `-` is standard input.
-    pub plan: String,
-    /// The name of the graph's file, if one is given; `-` is standard input.
-    pub graph: Option<String>,
-}
-
-impl Settings {
-    /// Returns the name of the graph's file, if one is given.
-    pub(crate) fn graph_name(&self) -> Option<&str>
-        ensures { option_copied result ≡ option_map string_bytes self.now.graph }
-    {
-        match &self.graph {
-            Some(name) => Some(name.as_str()),
-            None => None,
-        }
-    }
-}
-
-impl Settings {
-    /// Returns the name of the graph's file, or of the plan's.
-    pub(crate) fn name_of(&self, is_graph: bool) -> &str {
-        match self.graph_name() {
-            Some(name) if is_graph => name,
-            _ => self.plan.as_str(),
-        }
-    }
-}
 
 /// Defines the options and their help. `Err` where memory is refused.
 pub fn command<'a>(alloc: Global) -> Result<Command<'a>, AllocError>
     ensures is { IfOk result (λ command. app_of command ≡ command_line) }
     ensures simple { IfOk result (λ command. is_simple (app_of command) ≡ true) }
     ensures free { IfOk result (λ command. is_simple_and_free (app_of command) ≡ true) }
+{
+    command_of(alloc, begins(alloc), only_plan(alloc))
+}
+
+/// The command with these options `--begins` and `--only-plan`, and the others. `Err` where memory
+/// is refused.
+pub(crate) fn command_of<'a>(
+    alloc: Global,
+    begins: Arg<'a>,
+    only_plan: Arg<'a>,
+) -> Result<Command<'a>, AllocError>
+    ensures { rule_of begins.entry ≡ flag_rule (codes "begins") → begins.entry.global ≡ false
+        → rule_of only_plan.entry ≡ flag_rule (codes "only-plan") → only_plan.entry.global ≡ false
+        → IfOk result (λ command. app_of command ≡ command_line) }
 {
     let line = Ok(
         Command::new(alloc, "applystream record")
@@ -79,7 +67,12 @@ pub fn command<'a>(alloc: Global) -> Result<Command<'a>, AllocError>
     );
     let line = with_option(line, plan(alloc));
     let line = with_option(line, graph(alloc));
-    with_option(line, only_plan(alloc))
+    let line = with_option(line, begins);
+    let line = with_option(line, lanes(alloc));
+    let line = with_option(line, only_plan);
+    let line = with_option(line, flag(alloc, "find", FIND));
+    let line = with_option(line, run_option(alloc));
+    with_option(line, file(alloc))
 }
 
 /// Defines `--plan PLAN`.
@@ -105,16 +98,38 @@ fn graph<'a>(alloc: Global) -> Arg<'a>
         )
 }
 
+/// Defines `--begins`.
+pub(crate) fn begins<'a>(alloc: Global) -> Arg<'a>
+    ensures { (rule_of result ≡ flag_rule (codes "begins")) × (result.global ≡ false) }
+{
+    flag(
+        alloc,
+        "begins",
+        "With a graph and a stream: let steps also wait so that they begin as in the stream",
+    )
+}
+
+/// Defines `--parallelism N`.
+fn lanes<'a>(alloc: Global) -> Arg<'a>
+    ensures { (rule_of result ≡ lanes_rule) × (result.global ≡ false) }
+{
+    Arg::new(alloc, "parallelism")
+        .long("parallelism")
+        .value_name("N")
+        .help("The lanes in which the script is to be told, 1 to 64: the parallelism of the apply")
+        .value_parser(value_parser!(u8).range(1..=64))
+        .default_value("10")
+}
+
 /// Defines `--only-plan`.
-fn only_plan<'a>(alloc: Global) -> Arg<'a>
-    ensures { (rule_of result ≡ only_plan_rule) × (result.global ≡ false) }
+pub(crate) fn only_plan<'a>(alloc: Global) -> Arg<'a>
+    ensures { (rule_of result ≡ flag_rule (codes "only-plan")) × (result.global ≡ false) }
 {
     flag(
         alloc,
         "only-plan",
-        "Make the script of the plan alone, in which each step takes a second",
+        "Make the script of the plan alone, in which each step takes a second: no stream is read",
     )
-    .required(true)
 }
 
 /// Returns the settings of parsed arguments. `Err` where memory is refused.
@@ -123,7 +138,17 @@ pub fn settings_of(alloc: Global, matches: &ArgMatches<'_>) -> Result<Settings, 
 {
     let plan = plan_name(alloc, matches)?;
     let graph = value_of(alloc, matches, "graph")?;
-    Ok(Settings { plan, graph })
+    let file = file_of(alloc, matches)?;
+    Ok(Settings {
+        plan,
+        graph,
+        begins: is_given(matches, "begins"),
+        lanes: lanes_of(matches),
+        only_plan: is_given(matches, "only-plan"),
+        find: is_given(matches, "find"),
+        run: run_of(matches),
+        file,
+    })
 }
 
 /// Returns the name of the plan's file. `Err` where memory is refused.
@@ -137,35 +162,14 @@ fn plan_name(alloc: Global, matches: &ArgMatches<'_>) -> Result<String, AllocErr
     }
 }
 
-/// Returns why the arguments are refused, where both inputs are standard input.
-pub fn conflict(alloc: Global, matches: &ArgMatches<'_>) -> Option<Usage>
-    ensures { IsConflict (are_both_standard (rows_of (found_of matches.now))) result }
+/// Returns the number of lanes. The parser has tested it, so clamping does not change it.
+fn lanes_of(matches: &ArgMatches<'_>) -> u8
+    ensures { IfSome (one_of (codes "parallelism") (rows_of (found_of matches.now))) (λ text. IsLanes text result) }
 {
-    if is_standard(matches, "plan") && is_standard(matches, "graph") {
-        Some(both_standard(alloc))
-    } else {
-        None
-    }
-}
-
-/// Returns whether an option names standard input.
-fn is_standard(matches: &ArgMatches<'_>, option: &str) -> bool
-    ensures { result ≡ is_standard option.now (rows_of (found_of matches.now)) }
-{
-    match matches.get_str(option) {
-        Some(name) => name == "-",
-        None => false,
-    }
-}
-
-/// The message about two inputs that are standard input.
-fn both_standard(alloc: Global) -> Usage
-    ensures { IsRefusal result }
-{
-    match String::from_str(alloc, BOTH_STANDARD) {
-        Ok(text) => Usage::Words(text),
-        Err(_) => Usage::Memory,
-    }
+    matches
+        .get_one::<u8>("parallelism")
+        .unwrap_or(LANES)
+        .clamp(1, 64)
 }
 
 /// Returns the value of an option. `Err` where memory is refused.

@@ -1,11 +1,11 @@
 //! Reads the plan and the graph.
 
-ghost use Rattle.std.specs.Prelude.{◌≡◌, IfOk, option_map, string_bytes};
+ghost use Rattle.std.specs.Prelude.{◌≡◌, IfOk, false, option_map, string_bytes};
 ghost use Rattle.std.specs.Option.{option_copied};
 ghost use Rattle.input_files.specs.Inputs.{IsInputOf};
-ghost use Rattle.stream_record_cli.specs.Recorded.{IsGraphOf, left_by};
+ghost use Rattle.stream_record_cli.specs.Inputs.{IsGraphOf, is_dash, is_dash_or_none, left_by};
 
-use crate::command::arguments::Settings;
+use crate::command::settings::Settings;
 use input_files::{InputFault, ReadInput, read_named};
 use std::alloc::Global;
 use std::io::Read;
@@ -49,6 +49,8 @@ pub fn read_inputs<F: Files, R: Read>(
     ensures plan { IfOk result (λ inputs. IsInputOf F.File.remaining (R.remaining input.old) (string_bytes settings.now.plan) inputs.plan.bytes.items) }
     ensures graph { IfOk result (λ inputs. IsGraphOf F.File.remaining (left_by (string_bytes settings.now.plan) (R.remaining input.old))
         (option_map string_bytes settings.now.graph) (option_map (λ read. read.bytes.items) inputs.graph)) }
+    ensures kept { is_dash (string_bytes settings.now.plan) ≡ false → is_dash_or_none (option_map string_bytes settings.now.graph) ≡ false
+        → R.remaining input.new ≡ R.remaining input.old }
 {
     let plan = read_named(files, alloc, settings.plan.as_str(), input);
     let graph = read_graph_input(files, alloc, settings.graph_name(), input);
@@ -74,8 +76,9 @@ fn read_graph_input<F: Files, R: Read>(
     name: Option<&str>,
     input: &mut R,
 ) -> Result<Option<ReadInput>, InputFault>
-    ensures { IfOk result (λ graph. IsGraphOf F.File.remaining (R.remaining input.old)
+    ensures read { IfOk result (λ graph. IsGraphOf F.File.remaining (R.remaining input.old)
         (option_copied name.entry) (option_map (λ read. read.bytes.items) graph)) }
+    ensures kept { is_dash_or_none (option_copied name.entry) ≡ false → R.remaining input.new ≡ R.remaining input.old }
 {
     match name {
         Some(name) => match read_named(files, alloc, name, input) {

@@ -1,132 +1,135 @@
-//! Writes the script of a plan.
+//! Writes the script of a stream.
 
-ghost use Rattle.std.specs.Prelude.{◌≡◌, ◌≤◌, ℕ, Err, IfErr, IfOk, Ok, OnErr, OnOk, Some, take};
-ghost use Rattle.std.specs.Option.{option_copied};
-ghost use Rattle.input_graph.specs.AllWaits.{lists_in};
-ghost use Rattle.std.specs.Io.KnownBytes.{Appends, Keeps};
-ghost use Rattle.stream_record_cli.specs.Recorded.{AreWaitsIn, HasOutcome, IsPlanFault, IsPlanRead, IsRefused, IsScriptOf, IsWaitsFault, WasWritten};
+ghost use Rattle.std.specs.Prelude.{◌≡◌, ◌<◌, ◌≤◌, Err, IfErr, IfOk, IfSome, None, Some, length};
+ghost use Rattle.std.specs.Option.{ForSome, option_copied};
+ghost use Rattle.std.specs.Io.KnownBytes.{Keeps};
+ghost use Rattle.apply_plan.specs.Plan.SavedPlan.{plan_of};
+ghost use Rattle.apply_plan_terraform.specs.Outputs.{outputs_view};
+ghost use Rattle.stream_record_cli.specs.Outcomes.{HasOutcome};
+ghost use Rattle.stream_record_cli.specs.Recorded.{IsRecording, IsRefused, IsScriptOfStream, IsStreamRefused};
 ghost use Rattle.stream_record_cli.specs.declared.record_fault.RecordFault.TheVariants.{Gone};
+ghost use Rattle.stream_record_steps.specs.Steps.{planned_steps};
+ghost use Rattle.stream_record_waits.specs.Graph.{AreWaitsOf};
+ghost use Rattle.stream_record_waits.specs.Recorded.{graph_in};
 ghost use Rattle.term_words.specs.MessageTexts.{text_bytes};
 
-use crate::command::refusals::refuse;
-use crate::command::step_names::step_nodes;
+use crate::command::planning::{extras_in, plan_in};
+use crate::command::streams::stream_in;
+use crate::command::waits::graph_waits;
+use crate::command::writing::{Texts, write_outcome};
 use crate::record_fault::RecordFault;
-use apply_plan::{Plan, PlanError, read_plan};
-use input_graph::{read_graph, waits_of};
+use crate::refusal::Refusal;
+use apply_plan::Plan;
 use std::alloc::Global;
-use std::io::Write;
-use stream_record::{even_script, script_text};
-use stream_tool::{Report, WriteFault, flush, write_whole};
-use term_words::MessageText;
+use std::io::{BufRead, Write};
+use stream_record_script::{Recording, Wishes, recording_of};
+use stream_runs::RunChoice;
+use stream_tool::Report;
 
-/// Writes the script of a plan, with the waits that the graph states.
+/// How a stream is read, and its script made.
+#[derive(Clone, Copy, Debug)]
+pub struct StreamChoice {
+    /// Whether messages are sought in the lines of a log.
+    pub find: bool,
+    /// The run of the stream that is taken, if one is chosen.
+    pub run: Option<RunChoice>,
+    /// How the script is made.
+    pub wishes: Wishes,
+}
+
+/// Writes the script with which a run of the plan tells the apply of a stream again, and warns of
+/// what the script does not say.
 ///
-/// `plan` and `graph` hold whole inputs, or as many bytes as show that an input is too large.
+/// `plan` and `graph` hold whole inputs, or as many bytes as show that an input is too large. `name`
+/// is that of the stream's file, if it is one. There has to be a lane.
 ///
 /// The exit status is:
 /// - 0 if the script was written.
-/// - 2 if a run refuses the plan, if the graph is refused, or if the script would be too large.
+/// - 1 if it was written, and warnings were printed to `faults`.
+/// - 2 if a run refuses the plan, if the graph or the stream is refused, or if the script would be
+///   too large.
 /// - 3 if memory was refused, or if `out` could not be written.
 ///
 /// Nothing is written before a refusal. An error is printed to `faults`, unless the reader of `out`
 /// is gone.
-pub fn record<W: Write, E: Write>(
+pub fn record_stream<R: BufRead, W: Write, E: Write>(
     alloc: Global,
     plan: &[u8],
     graph: Option<&[u8]>,
+    choice: StreamChoice,
+    name: Option<&str>,
+    reader: &mut R,
     out: &mut W,
     faults: &mut E,
 ) -> Report<Result<(), RecordFault>>
-    ensures came { HasOutcome plan.now (option_copied graph.entry) (W.contents out.old) (W.contents out.new) result.status result.answer }
-    ensures quiet { result.status ≤ 1 → Keeps (E.contents faults.old) (E.contents faults.new) }
-    ensures success { result.answer ≡ Ok tt → Keeps (E.contents faults.old) (E.contents faults.new) }
+    requires { 0 < choice.wishes.lanes }
+    ensures came { HasOutcome (IsScriptOfStream plan.now (option_copied graph.entry) choice (R.remaining reader.old))
+        (IsRefused plan.now (option_copied graph.entry) choice (R.remaining reader.old))
+        (W.contents out.old) (W.contents out.new) result.status result.answer }
+    ensures quiet { result.status ≡ 0 → Keeps (E.contents faults.old) (E.contents faults.new) }
     ensures gone { result.answer ≡ Err Gone → Keeps (E.contents faults.old) (E.contents faults.new) }
     ensures statuses { result.status ≤ 3 }
 {
-    match write_script(alloc, plan, graph, out) {
-        Ok(()) => Report {
-            status: 0,
-            answer: Ok(()),
-        },
-        Err(fault) => Report {
-            status: refuse(faults, fault),
-            answer: Err(fault),
-        },
-    }
+    let made = texts_of(alloc, plan, graph, choice, reader);
+    write_outcome(alloc, name, made, out, faults)
 }
 
-/// Writes the script.
-///
-/// `Err` is `RecordFault::Gone` or `RecordFault::Unwritten` as in `write_whole`. Else it is as in
-/// `script_of`, and nothing was written.
-fn write_script<W: Write>(
+/// Makes the script and its warnings. `Err` has the fault that `record_stream` answers.
+fn texts_of<R: BufRead>(
     alloc: Global,
     plan: &[u8],
     graph: Option<&[u8]>,
-    out: &mut W,
-) -> Result<(), RecordFault>
-    ensures { WasWritten plan.now (option_copied graph.entry) (W.contents out.old) (W.contents out.new) result }
+    choice: StreamChoice,
+    reader: &mut R,
+) -> Result<Texts, Refusal>
+    requires { 0 < choice.wishes.lanes }
+    ensures ok { IfOk result (λ texts. IsScriptOfStream plan.now (option_copied graph.entry) choice (R.remaining reader.old)
+        (text_bytes texts.script) (text_bytes texts.warnings)) }
+    ensures err { IfErr result (λ refusal. IsRefused plan.now (option_copied graph.entry) choice (R.remaining reader.old) refusal.fault) }
 {
-    let text = script_of(alloc, plan, graph)?;
-    write_text(out, text.as_bytes())?;
-    Ok(())
-}
-
-/// Makes the script. `Err` is `RecordFault::Plan` if a run refuses the plan, `RecordFault::Graph` if
-/// the graph is refused, `RecordFault::TooLarge` if the script would be too large, and
-/// `RecordFault::Memory` if memory was refused.
-fn script_of(alloc: Global, plan: &[u8], graph: Option<&[u8]>) -> Result<MessageText, RecordFault>
-    ensures ok { IfOk result (λ text. IsScriptOf plan.now (option_copied graph.entry) (text_bytes text)) }
-    ensures err { IfErr result (IsRefused plan.now (option_copied graph.entry)) }
-{
-    let plan = plan_of(alloc, plan)?;
-    let waits = waits_in(alloc, &plan, graph)?;
-    let script = even_script(alloc, &plan, &waits)?;
-    Ok(script_text(alloc, &plan, &script, &[], &[])?)
-}
-
-/// The waits that the graph states; none without a graph. `Err` is as in `script_of`.
-fn waits_in(
-    alloc: Global,
-    plan: &Plan,
-    graph: Option<&[u8]>,
-) -> Result<Vec<Vec<usize>>, RecordFault>
-    ensures ok { IfOk result (λ waits. AreWaitsIn plan.now.changes (option_copied graph.entry) (lists_in waits.items)) }
-    ensures err { IfErr result (IsWaitsFault plan.now.changes (option_copied graph.entry)) }
-{
+    let read = match plan_in(alloc, plan) {
+        Ok(read) => read,
+        Err(fault) => return Err(Refusal::of(fault)),
+    };
     match graph {
-        Some(graph) => graph_waits(alloc, plan, graph),
-        None => Ok(Vec::new(alloc)),
+        Some(graph) => {
+            let waits = graph_waits(alloc, &read, graph)?;
+            texts_with(alloc, plan, &read, Some(&waits), choice, reader)
+        }
+        None => texts_with(alloc, plan, &read, None, choice, reader),
     }
 }
 
-/// The waits that the graph states. `Err` is as in `script_of`.
-fn graph_waits(alloc: Global, plan: &Plan, graph: &[u8]) -> Result<Vec<Vec<usize>>, RecordFault>
-    ensures ok { IfOk result (λ waits. AreWaitsIn plan.now.changes (Some graph.now) (lists_in waits.items)) }
-    ensures err { IfErr result (IsWaitsFault plan.now.changes (Some graph.now)) }
+/// Makes the script and its warnings, with these waits of a graph. `plan` is what the bytes `bytes`
+/// state. `Err` has the fault that `record_stream` answers.
+fn texts_with<R: BufRead>(
+    alloc: Global,
+    bytes: &[u8],
+    plan: &Plan,
+    waits: Option<&[Vec<usize>]>,
+    choice: StreamChoice,
+    reader: &mut R,
+) -> Result<Texts, Refusal>
+    requires lanes { 0 < choice.wishes.lanes }
+    requires waits { ForSome (graph_in waits) (λ lists. AreWaitsOf (length (planned_steps plan.now.changes)) lists) }
+    ensures ok { IfOk result (λ texts. IfSome (R.remaining reader.old) (λ stream. IsRecording bytes.now plan.now (graph_in waits.entry) choice stream
+        (text_bytes texts.script) (text_bytes texts.warnings))) }
+    ensures err { IfErr result (λ refusal. IfSome (R.remaining reader.old) (λ stream.
+        IsStreamRefused bytes.now plan.now (graph_in waits.entry) choice stream refusal.fault)) }
 {
-    let graph = read_graph(alloc, graph)?;
-    let nodes = step_nodes(alloc, plan)?;
-    Ok(waits_of(alloc, &graph, &nodes)?)
-}
-
-/// Reads the plan. `Err` is as in `script_of`.
-fn plan_of(alloc: Global, plan: &[u8]) -> Result<Plan, RecordFault>
-    ensures ok { IfOk result (IsPlanRead plan.now) }
-    ensures err { IfErr result (IsPlanFault plan.now) }
-{
-    match read_plan(alloc, plan) {
-        Ok(plan) => Ok(plan),
-        Err(PlanError::Memory) => Err(RecordFault::Memory),
-        Err(error) => Err(RecordFault::Plan(error)),
-    }
-}
-
-/// Writes the text and flushes. `Err` is as in `write_whole`.
-fn write_text<W: Write>(out: &mut W, text: &[u8]) -> Result<(), WriteFault>
-    ensures ok { OnOk result (Appends (W.contents out.old) (W.contents out.new) text.now) }
-    ensures part { OnErr result ((n : ℕ) × Appends (W.contents out.old) (W.contents out.new) (take n text.now)) }
-{
-    write_whole(out, text)?;
-    flush(out)
+    let stream = stream_in(alloc, plan, choice.find, choice.run, reader)?;
+    let extras = match extras_in(alloc, bytes) {
+        Ok(extras) => extras,
+        Err(fault) => return Err(Refusal::of(fault)),
+    };
+    let Recording { script, warnings } = recording_of(
+        alloc,
+        plan,
+        extras.note,
+        extras.outputs,
+        waits,
+        choice.wishes,
+        &stream,
+    )?;
+    Ok(Texts { script, warnings })
 }

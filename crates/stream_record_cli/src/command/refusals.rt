@@ -2,14 +2,18 @@
 
 ghost use Rattle.std.specs.Prelude.{◌≡◌, ◌⊎◌};
 ghost use Rattle.std.specs.Io.KnownBytes.{Keeps};
-ghost use Rattle.stream_record_cli.specs.Causes.{fault_status_of};
+ghost use Rattle.stream_record_cli.specs.Causes.{IsStatusOf, fault_status_of};
 ghost use Rattle.stream_record_cli.specs.declared.record_fault.RecordFault.TheVariants.{Gone};
 
 use crate::record_fault::RecordFault;
+use crate::refusal::Refusal;
 use input_files::InputFault;
 use std::alloc::Global;
 use std::io::Write;
+use stream_record_stream::StreamFault;
+use stream_runs::SeveralRuns;
 use stream_tool::{FAILED, REFUSED, refuse_file, refuse_memory, refuse_unread, report};
+use term_words::MessageText;
 
 /// Prints why the input of that name was not read. Returns the exit status: 2, or 3 where memory
 /// was refused.
@@ -23,26 +27,75 @@ pub fn refuse_input<E: Write>(alloc: Global, faults: &mut E, name: &str, fault: 
     }
 }
 
-/// Prints why the script was not written, and returns the exit status.
+/// Prints why the script was not written, and returns the exit status. `name` is that of the
+/// stream's file, if it is one.
 ///
 /// Nothing is printed if the reader of the output is gone: whoever ended that reader, as `head`
 /// ends, knows.
-pub fn refuse<E: Write>(faults: &mut E, fault: RecordFault) -> u8
-    ensures status { result ≡ fault_status_of fault }
-    ensures gone { fault ≡ Gone → Keeps (E.contents faults.old) (E.contents faults.new) }
+pub fn refuse<E: Write>(
+    alloc: Global,
+    name: Option<&str>,
+    refusal: Refusal,
+    faults: &mut E,
+) -> u8
+    ensures status { IsStatusOf refusal.entry.fault result }
+    ensures gone { refusal.entry.fault ≡ Gone → Keeps (E.contents faults.old) (E.contents faults.new) }
 {
+    let fault = refusal.fault;
     match fault {
         RecordFault::Gone => FAILED,
+        RecordFault::Stream(stream) => refuse_stream(alloc, name, stream, faults),
+        _ => {
+            match refusal.words {
+                Some(words) => say(&words, faults),
+                None => report(faults, fault),
+            }
+            status_of(fault)
+        }
+    }
+}
+
+/// The exit status for this cause.
+fn status_of(fault: RecordFault) -> u8
+    ensures { result ≡ fault_status_of fault }
+{
+    match fault {
         RecordFault::Input(_)
         | RecordFault::Plan(_)
         | RecordFault::Graph(_)
-        | RecordFault::TooLarge => {
+        | RecordFault::Stream(_)
+        | RecordFault::NoRun(_)
+        | RecordFault::TooLarge => REFUSED,
+        RecordFault::Memory | RecordFault::Gone | RecordFault::Unwritten => FAILED,
+    }
+}
+
+/// Prints why the stream is refused, and returns the exit status.
+fn refuse_stream<E: Write>(
+    alloc: Global,
+    name: Option<&str>,
+    fault: StreamFault,
+    faults: &mut E,
+) -> u8
+    ensures { IsStatusOf (RecordFault.Stream fault) result }
+{
+    match (fault, name) {
+        (StreamFault::Unread(failed), Some(name)) => refuse_unread(alloc, faults, name, failed),
+        (StreamFault::VersionAgain { runs, .. }, _) => {
+            report(faults, fault);
+            report(faults, SeveralRuns { runs });
+            REFUSED
+        }
+        _ => {
             report(faults, fault);
             REFUSED
         }
-        RecordFault::Memory | RecordFault::Unwritten => {
-            report(faults, fault);
-            FAILED
-        }
     }
+}
+
+/// Prints these words.
+fn say<E: Write>(words: &MessageText, faults: &mut E) {
+    let _ = faults.write_all(b"applystream: ");
+    let _ = faults.write_all(words.as_bytes());
+    let _ = faults.write_all(b"\n");
 }

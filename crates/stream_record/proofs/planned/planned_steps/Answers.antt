@@ -2,7 +2,7 @@ use Rattle.std.proofs.Common.{◌∙◌, ap}
 use Rattle.stream_record.proofs.EvenSteps.{planned_more}
 use Rattle.std.proofs.Common.{◌++◌}
 use Rattle.stream_record.specs.EvenScript.{steps_from}
-use Rattle.stream_record.proofs.planned_steps.planned_steps.Goals as goal
+use Rattle.stream_record.proofs.planned.planned_steps.Goals as goal
 
 pub loop-number-preserved : goal.loop-number-preserved
 loop-number-preserved c =

@@ -1,6 +1,6 @@
 use Rattle.std.proofs.Common.{◌≡◌, ◌++◌, drop}
 use Rattle.stream_record.specs.EvenScript.{steps_from}
-use Rattle.stream_record.proofs.planned_steps.push_steps.Given as goal
+use Rattle.stream_record.proofs.planned.push_steps.Given as goal
 
 abbrev pub invariant-loop-step : goal.invariant-loop-step
 invariant-loop-step l =

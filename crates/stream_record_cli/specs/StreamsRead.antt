@@ -1,0 +1,33 @@
+-- What is read of a stream, or of the run of it that is chosen.
+use Rattle.std.specs.Prelude.{◌≡◌, ◌⊎◌, ℕ, List, Bool, Option, None, Some, Ok, Err}
+use Rattle.apply_model.specs.Plan.SavedPlan.{SavedPlan}
+use Rattle.stream_record_stream.specs.Answers.{IsReadOf}
+use Rattle.stream_record_stream.specs.Streams.{StreamRead}
+use Rattle.stream_record_stream.specs.declared.stream_fault.StreamFault.{StreamFault}
+use Rattle.stream_runs.specs.Selected.{IsSelected}
+use Rattle.stream_runs.specs.declared.choice.RunChoice.{RunChoice}
+use Rattle.stream_runs.specs.declared.fault.RunFault.{RunFault}
+use Rattle.stream_runs.specs.declared.selecting.Run.{Run}
+use Rattle.stream_record_cli.specs.Causes.{of_run_fault, of_stream_fault}
+use Rattle.stream_record_cli.specs.declared.record_fault.RecordFault.{RecordFault}
+
+-- What the bytes state, or the chosen run in them.
+abbrev pub IsRead : SavedPlan → (find : Bool) → Option RunChoice → (bytes : List ℕ) → StreamRead → Type 0
+IsRead plan find None bytes stream = IsReadOf plan find 0 bytes (Ok stream)
+IsRead plan find (Some choice) bytes stream =
+    (run : Run) × IsSelected find choice bytes (Ok run) × IsReadOf plan find run.lines_before run.bytes.items (Ok stream)
+
+-- They are refused for this cause, after so many lines.
+abbrev pub IsFaulty : SavedPlan → (find : Bool) → (before : ℕ) → (bytes : List ℕ) → RecordFault → Type 0
+IsFaulty plan find before bytes why = (given : StreamFault) × IsReadOf plan find before bytes (Err given) × (why ≡ of_stream_fault given)
+
+-- The chosen run is not there, or is refused.
+pub data IsRunUnread (plan : SavedPlan) (find : Bool) (choice : RunChoice) (bytes : List ℕ) (why : RecordFault) : Type 0 where
+  unselected : (given : RunFault) → IsSelected find choice bytes (Err given) → why ≡ of_run_fault given → IsRunUnread plan find choice bytes why
+  faulty : (run : Run) → IsSelected find choice bytes (Ok run) → IsFaulty plan find run.lines_before run.bytes.items why
+      → IsRunUnread plan find choice bytes why
+
+-- Why nothing is read.
+abbrev pub IsUnread : SavedPlan → (find : Bool) → Option RunChoice → (bytes : List ℕ) → RecordFault → Type 0
+IsUnread plan find None bytes why = IsFaulty plan find 0 bytes why
+IsUnread plan find (Some choice) bytes why = IsRunUnread plan find choice bytes why
