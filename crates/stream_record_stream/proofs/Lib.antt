@@ -1,1 +1,2 @@
 pub mod FromReader
+pub mod PlanKept

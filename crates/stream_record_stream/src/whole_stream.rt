@@ -1,7 +1,8 @@
 //! Reads a whole stream.
 
-ghost use Rattle.std.specs.Prelude.{◌≡◌, ℕ, List, Err, IfErr, IfSome, OnOk, Some};
+ghost use Rattle.std.specs.Prelude.{◌≡◌, ℕ, List, Err, IfErr, IfOk, IfSome, OnOk, Some};
 ghost use Rattle.stream_lines.specs.Cut.{cut_lines};
+ghost use Rattle.stream_record_steps.specs.Steps.{planned_steps};
 ghost use Rattle.stream_record_stream.specs.Answers.{IsFault, IsReadOf};
 ghost use Rattle.stream_record_stream.specs.Reading.{at_end, nothing_known, read_of, version_again};
 
@@ -39,7 +40,8 @@ pub fn read_apply<'p, R: BufRead>(
     lines_before: u64,
     reader: &mut R,
 ) -> Result<ApplyStream<'p>, StreamFault>
-    ensures { IfSome (R.remaining reader.old) (λ bytes. IsReadOf plan.now find lines_before bytes result) }
+    ensures read { IfSome (R.remaining reader.old) (λ bytes. IsReadOf plan.now find lines_before bytes result) }
+    ensures planned { IfOk result (λ stream. stream.begun.planned ≡ planned_steps plan.now.changes) }
 {
     let mut so_far = SoFar::new(alloc, plan)?;
     let mut line = Vec::new(alloc);
@@ -69,6 +71,7 @@ fn take_lines<'p, R: BufRead>(
     so_far: &mut SoFar<'p>,
 ) -> Result<(), StreamFault>
     requires { so_far.old ≡ nothing_known plan.now }
+    ensures planned { OnOk result (so_far.new.stream.begun.planned ≡ planned_steps plan.now.changes) }
     ensures read { OnOk result (IfSome (R.remaining reader.old) (λ bytes. read_of plan.now find lines_before (cut_lines bytes) ≡ at_end find so_far.new)) }
     ensures fault { IfErr result (λ fault. IfSome (R.remaining reader.old) (λ bytes. IsReadOf plan.now find lines_before bytes (Err fault))) }
 {

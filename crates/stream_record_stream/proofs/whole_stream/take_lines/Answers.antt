@@ -1,13 +1,14 @@
-use Rattle.std.proofs.Common.{◌≡◌, ◌+◌, Err, List, Ok, ℕ, arith, subst}
+use Rattle.std.proofs.Common.{◌≡◌, ◌+◌, Err, List, Ok, ℕ, arith, refl, subst}
 use Rattle.std.specs.Prelude.{IfSome}
 use Rattle.stream_lines.specs.Reading.{Gives}
 use Rattle.stream_lines.specs.declared.line.LineEnd.{LineEnd}
 use Rattle.stream_record_stream.specs.Reading.{with_line}
 use Rattle.stream_record_stream.proofs.FromReader.{leads_again, leads_on, leads_out, leads_too_far, leads_too_long, starts}
+use Rattle.stream_record_stream.proofs.PlanKept.{line_keeps}
 use Rattle.stream_record_stream.proofs.whole_stream.take_lines.Goals as goal
 
 pub lines-init : goal.lines-init
-lines-init g c = record { known = starts c.args.plan.now c.args.find c.args.lines_before (g.R.Read.remaining c.args.reader.now) c.args.so_far.now c.requires }
+lines-init g c = record { known = starts c.args.plan.now c.args.find c.args.lines_before (g.R.Read.remaining c.args.reader.now) c.args.so_far.now c.requires; planned = rw c.requires refl }
 
 pub returns-in-End-clause-read : goal.returns-in-End-clause-read
 returns-in-End-clause-read g c =
@@ -35,6 +36,7 @@ lines-preserved g c =
     subst (λ (text : List ℕ). with_line c.args.plan.now c.args.find (c.lines.before + 1) text c.lines.so_far ≡ Ok c.line.new.self) c.deref.ensures.value c.in-Ok.ensures in
     record {
       known = leads_on c.args.plan.now c.args.find c.args.lines_before (g.R.Read.remaining c.args.reader.now) left rest c.lines.before c.lines.so_far c.line.new.self c.next_line.new.line.items c.in-Line.has_feed c.lines.invariant.known gives more;
+      planned = line_keeps c.args.plan.now c.args.find (c.lines.before + 1) c.next_line.new.line.items c.lines.so_far c.line.new.self c.lines.invariant.planned more;
     }
 
 pub returns-in-Err-VersionAgain-clause-fault : goal.returns-in-Err-VersionAgain-clause-fault
