@@ -1,3 +1,3 @@
 pub mod CommandLine
-pub mod Outcomes
+pub mod Lanes
 pub mod StepNames

@@ -1,14 +1,12 @@
 -- The arguments of `record`: the options as `clap` takes them, and the setting that each option
 -- gives.
-use Rattle.std.specs.Prelude.{◌≡◌, ◌≤◌, ◌&&◌, ◌||◌, ℕ, List, [], ◌∷◌, Bool, None, Some, IfSome, Option, false, find, not, true, codes, option_and_then, option_map, pos, string_bytes, unwrap_or}
+use Rattle.std.specs.Prelude.{◌≡◌, ◌≤◌, ◌&&◌, ◌||◌, ℕ, List, [], ◌∷◌, Bool, None, Some, IfSome, false, is_some, not, true, codes, option_map, pos, string_bytes, unwrap_or}
 use Rattle.std.specs.Option.{option_map_or}
 use Rattle.std.specs.Str.{bytes_eq}
 use Rattle.std.specs.Str.Parse.{IsNumeral, digits_value, without_leading_plus}
 use Rattle.clap.specs.Simple.{App, new_rule, new_shape}
 use Rattle.clap.specs.Walk.{Row, Rule, Text, first_of, one_of}
 use Rattle.clap.specs.declared.builder.value_parser.ValueParser.TheVariants as values
-use Rattle.clap.specs.declared.parser.matches.ValueSource.{ValueSource}
-use Rattle.clap.specs.declared.parser.matches.ValueSource.TheVariants as source
 use Rattle.stream_runs.specs.Arguments.{is_run_wrong, run_rule, stated_run}
 use Rattle.stream_tool.specs.Arguments.{Arguments}
 use Rattle.stream_tool.specs.Words.{file_rule, flag_rule, unless_dash}
@@ -45,32 +43,32 @@ command_line = record {
 
 -- ---- options that exclude each other
 
--- The value comes from the arguments, and is not a default.
-abbrev pub is_of_words : Option ValueSource → Bool
-is_of_words (Some source.CommandLine) = true
-is_of_words (Some source.DefaultValue) = false
-is_of_words None = false
+-- The option has a value, and has that value.
+abbrev pub is_named : (option : Text) → List Row → Bool
+is_named option rows = is_some (first_of option rows)
 
--- The option was given.
-abbrev pub is_given : (name : Text) → List Row → Bool
-is_given name rows = is_of_words (option_and_then (λ r. r.source) (find (λ r. bytes_eq r.id name) rows))
+abbrev pub has_value : (option value : Text) → List Row → Bool
+has_value option value rows = option_map_or (λ given. bytes_eq given value) (first_of option rows) false
+
+-- The flag is set; the option names standard input.
+abbrev pub is_set : (option : Text) → List Row → Bool
+is_set option rows = has_value option (codes "true") rows
+
+abbrev pub is_standard : (option : Text) → List Row → Bool
+is_standard option rows = has_value option (codes "-") rows
 
 -- `--begins` without a graph; or `--only-plan` with an option that is about a stream, or with a file.
 abbrev pub are_exclusive : List Row → Bool
 are_exclusive rows =
-    (is_given (codes "begins") rows && not (is_given (codes "graph") rows))
-    || (is_given (codes "only-plan") rows
-    && (is_given (codes "begins") rows
-    || (is_given (codes "find") rows || (is_given (codes "run") rows || is_given (codes "file") rows))))
-
--- The option names standard input.
-abbrev pub is_standard : (option : Text) → List Row → Bool
-is_standard option rows = option_map_or (λ name. bytes_eq name (codes "-")) (first_of option rows) false
+    (is_set (codes "begins") rows && not (is_named (codes "graph") rows))
+    || (is_set (codes "only-plan") rows
+    && (is_set (codes "begins") rows
+    || (is_set (codes "find") rows || (is_named (codes "run") rows || is_named (codes "file") rows))))
 
 -- The stream is read from standard input.
 abbrev pub is_stream_standard : List Row → Bool
 is_stream_standard rows =
-    not (is_given (codes "only-plan") rows) && (not (is_given (codes "file") rows) || is_standard (codes "file") rows)
+    not (is_set (codes "only-plan") rows) && (not (is_named (codes "file") rows) || is_standard (codes "file") rows)
 
 -- Two of the plan, the graph and the stream are standard input.
 abbrev pub share_standard_input : List Row → Bool

@@ -1,13 +1,12 @@
 //! Options of `record` that exclude each other.
 
-ghost use Rattle.std.specs.Prelude.{◌≡◌};
+ghost use Rattle.std.specs.Prelude.{◌≡◌, codes};
 ghost use Rattle.clap.specs.Matches.{found_of};
 ghost use Rattle.clap.specs.Walk.{rows_of};
-ghost use Rattle.stream_record_cli.specs.CommandLine.{are_conflicting, are_exclusive, is_given, is_standard, is_stream_standard, share_standard_input};
+ghost use Rattle.stream_record_cli.specs.CommandLine.{are_conflicting, are_exclusive, has_value, is_named, is_stream_standard, share_standard_input};
 ghost use Rattle.stream_tool.specs.Refused.{IsConflict, IsRefusal};
 
 use crate::command::arguments::{begins, command_of, only_plan};
-use clap::parser::ValueSource;
 use clap::{ArgMatches, Command};
 use std::alloc::{AllocError, Global};
 use stream_runs::run_refusal;
@@ -71,12 +70,12 @@ fn shared(alloc: Global) -> Usage
 fn are_exclusive(matches: &ArgMatches<'_>) -> bool
     ensures { result ≡ are_exclusive (rows_of (found_of matches.now)) }
 {
-    stands(matches, "begins") && !stands(matches, "graph")
-        || stands(matches, "only-plan")
-            && (stands(matches, "begins")
-                || stands(matches, "find")
-                || stands(matches, "run")
-                || stands(matches, "file"))
+    is_set(matches, "begins") && !is_named(matches, "graph")
+        || is_set(matches, "only-plan")
+            && (is_set(matches, "begins")
+                || is_set(matches, "find")
+                || is_named(matches, "run")
+                || is_named(matches, "file"))
 }
 
 /// Whether two inputs are standard input.
@@ -92,26 +91,37 @@ fn share_standard_input(matches: &ArgMatches<'_>) -> bool
 fn is_stream_standard(matches: &ArgMatches<'_>) -> bool
     ensures { result ≡ is_stream_standard (rows_of (found_of matches.now)) }
 {
-    !stands(matches, "only-plan") && (!stands(matches, "file") || is_standard(matches, "file"))
+    !is_set(matches, "only-plan")
+        && (!is_named(matches, "file") || is_standard(matches, "file"))
+}
+
+/// Whether the option has a value.
+fn is_named(matches: &ArgMatches<'_>, option: &str) -> bool
+    ensures { result ≡ is_named option.now (rows_of (found_of matches.now)) }
+{
+    matches.get_str(option).is_some()
+}
+
+/// Whether a flag is set.
+fn is_set(matches: &ArgMatches<'_>, option: &str) -> bool
+    ensures { result ≡ has_value option.now (codes "true") (rows_of (found_of matches.now)) }
+{
+    has_value(matches, option, "true")
 }
 
 /// Whether an option names standard input.
 fn is_standard(matches: &ArgMatches<'_>, option: &str) -> bool
-    ensures { result ≡ is_standard option.now (rows_of (found_of matches.now)) }
+    ensures { result ≡ has_value option.now (codes "-") (rows_of (found_of matches.now)) }
 {
-    match matches.get_str(option) {
-        Some(name) => name == "-",
-        None => false,
-    }
+    has_value(matches, option, "-")
 }
 
-/// Whether the option was given on the command line.
-fn stands(matches: &ArgMatches<'_>, option: &str) -> bool
-    ensures { result ≡ is_given option.now (rows_of (found_of matches.now)) }
+/// Whether the option has that value.
+fn has_value(matches: &ArgMatches<'_>, option: &str, value: &str) -> bool
+    ensures { result ≡ has_value option.now value.now (rows_of (found_of matches.now)) }
 {
-    match matches.value_source(option) {
-        Some(ValueSource::CommandLine) => true,
-        Some(ValueSource::DefaultValue) => false,
+    match matches.get_str(option) {
+        Some(given) => given == value,
         None => false,
     }
 }

@@ -1,6 +1,6 @@
 -- A flush that fails leaves the whole text written.
 use Rattle.stream_record_cli.proofs.Outcomes.{flushed}
-use Rattle.stream_record_cli.proofs.command.recording.write_text.Goals as goal
+use Rattle.stream_record_cli.proofs.command.writing.write_text.Goals as goal
 
 pub returns-clause-part : goal.returns-clause-part
 returns-clause-part g c =
