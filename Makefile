@@ -21,7 +21,7 @@ files = $(shell find crates/$(1)/src crates/$(1)/specs crates/$(1)/proofs -type 
 CRATES := $(call needs,applystream)
 # What the longest chain of crates does not wait for is proved next to it, and what only tools are made of steps back.
 BESIDE := apply_json apply_json_tree apply_resolve apply_bus apply_cli_args apply_writer term_text term_words stream_lines stream_tool
-ASIDE := stream_message stream_runs stream_check stream_play stream_view stream_watch stream_timeline stream_record stream_record_lines stream_record_steps stream_record_stream stream_record_outcomes stream_record_waits stream_record_warnings stream_record_script stream_record_cli input_files input_graph input_validate input_validate_cli
+ASIDE := stream_check stream_play stream_view stream_watch stream_timeline input_validate input_validate_cli
 above = $(foreach it,$(CRATES),$(if $(filter $(1),$(call needs,$(it))),$(it)))
 left = $$(for crate in $(CRATES); do [ -e $(LIBS)/$$crate.stamp ] || echo $$crate; done)
 # A prover ends with the make that started it.

@@ -1,5 +1,5 @@
 -- The steps of the plan stay the same while a stream is read.
-use Rattle.std.proofs.Common.{◌≡◌, ◌∙◌, ℕ, ℤ, Bool, List, Option, Some, None, Ok, Err, ap, refl, subst, sym}
+use Rattle.std.proofs.Common.{◌≡◌, ◌∙◌, ℕ, ℤ, Bool, List, Option, Some, None, Ok, Err, refl, subst}
 use Rattle.std.specs.Prelude.{Result}
 use Rattle.std.specs.Option.{option_map_or}
 use Rattle.apply_model.specs.declared.plan.step_kind.StepKind.{StepKind}
@@ -17,13 +17,12 @@ use Rattle.stream_record_lines.specs.declared.summary.Summary.TheVariants as sum
 use Rattle.stream_record_steps.specs.declared.begun_step.StepEnd.{StepEnd}
 use Rattle.stream_record_steps.specs.declared.step_facts.StepFact.{StepFact}
 use Rattle.stream_record_steps.specs.Begun.{Begun}
-use Rattle.stream_record_steps.specs.Starts.{after_start, after_start_of, taken_place}
-use Rattle.stream_record_steps.specs.Steps.{planned_steps, steps_at}
+use Rattle.stream_record_steps.specs.Starts.{after_start_of}
+use Rattle.stream_record_steps.specs.Steps.{planned_steps}
 use Rattle.stream_record_steps.specs.Taken.{after_stage}
-use Rattle.stream_record_steps.specs.UnderWay.{after_end, after_fact, timed_place}
-use Rattle.stream_record_stream.specs.Reading.{Known, at_end, is_of_another_plan, repeated, with_line, with_mark, with_message, with_stated}
+use Rattle.stream_record_steps.specs.UnderWay.{after_end, after_fact}
+use Rattle.stream_record_stream.specs.Reading.{Known, repeated, with_line, with_mark, with_message, with_stated}
 use Rattle.stream_record_stream.specs.Streams.{StreamRead, with_event, with_second, with_summary}
-use Rattle.stream_record_stream.specs.declared.stream_fault.StreamFault.{StreamFault}
 
 -- they are those of the plan
 abbrev pub IsOfPlan : SavedPlan → StreamRead → Type 0
@@ -65,20 +64,20 @@ event_keeps plan line (event.Outputs outputs) stream is = is
 event_keeps plan line event.Malformed stream is = is
 event_keeps plan line event.Other stream is = is
 
-read : {A E : Type 0} (a b : A) → Ok {E = E} a ≡ Ok b → a ≡ b
-read a b same = cc
+read : {A E : Type 0} (made : Result A E) (a b : A) → made ≡ Ok a → made ≡ Ok b → a ≡ b
+read made a b one other = cc
 
 message_keeps : (plan : SavedPlan) (number : ℕ) (message : StatedMessage) (known new : Known) (again : Option ℕ) → IsOfPlan plan known.stream
     → option_map_or Err again (Ok (with_message plan number message known)) ≡ Ok new → IsOfPlan plan new.stream
 message_keeps plan number message known new None is same =
-    subst (λ (k : Known). IsOfPlan plan k.stream) (read (with_message plan number message known) new same)
+    subst (λ (k : Known). IsOfPlan plan k.stream) (read _ (with_message plan number message known) new refl same)
     (event_keeps plan number message.event (with_second message.second known.stream) is)
 message_keeps plan number message known new (Some first) is same = cc
 
 stated_keeps : (plan : SavedPlan) (number : ℕ) (line : StatedLine) (known new : Known) → IsOfPlan plan known.stream → with_stated plan number line known ≡ Ok new
     → IsOfPlan plan new.stream
-stated_keeps plan number Foreign known new is same = subst (λ (k : Known). IsOfPlan plan k.stream) (read known new same) is
-stated_keeps plan number NoMessage known new is same = subst (λ (k : Known). IsOfPlan plan k.stream) (read _ new same) is
+stated_keeps plan number Foreign known new is same = subst (λ (k : Known). IsOfPlan plan k.stream) (read _ known new refl same) is
+stated_keeps plan number NoMessage known new is same = subst (λ (k : Known). IsOfPlan plan k.stream) (read _ _ new refl same) is
 stated_keeps plan number (Message message) known new is same = message_keeps plan number message known new (repeated message known) is same
 
 -- a line more
