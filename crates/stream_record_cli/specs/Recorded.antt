@@ -56,6 +56,18 @@ IsStreamRefused bytes plan waits choice stream fault.Memory = ⊤
 IsStreamRefused bytes plan waits choice stream fault.Gone = ⊥
 IsStreamRefused bytes plan waits choice stream fault.Unwritten = ⊥
 
+-- For such causes a stream gives no script.
+abbrev pub IsOfStream : RecordFault → Type 0
+IsOfStream (fault.Input why) = ⊥
+IsOfStream (fault.Plan why) = ⊥
+IsOfStream (fault.Graph why) = ⊤
+IsOfStream (fault.Stream why) = ⊤
+IsOfStream (fault.NoRun missing) = ⊤
+IsOfStream fault.TooLarge = ⊤
+IsOfStream fault.Memory = ⊤
+IsOfStream fault.Gone = ⊥
+IsOfStream fault.Unwritten = ⊥
+
 -- ---- by the bytes of all
 
 -- The script and the warnings of these bytes.

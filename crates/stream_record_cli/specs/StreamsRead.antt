@@ -1,5 +1,5 @@
 -- What is read of a stream, or of the run of it that is chosen.
-use Rattle.std.specs.Prelude.{◌≡◌, ◌⊎◌, ℕ, List, Bool, Option, None, Some, Ok, Err}
+use Rattle.std.specs.Prelude.{◌≡◌, ⊤, ℕ, List, Bool, Option, None, Some, Ok, Err}
 use Rattle.apply_model.specs.Plan.SavedPlan.{SavedPlan}
 use Rattle.stream_record_stream.specs.Answers.{IsReadOf}
 use Rattle.stream_record_stream.specs.Streams.{StreamRead}
@@ -10,6 +10,7 @@ use Rattle.stream_runs.specs.declared.fault.RunFault.{RunFault}
 use Rattle.stream_runs.specs.declared.selecting.Run.{Run}
 use Rattle.stream_record_cli.specs.Causes.{of_run_fault, of_stream_fault}
 use Rattle.stream_record_cli.specs.declared.record_fault.RecordFault.{RecordFault}
+use Rattle.stream_record_cli.specs.declared.record_fault.RecordFault.TheVariants as fault
 
 -- What the bytes state, or the chosen run in them.
 abbrev pub IsRead : SavedPlan → (find : Bool) → Option RunChoice → (bytes : List ℕ) → StreamRead → Type 0
@@ -31,3 +32,15 @@ pub data IsRunUnread (plan : SavedPlan) (find : Bool) (choice : RunChoice) (byte
 abbrev pub IsUnread : SavedPlan → (find : Bool) → Option RunChoice → (bytes : List ℕ) → RecordFault → Type 0
 IsUnread plan find None bytes why = IsFaulty plan find 0 bytes why
 IsUnread plan find (Some choice) bytes why = IsRunUnread plan find choice bytes why
+
+-- For such causes nothing is read of a stream.
+abbrev pub IsReadCause : RecordFault → Type 0
+IsReadCause (fault.Input why) = ⊥
+IsReadCause (fault.Plan why) = ⊥
+IsReadCause (fault.Graph why) = ⊥
+IsReadCause (fault.Stream why) = ⊤
+IsReadCause (fault.NoRun missing) = ⊤
+IsReadCause fault.TooLarge = ⊥
+IsReadCause fault.Memory = ⊤
+IsReadCause fault.Gone = ⊥
+IsReadCause fault.Unwritten = ⊥

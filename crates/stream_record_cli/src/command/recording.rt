@@ -6,7 +6,7 @@ ghost use Rattle.std.specs.Io.KnownBytes.{Keeps};
 ghost use Rattle.apply_plan.specs.Plan.SavedPlan.{plan_of};
 ghost use Rattle.apply_plan_terraform.specs.Outputs.{outputs_view};
 ghost use Rattle.stream_record_cli.specs.Outcomes.{HasOutcome};
-ghost use Rattle.stream_record_cli.specs.Recorded.{IsRecording, IsRefused, IsScriptOfStream, IsStreamRefused};
+ghost use Rattle.stream_record_cli.specs.Recorded.{IsOfStream, IsRecording, IsRefused, IsScriptOfStream, IsStreamRefused};
 ghost use Rattle.stream_record_cli.specs.declared.record_fault.RecordFault.TheVariants.{Gone};
 ghost use Rattle.stream_record_steps.specs.Steps.{planned_steps};
 ghost use Rattle.stream_record_waits.specs.Graph.{AreWaitsOf};
@@ -116,6 +116,7 @@ fn texts_with<R: BufRead>(
         (text_bytes texts.script) (text_bytes texts.warnings))) }
     ensures err { IfErr result (λ refusal. IfSome (R.remaining reader.old) (λ stream.
         IsStreamRefused bytes.now plan.now (graph_in waits.entry) choice stream refusal.fault)) }
+    ensures causes { IfErr result (λ refusal. IsOfStream refusal.fault) }
 {
     let stream = stream_in(alloc, plan, choice.find, choice.run, reader)?;
     let extras = match extras_in(alloc, bytes) {

@@ -1,7 +1,7 @@
 //! Reads the stream, or the run of it that is chosen.
 
 ghost use Rattle.std.specs.Prelude.{◌≡◌, IfErr, IfOk, IfSome, None};
-ghost use Rattle.stream_record_cli.specs.StreamsRead.{IsRead, IsUnread};
+ghost use Rattle.stream_record_cli.specs.StreamsRead.{IsRead, IsReadCause, IsUnread};
 ghost use Rattle.stream_record_steps.specs.Steps.{planned_steps};
 ghost use Rattle.stream_record_stream.specs.Answers.{IsReadOf};
 
@@ -26,6 +26,7 @@ pub fn stream_in<'p, R: BufRead>(
     ensures ok { IfOk result (λ stream. IfSome (R.remaining reader.old) (λ bytes. IsRead plan.now find run bytes stream)) }
     ensures planned { IfOk result (λ stream. stream.begun.planned ≡ planned_steps plan.now.changes) }
     ensures err { IfErr result (λ refusal. IfSome (R.remaining reader.old) (λ bytes. IsUnread plan.now find run bytes refusal.fault)) }
+    ensures causes { IfErr result (λ refusal. IsReadCause refusal.fault) }
 {
     match run {
         None => Ok(read_apply(alloc, plan, find, 0, reader)?),
