@@ -87,7 +87,7 @@ impl Tool for Record {
         out: &mut W,
         faults: &mut E,
     ) -> Report<Result<(), RecordFault>> {
-        let report = record(files, alloc, settings, reader, out, faults);
+        let report = record_inputs(files, alloc, settings, reader, out, faults);
         // Who writes the stream is never stopped.
         let is_awaited =
             report.answer.is_err() && settings.reads_stream_from_input() && !self.is_terminal;
@@ -97,7 +97,7 @@ impl Tool for Record {
 }
 
 /// Reads the plan, the graph and the stream, and writes the script.
-fn record<F: Files, R: Read, W: Write, E: Write>(
+fn record_inputs<F: Files, R: Read, W: Write, E: Write>(
     files: &F,
     alloc: Global,
     settings: &Settings,
