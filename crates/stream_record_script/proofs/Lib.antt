@@ -1,0 +1,2 @@
+mod ChangeSteps
+mod NamedOutputs

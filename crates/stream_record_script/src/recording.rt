@@ -62,9 +62,9 @@ pub fn recording_of(
     requires planned { stream.now.begun.planned ≡ planned_steps plan.now.changes }
     requires lanes { 0 < wishes.lanes }
     requires graph { ForSome (graph_in graph) (λ lists. AreWaitsOf (length stream.now.begun.planned) lists) }
-    ensures ok { IfOk result (λ made. IsRecorded (record { plan = plan.now; note = note; outputs = outputs_view outputs.entry })
+    ensures ok { IfOk result (λ made. IsRecorded (record { plan = plan.now; note = note; outputs = outputs_view outputs })
         (graph_in graph.entry) wishes stream.now (Ok (text_bytes made.script)) (text_bytes made.warnings)) }
-    ensures err { IfErr result (IsNotRecorded (record { plan = plan.now; note = note; outputs = outputs_view outputs.entry })
+    ensures err { IfErr result (IsNotRecorded (record { plan = plan.now; note = note; outputs = outputs_view outputs })
         (graph_in graph.entry) wishes stream.now) }
 {
     let circumstances = circumstances_of(note, stream);
