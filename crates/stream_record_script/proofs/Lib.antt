@@ -1,2 +1,5 @@
 mod ChangeSteps
+mod LeftOutputs
 mod NamedOutputs
+mod Pieces
+mod RunTimes
