@@ -1,5 +1,5 @@
 -- How many steps a plan has.
-use Rattle.std.proofs.Common.{◌≡◌, ◌∙◌, ◌+◌, ◌≤◌, ℕ, [], ◌∷◌, ◌++◌, List, Some, add-zero, add_assoc, ap, drop, length, length-append, refl, sym}
+use Rattle.std.proofs.Common.{◌≡◌, ◌∙◌, ◌+◌, ◌≤◌, ℕ, [], ◌∷◌, List, Some, add-zero, add_assoc, ap, drop, length, length-append, refl, sym}
 use Rattle.std.specs.Prelude.{slice_get, suc}
 use Rattle.std.proofs.lemmas.List.{drop_all}
 use Rattle.apply_model.specs.declared.plan.step_kind.StepKind.{StepKind}

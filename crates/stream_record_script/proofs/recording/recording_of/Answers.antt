@@ -1,11 +1,25 @@
-use Rattle.std.proofs.Common.{◌≡◌, ◌∙◌, List, Option, ap, arith, length, subst, sym, ℕ}
+use Rattle.std.proofs.Common.{◌≡◌, ◌∙◌, ◌++◌, Bor, Global, List, Option, Vec, ap, arith, length, map, subst, sym, ℕ}
+use Rattle.std.specs.Prelude.{Ok}
+use Rattle.std.specs.List.{filter_map, flat_map}
 use Rattle.std.specs.Option.{ForSome}
+use Rattle.std.proofs.lemmas.Result.{err_from_is_err_and}
+use Rattle.apply_model.specs.declared.details.output as model
+use Rattle.apply_plan_terraform.specs.Outputs.{outputs_view}
+use Rattle.stream_record.specs.ScriptText.{script_within}
+use Rattle.stream_record_lines.specs.declared.outputs.output.Output.{Output}
 use Rattle.stream_record_outcomes.specs.declared.recorded_step.RecordedStep.{RecordedStep}
 use Rattle.stream_record_outcomes.specs.Recording.{AreAllowed}
 use Rattle.stream_record_stream.specs.Streams.{StreamRead}
 use Rattle.stream_record_waits.specs.Graph.{AreWaitsOf}
 use Rattle.stream_record_waits.specs.Recorded.{graph_in}
-use Rattle.stream_record_script.proofs.Recorded.{as_many}
+use Rattle.stream_record_waits.specs.Steps.{lists_in}
+use Rattle.stream_record_warnings.specs.StepWarnings.{step_warnings}
+use Rattle.stream_record_warnings.specs.StreamWarnings.{stream_warnings}
+use Rattle.term_words.specs.MessageTexts.{text_bytes}
+use Rattle.stream_record_script.specs.Outputs.{known_outputs, output_warning, outputs_told, unknown_outputs, unless_told}
+use Rattle.stream_record_script.specs.Recordings.{PlanRead}
+use Rattle.stream_record_script.specs.Steps.{script_of}
+use Rattle.stream_record_script.proofs.Recorded.{as_many, known, made, unmade, unwaited}
 use Rattle.stream_record_script.proofs.recording.recording_of.Goals as goal
 
 pub steps_of_plan-requires : goal.steps_of_plan-requires
@@ -34,4 +48,113 @@ recorded_waits-requires-clause-graph c =
     subst (λ (n : ℕ). ForSome (graph_in c.args.graph) (λ lists. AreWaitsOf n lists)) count c.requires.graph
 
 pub returns-in_err-waits-clause-err : goal.returns-in_err-waits-clause-err
-returns-in_err-waits-clause-err c = let h = c.in_ok-recorded in let v = c.from_residual-in_err-waits in let w = c.in_err-waits in ?
+returns-in_err-waits-clause-err c =
+    let stream = c.args.stream.now in
+    let read : PlanRead = record { plan = c.args.plan.now; note = c.args.note; outputs = outputs_view c.args.outputs } in
+    let graph = graph_in c.args.graph in
+    let wishes = c.args.wishes in
+    let recorded = c.deref-2.result.now in
+    let loose = c.deref-3.result.now in
+    let steps = c.deref-4.result.now in
+    let choices = c.choices_of-choices.result in
+    let recorded_is : recorded ≡ c.in_ok-recorded.field-0.steps.items = cc in
+    let loose_is : loose ≡ c.in_ok-recorded.field-0.loose.items = cc in
+    let are = known read wishes stream c.stream.inside.begun (ap (λ (own : StreamRead). own.begun) c.stream.view_is)
+    c.deref.result.now (c.deref.ensures.value ∙ ap (λ (own : StreamRead). own.notes) c.stream.view_is)
+    c.circumstances_of-circumstances.result c.circumstances_of-circumstances.ensures
+    recorded (recorded_is ∙ c.in_ok-recorded.ensures.steps) loose (loose_is ∙ c.in_ok-recorded.ensures.loose)
+    steps (c.deref-4.ensures.value ∙ c.in_ok-steps.ensures) choices c.choices_of-choices.ensures in
+    let p = err_from_is_err_and c.from_residual-in_err-waits.result c.from_residual-in_err-waits.ensures.1 in
+    rw (p.1, p.2) (unwaited read graph wishes stream recorded loose steps choices are _ c.in_err-waits.ensures.err)
+
+pub returns-in_err-script-2-clause-err : goal.returns-in_err-script-2-clause-err
+returns-in_err-script-2-clause-err c =
+    let stream = c.args.stream.now in
+    let read : PlanRead = record { plan = c.args.plan.now; note = c.args.note; outputs = outputs_view c.args.outputs } in
+    let graph = graph_in c.args.graph in
+    let wishes = c.args.wishes in
+    let recorded = c.deref-2.result.now in
+    let loose = c.deref-3.result.now in
+    let steps = c.deref-4.result.now in
+    let choices = c.choices_of-choices.result in
+    let recorded_is : recorded ≡ c.in_ok-recorded.field-0.steps.items = cc in
+    let loose_is : loose ≡ c.in_ok-recorded.field-0.loose.items = cc in
+    let are = known read wishes stream c.stream.inside.begun (ap (λ (own : StreamRead). own.begun) c.stream.view_is)
+    c.deref.result.now (c.deref.ensures.value ∙ ap (λ (own : StreamRead). own.notes) c.stream.view_is)
+    c.circumstances_of-circumstances.result c.circumstances_of-circumstances.ensures
+    recorded (recorded_is ∙ c.in_ok-recorded.ensures.steps) loose (loose_is ∙ c.in_ok-recorded.ensures.loose)
+    steps (c.deref-4.ensures.value ∙ c.in_ok-steps.ensures) choices c.choices_of-choices.ensures in
+    let after = lists_in c.in_ok-waits.waits.after.items in
+    let early = lists_in c.in_ok-waits.waits.early.items in
+    let changes = c.args.plan.now.changes in
+    let states = c.deref-10.result.now in
+    let told = outputs_told read.outputs in
+    let found = c.in_ok-waits.ensures in
+    let script_is =
+    c.deref-12.ensures.value ∙ c.in_ok-script.ensures
+    ∙ ap (λ (own : List (Option RecordedStep)). script_of changes own states (lists_in c.deref-11.result.now)) (sym c.deref-2.ensures.value)
+    ∙ ap (λ (lists : List (Vec ℕ Global)). script_of changes recorded states (lists_in lists)) c.deref-11.ensures.value in
+    let outputs_are =
+    c.deref-13.ensures.value ∙ c.in_ok-outputs.ensures
+    ∙ ap (λ (own : List model.Output.Output). filter_map (unless_told own) (map (λ (output : Bor Output). output.now) c.deref-9.result.now)) (c.deref-8.ensures.value ∙ c.in_ok-told.ensures)
+    ∙ ap (λ (own : List (Bor Output)). filter_map (unless_told told) (map (λ (output : Bor Output). output.now) own)) c.deref-9.ensures.value
+    ∙ ap (filter_map (unless_told told)) c.in_ok-split.ensures.known
+    ∙ ap (λ (own : List Output). filter_map (unless_told told) (known_outputs read.outputs own)) (c.as_slice.ensures ∙ ap (λ (own : StreamRead). own.outputs) c.stream.view_is) in
+    let warnings_are =
+    c.in_ok-warnings.ensures
+    ∙ ap (λ (own : List (Option RecordedStep)). stream_warnings wishes.lanes stream ++ step_warnings stream.begun own (lists_in c.deref-6.result.now) ++ flat_map output_warning (map (λ (output : Bor Output). output.now) c.deref-7.result.now)) (c.deref-5.ensures.value ∙ sym c.deref-2.ensures.value)
+    ∙ ap (λ (lists : List (Vec ℕ Global)). stream_warnings wishes.lanes stream ++ step_warnings stream.begun recorded (lists_in lists) ++ flat_map output_warning (map (λ (output : Bor Output). output.now) c.deref-7.result.now)) c.deref-6.ensures.value
+    ∙ ap (λ (own : List (Bor Output)). stream_warnings wishes.lanes stream ++ step_warnings stream.begun recorded early ++ flat_map output_warning (map (λ (output : Bor Output). output.now) own)) c.deref-7.ensures.value
+    ∙ ap (λ (own : List Output). stream_warnings wishes.lanes stream ++ step_warnings stream.begun recorded early ++ flat_map output_warning own) c.in_ok-split.ensures.unknown
+    ∙ ap (λ (own : List Output). stream_warnings wishes.lanes stream ++ step_warnings stream.begun recorded early ++ flat_map output_warning (unknown_outputs read.outputs own)) (c.as_slice.ensures ∙ ap (λ (own : StreamRead). own.outputs) c.stream.view_is) in
+    let same_loose = ap (script_within changes c.deref-12.result.now c.deref-13.result.now) (c.deref-3.ensures.value ∙ sym c.deref-14.ensures.value) in
+    let p = err_from_is_err_and c.from_residual-in_err-script-2.result c.from_residual-in_err-script-2.ensures.1 in
+    rw (p.1, p.2)
+    (unmade read graph wishes stream recorded loose steps choices are after early found.waits found.sound states (c.deref-10.ensures.value ∙ found.states)
+    c.deref-12.result.now script_is c.deref-13.result.now outputs_are (text_bytes c.in_ok-warnings.warnings) warnings_are
+    _ (λ named. same_loose ∙ c.in_err-script-2.ensures.err named))
+
+pub returns-clause-ok : goal.returns-clause-ok
+returns-clause-ok c =
+    let stream = c.args.stream.now in
+    let read : PlanRead = record { plan = c.args.plan.now; note = c.args.note; outputs = outputs_view c.args.outputs } in
+    let graph = graph_in c.args.graph in
+    let wishes = c.args.wishes in
+    let recorded = c.deref-2.result.now in
+    let loose = c.deref-3.result.now in
+    let steps = c.deref-4.result.now in
+    let choices = c.choices_of-choices.result in
+    let recorded_is : recorded ≡ c.in_ok-recorded.field-0.steps.items = cc in
+    let loose_is : loose ≡ c.in_ok-recorded.field-0.loose.items = cc in
+    let are = known read wishes stream c.stream.inside.begun (ap (λ (own : StreamRead). own.begun) c.stream.view_is)
+    c.deref.result.now (c.deref.ensures.value ∙ ap (λ (own : StreamRead). own.notes) c.stream.view_is)
+    c.circumstances_of-circumstances.result c.circumstances_of-circumstances.ensures
+    recorded (recorded_is ∙ c.in_ok-recorded.ensures.steps) loose (loose_is ∙ c.in_ok-recorded.ensures.loose)
+    steps (c.deref-4.ensures.value ∙ c.in_ok-steps.ensures) choices c.choices_of-choices.ensures in
+    let after = lists_in c.in_ok-waits.waits.after.items in
+    let early = lists_in c.in_ok-waits.waits.early.items in
+    let changes = c.args.plan.now.changes in
+    let states = c.deref-10.result.now in
+    let told = outputs_told read.outputs in
+    let found = c.in_ok-waits.ensures in
+    let script_is =
+    c.deref-12.ensures.value ∙ c.in_ok-script.ensures
+    ∙ ap (λ (own : List (Option RecordedStep)). script_of changes own states (lists_in c.deref-11.result.now)) (sym c.deref-2.ensures.value)
+    ∙ ap (λ (lists : List (Vec ℕ Global)). script_of changes recorded states (lists_in lists)) c.deref-11.ensures.value in
+    let outputs_are =
+    c.deref-13.ensures.value ∙ c.in_ok-outputs.ensures
+    ∙ ap (λ (own : List model.Output.Output). filter_map (unless_told own) (map (λ (output : Bor Output). output.now) c.deref-9.result.now)) (c.deref-8.ensures.value ∙ c.in_ok-told.ensures)
+    ∙ ap (λ (own : List (Bor Output)). filter_map (unless_told told) (map (λ (output : Bor Output). output.now) own)) c.deref-9.ensures.value
+    ∙ ap (filter_map (unless_told told)) c.in_ok-split.ensures.known
+    ∙ ap (λ (own : List Output). filter_map (unless_told told) (known_outputs read.outputs own)) (c.as_slice.ensures ∙ ap (λ (own : StreamRead). own.outputs) c.stream.view_is) in
+    let warnings_are =
+    c.in_ok-warnings.ensures
+    ∙ ap (λ (own : List (Option RecordedStep)). stream_warnings wishes.lanes stream ++ step_warnings stream.begun own (lists_in c.deref-6.result.now) ++ flat_map output_warning (map (λ (output : Bor Output). output.now) c.deref-7.result.now)) (c.deref-5.ensures.value ∙ sym c.deref-2.ensures.value)
+    ∙ ap (λ (lists : List (Vec ℕ Global)). stream_warnings wishes.lanes stream ++ step_warnings stream.begun recorded (lists_in lists) ++ flat_map output_warning (map (λ (output : Bor Output). output.now) c.deref-7.result.now)) c.deref-6.ensures.value
+    ∙ ap (λ (own : List (Bor Output)). stream_warnings wishes.lanes stream ++ step_warnings stream.begun recorded early ++ flat_map output_warning (map (λ (output : Bor Output). output.now) own)) c.deref-7.ensures.value
+    ∙ ap (λ (own : List Output). stream_warnings wishes.lanes stream ++ step_warnings stream.begun recorded early ++ flat_map output_warning own) c.in_ok-split.ensures.unknown
+    ∙ ap (λ (own : List Output). stream_warnings wishes.lanes stream ++ step_warnings stream.begun recorded early ++ flat_map output_warning (unknown_outputs read.outputs own)) (c.as_slice.ensures ∙ ap (λ (own : StreamRead). own.outputs) c.stream.view_is) in
+    let same_loose = ap (script_within changes c.deref-12.result.now c.deref-13.result.now) (c.deref-3.ensures.value ∙ sym c.deref-14.ensures.value) in
+    made read graph wishes stream recorded loose steps choices are after early found.waits found.sound states (c.deref-10.ensures.value ∙ found.states)
+    c.deref-12.result.now script_is c.deref-13.result.now outputs_are (text_bytes c.in_ok-warnings.warnings) warnings_are
+    (Ok (text_bytes c.in_ok-script-2.script)) (same_loose ∙ c.in_ok-script-2.ensures.ok)

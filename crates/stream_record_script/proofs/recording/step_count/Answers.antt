@@ -1,6 +1,6 @@
-use Rattle.std.proofs.Common.{◌∙◌, ◌+◌, ◌≤◌, ◌≡◌, ℕ, add-zero, ap, arith, drop, length, subst, sym}
+use Rattle.std.proofs.Common.{◌∙◌, ◌+◌, ◌≡◌, ℕ, ap, arith, drop, length, subst, sym}
 use Rattle.stream_record_steps.specs.Steps.{planned_from, planned_steps}
-use Rattle.stream_record_script.proofs.Counted.{all_counted, counted_more}
+use Rattle.stream_record_script.proofs.Counted.{counted_more}
 use Rattle.stream_record_script.proofs.recording.step_count.Goals as goal
 
 pub loop-number-preserved : goal.loop-number-preserved

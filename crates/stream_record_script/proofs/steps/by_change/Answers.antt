@@ -1,4 +1,4 @@
-use Rattle.std.proofs.Common.{◌≡◌, ◌∙◌, ◌+◌, ◌++◌, [], ◌∷◌, List, Some, ap, drop, sym}
+use Rattle.std.proofs.Common.{◌≡◌, ◌∙◌, ◌+◌, ◌++◌, [], ◌∷◌, List, Some, ap, drop}
 use Rattle.apply_model.specs.declared.plan.step_kind.StepKind.{StepKind}
 use Rattle.apply_model.specs.declared.script.script_step.ScriptStep.{ScriptStep}
 use Rattle.stream_record.proofs.EvenSteps.{pushed_more}

@@ -1,4 +1,4 @@
-use Rattle.std.proofs.Common.{◌-◌, Some, arith}
+use Rattle.std.proofs.Common.{arith}
 use Rattle.std.proofs.lemmas.Map.Text.{hash_map_updates_str}
 use Rattle.stream_record_script.proofs.NamedOutputs.{named_more}
 use Rattle.stream_record_script.proofs.told_outputs.ToldOutputs.new.Goals as goal
