@@ -1,12 +1,16 @@
 -- What is known once each part of the work is done.
 use Rattle.std.proofs.Common.{◌≡◌, ◌∙◌, ◌+◌, ℕ, ◌++◌, [], ◌∷◌, List, Option, ap, length, refl, subst, sym}
 use Rattle.std.specs.Prelude.{◌≢◌, Err, Result, suc}
+use Rattle.std.specs.List.{filter_map, flat_map}
 use Rattle.apply_model.specs.declared.details.note.Note.{Note}
+use Rattle.apply_model.specs.declared.details.output as model
+use Rattle.apply_model.specs.Plan.ResourceChange.{ResourceChange}
 use Rattle.apply_model.specs.Script.OutcomeMap.{OutcomeMap}
 use Rattle.stream_record.specs.ScriptText.{script_within}
 use Rattle.stream_record.specs.declared.output as script_output
 use Rattle.stream_record.specs.declared.script_fault.ScriptFault.{ScriptFault}
 use Rattle.stream_record.specs.declared.script_fault.ScriptFault.TheVariants as script
+use Rattle.stream_record_lines.specs.declared.outputs.output.Output.{Output}
 use Rattle.stream_record_outcomes.specs.declared.circumstances.Circumstances.{Circumstances}
 use Rattle.stream_record_outcomes.specs.declared.recorded_step.RecordedStep.{RecordedStep}
 use Rattle.stream_record_outcomes.specs.Recording.{notes_of_no_step, recorded_steps}
@@ -24,7 +28,7 @@ use Rattle.stream_record_warnings.specs.StepWarnings.{step_warnings}
 use Rattle.stream_record_warnings.specs.StreamWarnings.{stream_warnings}
 use Rattle.stream_record_script.specs.declared.recording.Wishes.{Wishes}
 use Rattle.stream_record_script.specs.Causes.{of_script_fault, of_waits_fault}
-use Rattle.stream_record_script.specs.Outputs.{output_warnings, script_outputs}
+use Rattle.stream_record_script.specs.Outputs.{known_outputs, output_warning, output_warnings, outputs_told, script_outputs, unknown_outputs, unless_told}
 use Rattle.stream_record_script.specs.Recordings.{IsNotRecorded, IsRecorded, PlanRead, choices_of, choices_with, circumstances_of, notes_in, steps_in, text_with}
 use Rattle.stream_record_script.specs.Runs.{steps_from, steps_of_plan}
 use Rattle.stream_record_script.specs.Steps.{script_of}
@@ -77,6 +81,37 @@ module _ (read : PlanRead) (wishes : Wishes) (stream : StreamRead)
     steps_are = steps_are ∙ ap (λ (known : Begun). steps_of_plan known recorded) begun_is ∙ ap (steps_of_plan stream.begun) own_recorded;
     choices_are = choices_are ∙ ap (λ (known : List Note). choices_with wishes known stream) own_loose;
   }
+
+-- ---- what goes into the script and the warnings
+
+pub script_is : (changes : List ResourceChange) (recorded own : List (Option RecordedStep)) (states : List StepState) (after lists : List (List ℕ)) (script : OutcomeMap)
+    → own ≡ recorded → lists ≡ after → script ≡ script_of changes own states lists → script ≡ script_of changes recorded states after
+script_is changes recorded own states after lists script own_is lists_are is =
+    is
+    ∙ ap (λ (known : List (Option RecordedStep)). script_of changes known states lists) own_is
+    ∙ ap (λ (known : List (List ℕ)). script_of changes recorded states known) lists_are
+
+module _ (read : PlanRead) (stream : StreamRead) (given : List Output) (given_are : given ≡ stream.outputs) where
+  pub outputs_are : (told : List model.Output.Output) (known : List Output) (outputs : List script_output.Output.Output)
+      → told ≡ outputs_told read.outputs → known ≡ known_outputs read.outputs given → outputs ≡ filter_map (unless_told told) known
+      → outputs ≡ script_outputs read.outputs stream.outputs
+  outputs_are told known outputs told_are known_are are =
+      are
+      ∙ ap (λ (own : List model.Output.Output). filter_map (unless_told own) known) told_are
+      ∙ ap (filter_map (unless_told (outputs_told read.outputs))) known_are
+      ∙ ap (script_outputs read.outputs) given_are
+
+  pub warnings_are : (lanes : ℕ) (recorded own : List (Option RecordedStep)) (early lists : List (List ℕ)) (unknown : List Output) (warnings : List ℕ)
+      → own ≡ recorded → lists ≡ early → unknown ≡ unknown_outputs read.outputs given
+      → warnings ≡ stream_warnings lanes stream ++ step_warnings stream.begun own lists ++ flat_map output_warning unknown
+      → warnings ≡ stream_warnings lanes stream ++ step_warnings stream.begun recorded early ++ output_warnings read.outputs stream.outputs
+  warnings_are lanes recorded own early lists unknown warnings own_is lists_are unknown_are are =
+      let first = stream_warnings lanes stream in
+      are
+      ∙ ap (λ (known : List (Option RecordedStep)). first ++ step_warnings stream.begun known lists ++ flat_map output_warning unknown) own_is
+      ∙ ap (λ (known : List (List ℕ)). first ++ step_warnings stream.begun recorded known ++ flat_map output_warning unknown) lists_are
+      ∙ ap (λ (known : List Output). first ++ step_warnings stream.begun recorded early ++ flat_map output_warning known) unknown_are
+      ∙ ap (λ (known : List Output). first ++ step_warnings stream.begun recorded early ++ output_warnings read.outputs known) given_are
 
 -- ---- what was recorded
 

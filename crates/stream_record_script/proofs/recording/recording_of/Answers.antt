@@ -1,9 +1,7 @@
-use Rattle.std.proofs.Common.{◌≡◌, ◌∙◌, ◌++◌, Bor, Global, List, Option, Vec, ap, arith, length, map, subst, sym, ℕ}
+use Rattle.std.proofs.Common.{◌≡◌, ◌∙◌, Bor, List, Option, ap, arith, length, map, subst, sym, ℕ}
 use Rattle.std.specs.Prelude.{Ok}
-use Rattle.std.specs.List.{filter_map, flat_map}
 use Rattle.std.specs.Option.{ForSome}
 use Rattle.std.proofs.lemmas.Result.{err_from_is_err_and}
-use Rattle.apply_model.specs.declared.details.output as model
 use Rattle.apply_plan_terraform.specs.Outputs.{outputs_view}
 use Rattle.stream_record.specs.ScriptText.{script_within}
 use Rattle.stream_record_lines.specs.declared.outputs.output.Output.{Output}
@@ -13,19 +11,15 @@ use Rattle.stream_record_stream.specs.Streams.{StreamRead}
 use Rattle.stream_record_waits.specs.Graph.{AreWaitsOf}
 use Rattle.stream_record_waits.specs.Recorded.{graph_in}
 use Rattle.stream_record_waits.specs.Steps.{lists_in}
-use Rattle.stream_record_warnings.specs.StepWarnings.{step_warnings}
-use Rattle.stream_record_warnings.specs.StreamWarnings.{stream_warnings}
 use Rattle.term_words.specs.MessageTexts.{text_bytes}
-use Rattle.stream_record_script.specs.Outputs.{known_outputs, output_warning, outputs_told, unknown_outputs, unless_told}
 use Rattle.stream_record_script.specs.Recordings.{PlanRead}
-use Rattle.stream_record_script.specs.Steps.{script_of}
-use Rattle.stream_record_script.proofs.Recorded.{as_many, known, made, unmade, unwaited}
+use Rattle.stream_record_script.proofs.Recorded.{as_many, known, made, outputs_are, script_is, unmade, unwaited, warnings_are}
 use Rattle.stream_record_script.proofs.recording.recording_of.Goals as goal
 
 pub steps_of_plan-requires : goal.steps_of_plan-requires
 steps_of_plan-requires c =
-    let is : c.in_ok-recorded.field-0.steps.items ≡ c.deref-2.result.now = cc in
-    subst (λ (recorded : List (Option RecordedStep)). AreAllowed c.stream.inside.begun.planned recorded) is c.in_ok-recorded.ensures.allowed
+    subst (λ (recorded : List (Option RecordedStep)). AreAllowed c.stream.inside.begun.planned recorded) (sym c.deref-2.ensures.value)
+    c.in_ok-recorded.ensures.allowed
 
 pub recorded_waits-requires-clause-few : goal.recorded_waits-requires-clause-few
 recorded_waits-requires-clause-few c =
@@ -57,12 +51,10 @@ returns-in_err-waits-clause-err c =
     let loose = c.deref-3.result.now in
     let steps = c.deref-4.result.now in
     let choices = c.choices_of-choices.result in
-    let recorded_is : recorded ≡ c.in_ok-recorded.field-0.steps.items = cc in
-    let loose_is : loose ≡ c.in_ok-recorded.field-0.loose.items = cc in
     let are = known read wishes stream c.stream.inside.begun (ap (λ (own : StreamRead). own.begun) c.stream.view_is)
     c.deref.result.now (c.deref.ensures.value ∙ ap (λ (own : StreamRead). own.notes) c.stream.view_is)
     c.circumstances_of-circumstances.result c.circumstances_of-circumstances.ensures
-    recorded (recorded_is ∙ c.in_ok-recorded.ensures.steps) loose (loose_is ∙ c.in_ok-recorded.ensures.loose)
+    recorded (c.deref-2.ensures.value ∙ c.in_ok-recorded.ensures.steps) loose (c.deref-3.ensures.value ∙ c.in_ok-recorded.ensures.loose)
     steps (c.deref-4.ensures.value ∙ c.in_ok-steps.ensures) choices c.choices_of-choices.ensures in
     let p = err_from_is_err_and c.from_residual-in_err-waits.result c.from_residual-in_err-waits.ensures.1 in
     rw (p.1, p.2) (unwaited read graph wishes stream recorded loose steps choices are _ c.in_err-waits.ensures.err)
@@ -77,41 +69,31 @@ returns-in_err-script-2-clause-err c =
     let loose = c.deref-3.result.now in
     let steps = c.deref-4.result.now in
     let choices = c.choices_of-choices.result in
-    let recorded_is : recorded ≡ c.in_ok-recorded.field-0.steps.items = cc in
-    let loose_is : loose ≡ c.in_ok-recorded.field-0.loose.items = cc in
     let are = known read wishes stream c.stream.inside.begun (ap (λ (own : StreamRead). own.begun) c.stream.view_is)
     c.deref.result.now (c.deref.ensures.value ∙ ap (λ (own : StreamRead). own.notes) c.stream.view_is)
     c.circumstances_of-circumstances.result c.circumstances_of-circumstances.ensures
-    recorded (recorded_is ∙ c.in_ok-recorded.ensures.steps) loose (loose_is ∙ c.in_ok-recorded.ensures.loose)
+    recorded (c.deref-2.ensures.value ∙ c.in_ok-recorded.ensures.steps) loose (c.deref-3.ensures.value ∙ c.in_ok-recorded.ensures.loose)
     steps (c.deref-4.ensures.value ∙ c.in_ok-steps.ensures) choices c.choices_of-choices.ensures in
     let after = lists_in c.in_ok-waits.waits.after.items in
     let early = lists_in c.in_ok-waits.waits.early.items in
     let changes = c.args.plan.now.changes in
     let states = c.deref-10.result.now in
-    let told = outputs_told read.outputs in
     let found = c.in_ok-waits.ensures in
-    let script_is =
-    c.deref-12.ensures.value ∙ c.in_ok-script.ensures
-    ∙ ap (λ (own : List (Option RecordedStep)). script_of changes own states (lists_in c.deref-11.result.now)) (sym c.deref-2.ensures.value)
-    ∙ ap (λ (lists : List (Vec ℕ Global)). script_of changes recorded states (lists_in lists)) c.deref-11.ensures.value in
-    let outputs_are =
-    c.deref-13.ensures.value ∙ c.in_ok-outputs.ensures
-    ∙ ap (λ (own : List model.Output.Output). filter_map (unless_told own) (map (λ (output : Bor Output). output.now) c.deref-9.result.now)) (c.deref-8.ensures.value ∙ c.in_ok-told.ensures)
-    ∙ ap (λ (own : List (Bor Output)). filter_map (unless_told told) (map (λ (output : Bor Output). output.now) own)) c.deref-9.ensures.value
-    ∙ ap (filter_map (unless_told told)) c.in_ok-split.ensures.known
-    ∙ ap (λ (own : List Output). filter_map (unless_told told) (known_outputs read.outputs own)) (c.as_slice.ensures ∙ ap (λ (own : StreamRead). own.outputs) c.stream.view_is) in
-    let warnings_are =
-    c.in_ok-warnings.ensures
-    ∙ ap (λ (own : List (Option RecordedStep)). stream_warnings wishes.lanes stream ++ step_warnings stream.begun own (lists_in c.deref-6.result.now) ++ flat_map output_warning (map (λ (output : Bor Output). output.now) c.deref-7.result.now)) (c.deref-5.ensures.value ∙ sym c.deref-2.ensures.value)
-    ∙ ap (λ (lists : List (Vec ℕ Global)). stream_warnings wishes.lanes stream ++ step_warnings stream.begun recorded (lists_in lists) ++ flat_map output_warning (map (λ (output : Bor Output). output.now) c.deref-7.result.now)) c.deref-6.ensures.value
-    ∙ ap (λ (own : List (Bor Output)). stream_warnings wishes.lanes stream ++ step_warnings stream.begun recorded early ++ flat_map output_warning (map (λ (output : Bor Output). output.now) own)) c.deref-7.ensures.value
-    ∙ ap (λ (own : List Output). stream_warnings wishes.lanes stream ++ step_warnings stream.begun recorded early ++ flat_map output_warning own) c.in_ok-split.ensures.unknown
-    ∙ ap (λ (own : List Output). stream_warnings wishes.lanes stream ++ step_warnings stream.begun recorded early ++ flat_map output_warning (unknown_outputs read.outputs own)) (c.as_slice.ensures ∙ ap (λ (own : StreamRead). own.outputs) c.stream.view_is) in
+    let now = λ (output : Bor Output). output.now in
+    let given_are = c.as_slice.ensures ∙ ap (λ (own : StreamRead). own.outputs) c.stream.view_is in
+    let script = script_is changes recorded c.in_ok-recorded.field-0.steps.items states after (lists_in c.deref-11.result.now) c.deref-12.result.now
+    (sym c.deref-2.ensures.value) (ap lists_in c.deref-11.ensures.value) (c.deref-12.ensures.value ∙ c.in_ok-script.ensures) in
+    let outputs = outputs_are read stream c.as_slice.result.now given_are c.deref-8.result.now (map now c.deref-9.result.now) c.deref-13.result.now
+    (c.deref-8.ensures.value ∙ c.in_ok-told.ensures) (ap (map now) c.deref-9.ensures.value ∙ c.in_ok-split.ensures.known)
+    (c.deref-13.ensures.value ∙ c.in_ok-outputs.ensures) in
+    let warnings = warnings_are read stream c.as_slice.result.now given_are wishes.lanes recorded c.deref-5.result.now early (lists_in c.deref-6.result.now)
+    (map now c.deref-7.result.now) (text_bytes c.in_ok-warnings.warnings) (c.deref-5.ensures.value ∙ sym c.deref-2.ensures.value)
+    (ap lists_in c.deref-6.ensures.value) (ap (map now) c.deref-7.ensures.value ∙ c.in_ok-split.ensures.unknown) c.in_ok-warnings.ensures in
     let same_loose = ap (script_within changes c.deref-12.result.now c.deref-13.result.now) (c.deref-3.ensures.value ∙ sym c.deref-14.ensures.value) in
     let p = err_from_is_err_and c.from_residual-in_err-script-2.result c.from_residual-in_err-script-2.ensures.1 in
     rw (p.1, p.2)
     (unmade read graph wishes stream recorded loose steps choices are after early found.waits found.sound states (c.deref-10.ensures.value ∙ found.states)
-    c.deref-12.result.now script_is c.deref-13.result.now outputs_are (text_bytes c.in_ok-warnings.warnings) warnings_are
+    c.deref-12.result.now script c.deref-13.result.now outputs (text_bytes c.in_ok-warnings.warnings) warnings
     _ (λ named. same_loose ∙ c.in_err-script-2.ensures.err named))
 
 pub returns-clause-ok : goal.returns-clause-ok
@@ -124,37 +106,27 @@ returns-clause-ok c =
     let loose = c.deref-3.result.now in
     let steps = c.deref-4.result.now in
     let choices = c.choices_of-choices.result in
-    let recorded_is : recorded ≡ c.in_ok-recorded.field-0.steps.items = cc in
-    let loose_is : loose ≡ c.in_ok-recorded.field-0.loose.items = cc in
     let are = known read wishes stream c.stream.inside.begun (ap (λ (own : StreamRead). own.begun) c.stream.view_is)
     c.deref.result.now (c.deref.ensures.value ∙ ap (λ (own : StreamRead). own.notes) c.stream.view_is)
     c.circumstances_of-circumstances.result c.circumstances_of-circumstances.ensures
-    recorded (recorded_is ∙ c.in_ok-recorded.ensures.steps) loose (loose_is ∙ c.in_ok-recorded.ensures.loose)
+    recorded (c.deref-2.ensures.value ∙ c.in_ok-recorded.ensures.steps) loose (c.deref-3.ensures.value ∙ c.in_ok-recorded.ensures.loose)
     steps (c.deref-4.ensures.value ∙ c.in_ok-steps.ensures) choices c.choices_of-choices.ensures in
     let after = lists_in c.in_ok-waits.waits.after.items in
     let early = lists_in c.in_ok-waits.waits.early.items in
     let changes = c.args.plan.now.changes in
     let states = c.deref-10.result.now in
-    let told = outputs_told read.outputs in
     let found = c.in_ok-waits.ensures in
-    let script_is =
-    c.deref-12.ensures.value ∙ c.in_ok-script.ensures
-    ∙ ap (λ (own : List (Option RecordedStep)). script_of changes own states (lists_in c.deref-11.result.now)) (sym c.deref-2.ensures.value)
-    ∙ ap (λ (lists : List (Vec ℕ Global)). script_of changes recorded states (lists_in lists)) c.deref-11.ensures.value in
-    let outputs_are =
-    c.deref-13.ensures.value ∙ c.in_ok-outputs.ensures
-    ∙ ap (λ (own : List model.Output.Output). filter_map (unless_told own) (map (λ (output : Bor Output). output.now) c.deref-9.result.now)) (c.deref-8.ensures.value ∙ c.in_ok-told.ensures)
-    ∙ ap (λ (own : List (Bor Output)). filter_map (unless_told told) (map (λ (output : Bor Output). output.now) own)) c.deref-9.ensures.value
-    ∙ ap (filter_map (unless_told told)) c.in_ok-split.ensures.known
-    ∙ ap (λ (own : List Output). filter_map (unless_told told) (known_outputs read.outputs own)) (c.as_slice.ensures ∙ ap (λ (own : StreamRead). own.outputs) c.stream.view_is) in
-    let warnings_are =
-    c.in_ok-warnings.ensures
-    ∙ ap (λ (own : List (Option RecordedStep)). stream_warnings wishes.lanes stream ++ step_warnings stream.begun own (lists_in c.deref-6.result.now) ++ flat_map output_warning (map (λ (output : Bor Output). output.now) c.deref-7.result.now)) (c.deref-5.ensures.value ∙ sym c.deref-2.ensures.value)
-    ∙ ap (λ (lists : List (Vec ℕ Global)). stream_warnings wishes.lanes stream ++ step_warnings stream.begun recorded (lists_in lists) ++ flat_map output_warning (map (λ (output : Bor Output). output.now) c.deref-7.result.now)) c.deref-6.ensures.value
-    ∙ ap (λ (own : List (Bor Output)). stream_warnings wishes.lanes stream ++ step_warnings stream.begun recorded early ++ flat_map output_warning (map (λ (output : Bor Output). output.now) own)) c.deref-7.ensures.value
-    ∙ ap (λ (own : List Output). stream_warnings wishes.lanes stream ++ step_warnings stream.begun recorded early ++ flat_map output_warning own) c.in_ok-split.ensures.unknown
-    ∙ ap (λ (own : List Output). stream_warnings wishes.lanes stream ++ step_warnings stream.begun recorded early ++ flat_map output_warning (unknown_outputs read.outputs own)) (c.as_slice.ensures ∙ ap (λ (own : StreamRead). own.outputs) c.stream.view_is) in
+    let now = λ (output : Bor Output). output.now in
+    let given_are = c.as_slice.ensures ∙ ap (λ (own : StreamRead). own.outputs) c.stream.view_is in
+    let script = script_is changes recorded c.in_ok-recorded.field-0.steps.items states after (lists_in c.deref-11.result.now) c.deref-12.result.now
+    (sym c.deref-2.ensures.value) (ap lists_in c.deref-11.ensures.value) (c.deref-12.ensures.value ∙ c.in_ok-script.ensures) in
+    let outputs = outputs_are read stream c.as_slice.result.now given_are c.deref-8.result.now (map now c.deref-9.result.now) c.deref-13.result.now
+    (c.deref-8.ensures.value ∙ c.in_ok-told.ensures) (ap (map now) c.deref-9.ensures.value ∙ c.in_ok-split.ensures.known)
+    (c.deref-13.ensures.value ∙ c.in_ok-outputs.ensures) in
+    let warnings = warnings_are read stream c.as_slice.result.now given_are wishes.lanes recorded c.deref-5.result.now early (lists_in c.deref-6.result.now)
+    (map now c.deref-7.result.now) (text_bytes c.in_ok-warnings.warnings) (c.deref-5.ensures.value ∙ sym c.deref-2.ensures.value)
+    (ap lists_in c.deref-6.ensures.value) (ap (map now) c.deref-7.ensures.value ∙ c.in_ok-split.ensures.unknown) c.in_ok-warnings.ensures in
     let same_loose = ap (script_within changes c.deref-12.result.now c.deref-13.result.now) (c.deref-3.ensures.value ∙ sym c.deref-14.ensures.value) in
     made read graph wishes stream recorded loose steps choices are after early found.waits found.sound states (c.deref-10.ensures.value ∙ found.states)
-    c.deref-12.result.now script_is c.deref-13.result.now outputs_are (text_bytes c.in_ok-warnings.warnings) warnings_are
+    c.deref-12.result.now script c.deref-13.result.now outputs (text_bytes c.in_ok-warnings.warnings) warnings
     (Ok (text_bytes c.in_ok-script-2.script)) (same_loose ∙ c.in_ok-script-2.ensures.ok)
