@@ -1,0 +1,7 @@
+mod ChangeSteps
+mod Counted
+mod LeftOutputs
+mod NamedOutputs
+mod Pieces
+mod Recorded
+mod RunTimes

@@ -1,5 +1,6 @@
 -- Which outputs of a stream a recorded script states.
-use Rattle.std.specs.Prelude.{ℕ, ◌&&◌, ◌||◌, List, ◌++◌, beq, codes, filter, Bool, false, not, if◌then◌else◌, Option, Some, None}
+use Rattle.std.specs.Prelude.{ℕ, ◌&&◌, ◌||◌, List, ◌++◌, codes, filter, Bool, false, not, if◌then◌else◌, Option, Some, None}
+use Rattle.std.specs.Bool.{beq}
 use Rattle.std.specs.List.{filter_map, find, flat_map}
 use Rattle.std.specs.Option.{option_map_or}
 use Rattle.std.specs.Str.{bytes_eq}

@@ -1,5 +1,5 @@
 -- The script of a stream, and the warnings of what it does not say.
-use Rattle.std.specs.Prelude.{◌≡◌, ⊤, ℕ, ◌++◌, List, Bool, true, false, not, ◌&&◌, is_none, Option, Some, None, Result, Err}
+use Rattle.std.specs.Prelude.{◌≡◌, ⊤, ℕ, ◌++◌, List, Bool, true, false, not, ◌&&◌, is_none, Option, Result, Err}
 use Rattle.std.specs.Option.{option_map_or}
 use Rattle.apply_model.specs.declared.details.note.Note.{Note}
 use Rattle.apply_model.specs.Plan.SavedPlan.{SavedPlan}

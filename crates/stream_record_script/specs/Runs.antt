@@ -1,5 +1,5 @@
 -- The steps of a plan, with what a stream and their outcomes report of them.
-use Rattle.std.specs.Prelude.{ℕ, ◌+◌, List, [], ◌∷◌, slice_get, Option, Some, None, option_map}
+use Rattle.std.specs.Prelude.{ℕ, ◌+◌, List, [], ◌∷◌, slice_get, Option, option_map}
 use Rattle.std.specs.Option.{option_and_then, option_flatten}
 use Rattle.apply_model.specs.Script.Outcome.{took}
 use Rattle.stream_record_steps.specs.declared.begun_step.BegunStep.{BegunStep}

@@ -89,7 +89,8 @@ fn is_told(told: &ToldOutputs<'_>, output: &Output) -> bool
 fn is_same(output: &Output, other: &model::Output) -> bool
     ensures { result ≡ is_same output.now other.now }
 {
-    output.is_sensitive == other.sensitive && output.type_json.as_str() == other.kind.as_str()
+    output.is_sensitive == other.sensitive
+        && output.type_json.as_str() == other.kind.as_str()
         && (output.is_sensitive || has_value(output, other.value.as_str()))
 }
 

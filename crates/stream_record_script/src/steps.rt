@@ -27,7 +27,7 @@ pub fn script_of(
 ) -> Result<Vec<Option<StepOutcomes>>, AllocError>
     requires { sum_by length (map (λ numbers. numbers.items) waits.now) ≤ max_waits }
     ensures { IfOk result (λ script. script.items
-        ≡ script_of plan.now.changes recorded.entry.items states.now (map (λ numbers. numbers.items) waits.now)) }
+        ≡ script_of plan.now.changes recorded.items states.now (map (λ numbers. numbers.items) waits.now)) }
 {
     let planned = planned_steps(alloc, plan)?;
     let steps = script_steps(alloc, &planned, waits, recorded, states)?;
@@ -44,7 +44,7 @@ fn script_steps(
 ) -> Result<VecDeque<Option<ScriptStep>>, AllocError>
     requires { sum_by length (map (λ numbers. numbers.items) waits.now) ≤ max_waits }
     ensures { IfOk result (λ steps. steps.items
-        ≡ script_steps planned.now (map (λ numbers. numbers.items) waits.now) 0 recorded.entry.items states.now) }
+        ≡ script_steps planned.now (map (λ numbers. numbers.items) waits.now) 0 recorded.items states.now) }
 {
     let mut steps = VecDeque::new(alloc);
     let mut left = VecDeque::from_vec(recorded);
@@ -76,7 +76,7 @@ fn script_step(
     after: Vec<Wait>,
 ) -> Option<ScriptStep>
     requires { length after.items ≤ max_waits }
-    ensures { result ≡ script_step state found.entry after.entry.items }
+    ensures { result ≡ script_step state found after.items }
 {
     match state {
         StepState::Began => match found {
@@ -117,7 +117,7 @@ fn by_change(
     plan: &Plan,
     mut steps: VecDeque<Option<ScriptStep>>,
 ) -> Result<Vec<Option<StepOutcomes>>, AllocError>
-    ensures { IfOk result (λ script. script.items ≡ by_change plan.now.changes steps.entry.items) }
+    ensures { IfOk result (λ script. script.items ≡ by_change plan.now.changes steps.items) }
 {
     let mut script = Vec::new(alloc);
     for number in 0..plan.len() {
@@ -138,7 +138,7 @@ fn first_steps(
 {
     let mut first = Vec::new(alloc);
     for _kind in kinds {
-        if let Some(Some(step)) = steps.pop_front() {
+        if let Some(step) = steps.pop_front().flatten() {
             first.push(step)?;
         }
     }
