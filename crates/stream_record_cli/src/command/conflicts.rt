@@ -99,7 +99,10 @@ fn is_stream_standard(matches: &ArgMatches<'_>) -> bool
 fn is_named(matches: &ArgMatches<'_>, option: &str) -> bool
     ensures { result ≡ is_named option.now (rows_of (found_of matches.now)) }
 {
-    matches.get_str(option).is_some()
+    match matches.get_str(option) {
+        Some(_) => true,
+        None => false,
+    }
 }
 
 /// Whether a flag is set.

@@ -38,8 +38,8 @@ pub fn refuse<E: Write>(
     refusal: Refusal,
     faults: &mut E,
 ) -> u8
-    ensures status { IsStatusOf refusal.entry.fault result }
-    ensures gone { refusal.entry.fault ≡ Gone → Keeps (E.contents faults.old) (E.contents faults.new) }
+    ensures status { IsStatusOf refusal.fault result }
+    ensures gone { refusal.fault ≡ Gone → Keeps (E.contents faults.old) (E.contents faults.new) }
 {
     let fault = refusal.fault;
     match fault {

@@ -31,7 +31,7 @@ pub fn write_outcome<W: Write, E: Write>(
     out: &mut W,
     faults: &mut E,
 ) -> Report<Result<(), RecordFault>>
-    ensures came { WasWritten made.entry (W.contents out.old) (W.contents out.new) result.status result.answer }
+    ensures came { WasWritten made (W.contents out.old) (W.contents out.new) result.status result.answer }
     ensures quiet { result.status ≡ 0 → Keeps (E.contents faults.old) (E.contents faults.new) }
     ensures gone { result.answer ≡ Err Gone → Keeps (E.contents faults.old) (E.contents faults.new) }
     ensures statuses { result.status ≤ 3 }
@@ -55,8 +55,8 @@ fn refused<E: Write>(
     refusal: Refusal,
     faults: &mut E,
 ) -> Report<Result<(), RecordFault>>
-    ensures answer { result.answer ≡ Err refusal.entry.fault }
-    ensures status { IsStatusOf refusal.entry.fault result.status }
+    ensures answer { result.answer ≡ Err refusal.fault }
+    ensures status { IsStatusOf refusal.fault result.status }
     ensures gone { result.answer ≡ Err Gone → Keeps (E.contents faults.old) (E.contents faults.new) }
 {
     let fault = refusal.fault;
