@@ -66,6 +66,24 @@ def validations():
             yield f"validations/{name}", words, text.read(), folder
 
 
+# Recordings that `record` is refused memory and writes on: of a plan alone and with its graph, of streams with and without a graph, with
+# warnings, and refused ones.
+RECORDED = ("plan_and_graph", "failed_with_graph", "update_vanishes", "precondition", "cut_off", "a_log", "queue_p1", "two_runs", "other_plan",
+            "wrong_graph_apply")
+
+
+def recordings():
+    """What `record` is tried on: the name, the words, standard input, and the folder in which they stand. A stream is named, and given."""
+    for name in RECORDED:
+        folder = f"{HERE}/../examples/recordings/{name}"
+        with open(f"{folder}/args.txt", encoding="utf-8") as text:
+            words = ["record", *text.read().splitlines()]
+        yield f"recordings/{name}", words, b"", folder
+        if words[-1] in ("stream.jsonl", "job.log"):
+            with open(f"{folder}/{words[-1]}", "rb") as stream:
+                yield f"recordings/{name}, given", words[:-1], stream.read(), folder
+
+
 def folder_of(name):
     """The folder of an example, in which the program runs: its arguments may name files there."""
     return f"{CASES}/{name}"

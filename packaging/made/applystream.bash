@@ -18,14 +18,6 @@ _applystream() {
     COMPREPLY=($(compgen -W "--find --plan --width --color --panel --help" -- "$word") $(compgen -f -- "$word"))
     return
   fi
-  if [ "${COMP_WORDS[1]}" = play ] && [ "$COMP_CWORD" -gt 1 ]; then
-    case $before in
-      --speed) return ;;
-      --run) return ;;
-    esac
-    COMPREPLY=($(compgen -W "--speed --find --run --help" -- "$word") $(compgen -f -- "$word"))
-    return
-  fi
   if [ "${COMP_WORDS[1]}" = view ] && [ "$COMP_CWORD" -gt 1 ]; then
     case $before in
       --rows) return ;;
@@ -35,6 +27,24 @@ _applystream() {
       --run) return ;;
     esac
     COMPREPLY=($(compgen -W "--svg --json --markdown --rows --all --sort --width --color --find --run --help" -- "$word") $(compgen -f -- "$word"))
+    return
+  fi
+  if [ "${COMP_WORDS[1]}" = play ] && [ "$COMP_CWORD" -gt 1 ]; then
+    case $before in
+      --speed) return ;;
+      --run) return ;;
+    esac
+    COMPREPLY=($(compgen -W "--speed --find --run --help" -- "$word") $(compgen -f -- "$word"))
+    return
+  fi
+  if [ "${COMP_WORDS[1]}" = record ] && [ "$COMP_CWORD" -gt 1 ]; then
+    case $before in
+      --plan) COMPREPLY=($(compgen -f -- "$word")); return ;;
+      --graph) COMPREPLY=($(compgen -f -- "$word")); return ;;
+      --parallelism) return ;;
+      --run) return ;;
+    esac
+    COMPREPLY=($(compgen -W "--plan --graph --begins --parallelism --only-plan --find --run --help" -- "$word") $(compgen -f -- "$word"))
     return
   fi
   if [ "${COMP_WORDS[1]}" = validate ] && [ "$COMP_CWORD" -gt 1 ]; then
@@ -57,7 +67,7 @@ _applystream() {
     --form) COMPREPLY=($(compgen -W "applystream terraform" -- "$word")); return ;;
   esac
   local words="--at --script --workers --queue --destroy --halt-before --halt-in --parallelism --form --help --version"
-  [ "$COMP_CWORD" != 1 ] || words+=" check watch play view validate"
+  [ "$COMP_CWORD" != 1 ] || words+=" check watch view play record validate"
   COMPREPLY=($(compgen -W "$words" -- "$word"))
 }
 complete -o filenames -F _applystream applystream

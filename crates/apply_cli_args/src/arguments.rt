@@ -41,6 +41,7 @@ Tools for a stream of such messages, each with its own --help:
   applystream watch     shows an apply to people while it is under way
   applystream view      draws a stream, as text or SVG
   applystream play      writes a stream in its own time, or faster
+  applystream record    makes a script of a real apply, to tell it again
 And for a plan and a script:
   applystream validate  lists every error of both";
 

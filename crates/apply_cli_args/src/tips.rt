@@ -14,10 +14,10 @@ const DASH_TIP: &str =
 
 /// Printed after the error of a first argument that is like no command.
 const COMMANDS_TIP: &str =
-    "\n  tip: the commands are check, watch, view, play and validate, and applystream --help explains them\n";
+    "\n  tip: the commands are check, watch, view, play, record and validate, and applystream --help explains them\n";
 
 /// The commands besides the main one.
-static COMMANDS: [&str; 5] = ["check", "watch", "view", "play", "validate"];
+static COMMANDS: [&str; 6] = ["check", "watch", "view", "play", "record", "validate"];
 
 /// Adds the tip that follows the parser's error for an unknown argument. The kind of the error does
 /// not show what sort of argument it was; only the text does. `Err` if memory is refused.
