@@ -1,4 +1,4 @@
-//! Why no script was written, with the words that say it.
+//! Why no script was written, with the message that says it.
 
 ghost use Rattle.std.specs.Prelude.{◌≡◌};
 ghost use Rattle.stream_record_cli.specs.Causes.{as_record_fault, of_graph_fault, of_recording_fault, of_run_fault, of_script_fault, of_stream_fault};
@@ -15,12 +15,12 @@ use stream_runs::RunFault;
 use stream_tool::WriteFault;
 use term_words::MessageText;
 
-/// Why no script was written, with the words that say it.
+/// Why no script was written, with the message that says it.
 #[derive(Drop)]
 pub struct Refusal {
     pub fault: RecordFault,
-    /// The words, where the fault alone does not say all: they name a step or a node.
-    pub words: Option<MessageText>,
+    /// The line of the message, where the fault alone does not say all: it names a step or a node.
+    pub line: Option<MessageText>,
 }
 
 impl Refusal {
@@ -28,7 +28,7 @@ impl Refusal {
     pub fn of(fault: RecordFault) -> Refusal
         ensures { result.fault ≡ fault }
     {
-        Refusal { fault, words: None }
+        Refusal { fault, line: None }
     }
 }
 

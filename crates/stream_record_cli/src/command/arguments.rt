@@ -6,13 +6,13 @@ ghost use Rattle.clap.specs.Matches.{found_of};
 ghost use Rattle.clap.specs.Simple.{app_of, is_simple};
 ghost use Rattle.clap.specs.Walk.{first_of, one_of, rows_of, rule_of};
 ghost use Rattle.stream_record_cli.specs.CommandLine.{AreStated, IsLanes, command_line, graph_rule, lanes_rule, plan_rule};
-ghost use Rattle.stream_tool.specs.Words.{flag_rule};
+ghost use Rattle.stream_tool.specs.Words.{file_rule, flag_rule};
 
 use crate::command::settings::Settings;
 use clap::{Arg, ArgMatches, Command, value_parser};
 use std::alloc::{AllocError, Global};
 use stream_runs::{run_of, run_option};
-use stream_tool::{FIND, file, file_of, flag, is_given, with_option};
+use stream_tool::{FIND, file_of, flag, is_given, with_option};
 
 /// The lanes by default: as many changes as Terraform applies at once.
 const LANES: u8 = 10;
@@ -20,7 +20,7 @@ const LANES: u8 = 10;
 const ABOUT: &str =
     "Makes a script of a stream: with it a run of the plan tells the apply of the stream again.
 
-Standard input: the stream of `terraform apply -json`, whole or cut off, unless FILE is named. It is read to its end.
+Standard input: the stream of `terraform apply -json`, whole or cut off, unless STREAM is named. It is read to its end.
 Standard output: the script, on one line.
 Standard error: what the script does not say, a line each; or why there is no script.";
 
@@ -72,7 +72,7 @@ pub(crate) fn command_of<'a>(
     let line = with_option(line, only_plan);
     let line = with_option(line, flag(alloc, "find", FIND));
     let line = with_option(line, run_option(alloc));
-    with_option(line, file(alloc))
+    with_option(line, stream(alloc))
 }
 
 /// Defines `--plan PLAN`.
@@ -130,6 +130,15 @@ pub(crate) fn only_plan<'a>(alloc: Global) -> Arg<'a>
         "only-plan",
         "Make the script of the plan alone, in which each step takes a second: no stream is read",
     )
+}
+
+/// Defines the argument `STREAM`.
+fn stream<'a>(alloc: Global) -> Arg<'a>
+    ensures { (rule_of result ≡ file_rule) × (result.global ≡ false) }
+{
+    Arg::new(alloc, "file")
+        .value_name("STREAM")
+        .help("The file with the stream; `-` is standard input")
 }
 
 /// Returns the settings of parsed arguments. `Err` where memory is refused.

@@ -13,7 +13,6 @@ use std::io::Write;
 use stream_record_stream::StreamFault;
 use stream_runs::SeveralRuns;
 use stream_tool::{FAILED, REFUSED, refuse_file, refuse_memory, refuse_unread, report};
-use term_words::MessageText;
 
 /// Prints why the input of that name was not read. Returns the exit status: 2, or 3 where memory
 /// was refused.
@@ -46,8 +45,11 @@ pub fn refuse<E: Write>(
         RecordFault::Gone => FAILED,
         RecordFault::Stream(stream) => refuse_stream(alloc, name, stream, faults),
         _ => {
-            match refusal.words {
-                Some(words) => say(&words, faults),
+            match refusal.line {
+                // A failed write is ignored, since no other place is left for messages.
+                Some(line) => {
+                    let _ = faults.write_all(line.as_bytes());
+                }
                 None => report(faults, fault),
             }
             status_of(fault)
@@ -91,11 +93,4 @@ fn refuse_stream<E: Write>(
             REFUSED
         }
     }
-}
-
-/// Prints these words.
-fn say<E: Write>(words: &MessageText, faults: &mut E) {
-    let _ = faults.write_all(b"applystream: ");
-    let _ = faults.write_all(words.as_bytes());
-    let _ = faults.write_all(b"\n");
 }

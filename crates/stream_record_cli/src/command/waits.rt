@@ -34,16 +34,16 @@ pub fn graph_waits(alloc: Global, plan: &Plan, graph: &[u8]) -> Result<Vec<Vec<u
 }
 
 /// Why a graph gives no waits, with the name of the step or the node. It is the want of memory where
-/// memory was refused for the words.
+/// memory was refused for the message.
 fn waitless(alloc: Global, plan: &Plan, given: WaitsFault) -> Refusal
     ensures { (result.fault ≡ of_waits_fault given) ⊎ (result.fault ≡ Memory) }
 {
     match given {
         WaitsFault::NoNode { step } => match lacks_step(alloc, plan, step) {
-            Ok(words) => worded(GraphRefusal::LacksStep(step), words),
+            Ok(line) => told(GraphRefusal::LacksStep(step), line),
             Err(_) => Refusal::of(RecordFault::Memory),
         },
-        WaitsFault::Circle { node } => worded(
+        WaitsFault::Circle { node } => told(
             GraphRefusal::Circle,
             circle(alloc, node.as_str()),
         ),
@@ -52,37 +52,38 @@ fn waitless(alloc: Global, plan: &Plan, given: WaitsFault) -> Refusal
     }
 }
 
-/// The refusal with these words, unless memory was refused for them.
-fn worded(why: GraphRefusal, words: MessageText) -> Refusal
+/// The refusal with this line, unless memory was refused for it.
+fn told(why: GraphRefusal, line: MessageText) -> Refusal
     ensures { (result.fault ≡ RecordFault.Graph why) ⊎ (result.fault ≡ Memory) }
 {
-    if !words.is_whole() {
+    if !line.is_whole() {
         return Refusal::of(RecordFault::Memory);
     }
     Refusal {
         fault: RecordFault::Graph(why),
-        words: Some(words),
+        line: Some(line),
     }
 }
 
-/// What is said of a step that has no node. `Err` where memory is refused.
+/// The line about a step that has no node. `Err` where memory is refused.
 fn lacks_step(alloc: Global, plan: &Plan, step: usize) -> Result<MessageText, AllocError> {
     let planned = planned_steps(alloc, plan)?;
-    let mut words = MessageText::new(alloc);
-    words.text("the graph has no node for the ");
+    let mut line = MessageText::new(alloc);
+    line.text("applystream: the graph has no node for the ");
     if let Some(step) = step_at(&planned, step) {
-        push_step(&mut words, step);
+        push_step(&mut line, step);
     }
-    words.text(
-        ": is it that of this plan? terraform graph -plan=FILE prints it, before the plan is applied",
+    line.text(
+        ": is it that of this plan? terraform graph -plan=FILE prints it, before the plan is applied\n",
     );
-    Ok(words)
+    Ok(line)
 }
 
-/// What is said of a circle through that node.
+/// The line about a circle through that node.
 fn circle(alloc: Global, node: &str) -> MessageText {
-    let mut words = MessageText::new(alloc);
-    words.text("the graph goes in a circle through ");
-    words.escaped(node.as_bytes());
-    words
+    let mut line = MessageText::new(alloc);
+    line.text("applystream: the graph goes in a circle through ");
+    line.escaped(node.as_bytes());
+    line.text("\n");
+    line
 }

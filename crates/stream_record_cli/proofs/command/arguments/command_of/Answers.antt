@@ -18,4 +18,4 @@ returns c is_begins begins_alone is_only only_alone =
     let only = c.with_option-line-5.ensures _ _ lanes is_only only_alone in
     let find = c.with_option-line-6.ensures _ _ only c.flag.ensures.0 c.flag.ensures.1 in
     let run = c.with_option-line-7.ensures _ _ find c.run_option.ensures.0 c.run_option.ensures.1 in
-    c.with_option.ensures _ _ run c.file.ensures.0 c.file.ensures.1
+    c.with_option.ensures _ _ run c.stream.ensures.0 c.stream.ensures.1
