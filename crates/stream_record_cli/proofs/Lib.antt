@@ -3,5 +3,7 @@ pub mod GraphWaits
 pub mod Lanes
 pub mod Outcomes
 pub mod Refused
+pub mod RunsRead
 pub mod StepNames
 pub mod Streams
+pub mod Tools

@@ -57,20 +57,26 @@ module _ (IsScript : (text warnings : List ℕ) → Type 0) (IsCause : RecordFau
   scripted texts (Err (fault.NoRun missing)) is came = absurd came.1
   scripted texts (Err fault.TooLarge) is came = absurd came.1
   scripted texts (Err fault.Memory) is came = came
-  scripted texts (Err fault.Gone) is came = (came.0, record {
-    text = came.1.text;
-    warnings = came.1.warnings;
-    is = rw (came.1.is.0, came.1.is.1) is;
-    count = came.1.count;
-    written = came.1.written;
-  })
-  scripted texts (Err fault.Unwritten) is came = (came.0, record {
-    text = came.1.text;
-    warnings = came.1.warnings;
-    is = rw (came.1.is.0, came.1.is.1) is;
-    count = came.1.count;
-    written = came.1.written;
-  })
+  scripted texts (Err fault.Gone) is came = (
+    came.0,
+    record {
+      text = came.1.text;
+      warnings = came.1.warnings;
+      is = rw (came.1.is.0, came.1.is.1) is;
+      count = came.1.count;
+      written = came.1.written;
+    },
+  )
+  scripted texts (Err fault.Unwritten) is came = (
+    came.0,
+    record {
+      text = came.1.text;
+      warnings = came.1.warnings;
+      is = rw (came.1.is.0, came.1.is.1) is;
+      count = came.1.count;
+      written = came.1.written;
+    },
+  )
 
   caused : (why : RecordFault) → (IsCause fault.Gone → ⊥) → (IsCause fault.Unwritten → ⊥) → ((input : _) → IsCause (fault.Input input) → ⊥) → IsCause why
       → IsUnwritten before after status why → HasOutcome IsScript IsCause before after status (Err why)

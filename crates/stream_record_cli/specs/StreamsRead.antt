@@ -1,5 +1,5 @@
 -- What is read of a stream, or of the run of it that is chosen.
-use Rattle.std.specs.Prelude.{◌≡◌, ⊤, ℕ, List, Bool, Option, None, Some, Ok, Err}
+use Rattle.std.specs.Prelude.{◌≡◌, ◌⊎◌, ⊤, ℕ, List, Bool, Option, None, Some, Ok, Err}
 use Rattle.apply_model.specs.Plan.SavedPlan.{SavedPlan}
 use Rattle.stream_record_stream.specs.Answers.{IsReadOf}
 use Rattle.stream_record_stream.specs.Streams.{StreamRead}
@@ -23,10 +23,10 @@ abbrev pub IsFaulty : SavedPlan → (find : Bool) → (before : ℕ) → (bytes 
 IsFaulty plan find before bytes why = (given : StreamFault) × IsReadOf plan find before bytes (Err given) × (why ≡ of_stream_fault given)
 
 -- The chosen run is not there, or is refused.
-pub data IsRunUnread (plan : SavedPlan) (find : Bool) (choice : RunChoice) (bytes : List ℕ) (why : RecordFault) : Type 0 where
-  unselected : (given : RunFault) → IsSelected find choice bytes (Err given) → why ≡ of_run_fault given → IsRunUnread plan find choice bytes why
-  faulty : (run : Run) → IsSelected find choice bytes (Ok run) → IsFaulty plan find run.lines_before run.bytes.items why
-      → IsRunUnread plan find choice bytes why
+abbrev pub IsRunUnread : SavedPlan → (find : Bool) → RunChoice → (bytes : List ℕ) → RecordFault → Type 0
+IsRunUnread plan find choice bytes why =
+    ((given : RunFault) × IsSelected find choice bytes (Err given) × (why ≡ of_run_fault given))
+    ⊎ ((run : Run) × IsSelected find choice bytes (Ok run) × IsFaulty plan find run.lines_before run.bytes.items why)
 
 -- Why nothing is read.
 abbrev pub IsUnread : SavedPlan → (find : Bool) → Option RunChoice → (bytes : List ℕ) → RecordFault → Type 0

@@ -91,8 +91,7 @@ fn share_standard_input(matches: &ArgMatches<'_>) -> bool
 fn is_stream_standard(matches: &ArgMatches<'_>) -> bool
     ensures { result ≡ is_stream_standard (rows_of (found_of matches.now)) }
 {
-    !is_set(matches, "only-plan")
-        && (!is_named(matches, "file") || is_standard(matches, "file"))
+    !is_set(matches, "only-plan") && (!is_named(matches, "file") || is_standard(matches, "file"))
 }
 
 /// Whether the option has a value.

@@ -85,11 +85,7 @@ fn script_of(alloc: Global, plan: &[u8], graph: Option<&[u8]>) -> Result<Message
 }
 
 /// The script of the plan with these waits. `Err` is as in `script_text`.
-fn script_with(
-    alloc: Global,
-    plan: &Plan,
-    waits: &[Vec<usize>],
-) -> Result<MessageText, ScriptFault>
+fn script_with(alloc: Global, plan: &Plan, waits: &[Vec<usize>]) -> Result<MessageText, ScriptFault>
     requires { sum_by length (lists_in waits.now) ≤ max_waits }
     ensures ok { IfOk result (λ text. plan_script plan.now.changes (lists_in waits.now) ≡ Ok (text_bytes text)) }
     ensures err { IfErr result (λ fault. fault ≢ ScriptFault.Memory → plan_script plan.now.changes (lists_in waits.now) ≡ Err fault) }

@@ -31,12 +31,7 @@ pub fn refuse_input<E: Write>(alloc: Global, faults: &mut E, name: &str, fault: 
 ///
 /// Nothing is printed if the reader of the output is gone: whoever ended that reader, as `head`
 /// ends, knows.
-pub fn refuse<E: Write>(
-    alloc: Global,
-    name: Option<&str>,
-    refusal: Refusal,
-    faults: &mut E,
-) -> u8
+pub fn refuse<E: Write>(alloc: Global, name: Option<&str>, refusal: Refusal, faults: &mut E) -> u8
     ensures status { IsStatusOf refusal.fault result }
     ensures gone { refusal.fault ≡ Gone → Keeps (E.contents faults.old) (E.contents faults.new) }
 {

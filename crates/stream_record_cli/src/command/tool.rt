@@ -89,8 +89,9 @@ impl Tool for Record {
     ) -> Report<Result<(), RecordFault>> {
         let report = record_inputs(files, alloc, settings, reader, out, faults);
         // Who writes the stream is never stopped.
-        let is_awaited =
-            report.answer.is_err() && settings.reads_stream_from_input() && !self.is_terminal;
+        let is_awaited = report.answer.is_err()
+            && settings.reads_stream_from_input()
+            && !self.is_terminal;
         let _ = flush_and_drain(is_awaited, reader, faults);
         report
     }
@@ -112,13 +113,7 @@ fn record_inputs<F: Files, R: Read, W: Write, E: Write>(
 {
     match read_inputs(files, alloc, settings, reader) {
         Ok(inputs) => if settings.only_plan {
-            record_plan(
-                alloc,
-                &inputs.plan.bytes,
-                inputs.graph_bytes(),
-                out,
-                faults,
-            )
+            record_plan(alloc, &inputs.plan.bytes, inputs.graph_bytes(), out, faults)
         } else {
             record_apply(files, alloc, settings, &inputs, reader, out, faults)
         },
@@ -164,7 +159,7 @@ fn record_apply<F: Files, R: Read, W: Write, E: Write>(
                     answer: Err(RecordFault::Memory),
                 };
             };
-            record_stream(
+            let report = record_stream(
                 alloc,
                 &inputs.plan.bytes,
                 inputs.graph_bytes(),
@@ -173,7 +168,9 @@ fn record_apply<F: Files, R: Read, W: Write, E: Write>(
                 &mut reader,
                 out,
                 faults,
-            )
+            );
+            let _ = flush_and_drain(report.answer.is_err(), &mut reader, faults);
+            report
         }
         Err(error) => unread_input(alloc, name, InputFault::Unopened(error), faults),
     }

@@ -43,10 +43,7 @@ fn waitless(alloc: Global, plan: &Plan, given: WaitsFault) -> Refusal
             Ok(line) => told(GraphRefusal::LacksStep(step), line),
             Err(_) => Refusal::of(RecordFault::Memory),
         },
-        WaitsFault::Circle { node } => told(
-            GraphRefusal::Circle,
-            circle(alloc, node.as_str()),
-        ),
+        WaitsFault::Circle { node } => told(GraphRefusal::Circle, circle(alloc, node.as_str())),
         WaitsFault::TooMany => Refusal::of(RecordFault::Graph(GraphRefusal::TooManyWaits)),
         WaitsFault::Memory => Refusal::of(RecordFault::Memory),
     }
