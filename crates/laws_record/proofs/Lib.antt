@@ -24,3 +24,5 @@ pub mod TextMembers
 pub mod NoteExtras
 pub mod OutputExtras
 pub mod Extras
+pub mod Behind
+pub mod Pinless

@@ -1,2 +1,3 @@
 pub mod Extras
+pub mod Schedules
 pub mod Writable

@@ -1,8 +1,10 @@
-//! Laws of what `record` reads, which lines have a message, and of the scripts that it writes.
+//! Laws of what `record` reads: which lines have a message; of the schedule by which it finds waits; and of
+//! the scripts that it writes.
 //!
 //! Each function does nothing: its contract is the law. No program links this crate.
 #![tactic(auto)]
 
+mod schedules;
 mod scripts;
 
 ghost use Rattle.std.specs.Prelude.{◌≡◌, ◌≤◌, ℕ, Bool, List, length, not};
@@ -11,6 +13,9 @@ ghost use Rattle.stream_lines.specs.Limits.{max_bytes};
 ghost use Rattle.stream_record_lines.specs.Lines.{is_message, stated_line};
 ghost use Rattle.stream_watch.specs.MessageLaws.{is_no_message};
 
+pub use schedules::{
+    a_stream_that_keeps_time_gets_no_wait, a_turn_starts_behind_the_step_that_it_began_behind,
+};
 pub use scripts::{
     a_run_in_form_reads_back_outputs_and_diagnostics, a_run_reads_back_what_record_writes,
 };
