@@ -1,5 +1,4 @@
-//! Laws of what `record` reads: which lines have a message; of the schedule by which it finds waits; and of
-//! the scripts that it writes.
+//! Laws of `record`: of the lines that it reads, of its schedule, and of the scripts that it writes.
 //!
 //! Each function does nothing: its contract is the law. No program links this crate.
 #![tactic(auto)]
