@@ -1,18 +1,17 @@
 -- The waits of a graph are waits of the steps of the plan.
-use Rattle.std.proofs.Common.{◌≡◌, ◌<◌, ◌+◌, ◌∙◌, ℕ, Bool, true, List, [], ◌∷◌, ◌++◌, All, Some, ap, arith, get_or, length, length-append, refl, subst, sym}
-use Rattle.std.specs.Prelude.{IfSome, slice_get}
-use Rattle.std.specs.List.{Contains, flat_map}
+use Rattle.std.proofs.Common.{◌≡◌, ◌<◌, ◌+◌, ◌∙◌, ℕ, Bool, true, List, [], ◌∷◌, All, Some, ap, arith, length, length-append, refl, subst, sym}
+use Rattle.std.specs.List.{Contains}
 use Rattle.std.proofs.lemmas.List.{length-map}
 use Rattle.std.proofs.lemmas.List.Elements.{All-contains_itself, All-weaker}
 use Rattle.std.proofs.lemmas.Option.{slice_get-get_or}
 use Rattle.apply_model.specs.declared.plan.step_kind.StepKind.{StepKind}
 use Rattle.apply_model.specs.Plan.ResourceChange.{ResourceChange}
 use Rattle.input_graph.specs.AllWaits.{AreWaitsAlong}
-use Rattle.input_graph.specs.StepNodes.{names_of, step_named}
+use Rattle.input_graph.specs.StepNodes.{names_of}
 use Rattle.input_graph.specs.Waits.{AreWaits, WaitsFor}
 use Rattle.input_graph.proofs.Numbered.{named_within}
 use Rattle.input_graph.specs.declared.step_node.StepNode.{StepNode}
-use Rattle.stream_record_steps.specs.Steps.{PlannedStep, planned_from, planned_steps, steps_from}
+use Rattle.stream_record_steps.specs.Steps.{planned_from, planned_steps, steps_from}
 use Rattle.stream_record_waits.specs.Graph.{AreWaitsOf, waits_at}
 use Rattle.stream_record_cli.specs.Graphs.{AreGraphWaits}
 use Rattle.stream_record_cli.specs.StepNames.{nodes_from, nodes_of_change, step_nodes}

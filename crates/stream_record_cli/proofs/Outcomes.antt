@@ -1,6 +1,6 @@
 -- What is written and answered.
-use Rattle.std.proofs.Common.{◌≡◌, ◌≢◌, ◌∙◌, ℕ, List, [], length, Option, None, Some, Result, Ok, Err, ap, arith, inl, inr, ◌≤◌, refl, subst, sym, take}
-use Rattle.std.specs.Prelude.{IfErr, IfOk, OnErr, OnOk, ◌⊎◌}
+use Rattle.std.proofs.Common.{◌≡◌, ◌∙◌, ℕ, List, length, Option, Result, Ok, Err, ap, arith, refl, subst, sym, take}
+use Rattle.std.specs.Prelude.{IfErr, IfOk, OnErr}
 use Rattle.std.specs.Io.KnownBytes.{Appends, Keeps}
 use Rattle.std.proofs.KnownBytes.{Appends-kept}
 use Rattle.std.proofs.lemmas.List.{take_all}
@@ -8,7 +8,7 @@ use Rattle.stream_tool.specs.declared.writing.WriteFault.{WriteFault}
 use Rattle.stream_tool.specs.declared.writing.WriteFault.TheVariants as write
 use Rattle.term_words.specs.MessageTexts.{text_bytes}
 use Rattle.stream_record_cli.specs.Causes.{IsStatusOf, as_record_fault}
-use Rattle.stream_record_cli.specs.Outcomes.{HasOutcome, IsBegun, IsUnwritten, IsWritten, WasWritten}
+use Rattle.stream_record_cli.specs.Outcomes.{HasOutcome, IsUnwritten, WasWritten}
 use Rattle.stream_record_cli.specs.declared.command.writing.Texts.{Texts}
 use Rattle.stream_record_cli.specs.declared.record_fault.RecordFault.{RecordFault}
 use Rattle.stream_record_cli.specs.declared.record_fault.RecordFault.TheVariants as fault

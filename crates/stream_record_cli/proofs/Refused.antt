@@ -1,6 +1,6 @@
 -- Why a graph or a plan gives no waits and no script.
-use Rattle.std.proofs.Common.{◌≡◌, ◌≢◌, ◌∙◌, ℕ, List, [], length, Option, None, Some, Result, Ok, Err, ap, arith, inl, inr, ◌≤◌, refl, subst, sym}
-use Rattle.std.specs.Prelude.{IfErr, IfOk, sum_by, unwrap_or, ◌⊎◌}
+use Rattle.std.proofs.Common.{◌≡◌, ◌≢◌, ℕ, List, [], Option, Some, Ok, Err, inl, inr, refl, subst, sym}
+use Rattle.std.specs.Prelude.{unwrap_or, ◌⊎◌}
 use Rattle.apply_model.specs.Plan.ResourceChange.{ResourceChange}
 use Rattle.apply_model.specs.Plan.SavedPlan.{SavedPlan}
 use Rattle.apply_plan.specs.Plan.SavedPlan.{plan_of}

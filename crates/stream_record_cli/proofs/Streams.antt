@@ -1,6 +1,6 @@
 -- Why a stream gives no script, and which it gives.
-use Rattle.std.proofs.Common.{◌≡◌, ◌∙◌, ℕ, List, Option, None, Some, Ok, Err, ap, inl, inr, refl, subst, sym}
-use Rattle.std.specs.Prelude.{IfSome, ◌⊎◌}
+use Rattle.std.proofs.Common.{◌≡◌, ℕ, List, Option, None, Some, Ok, inl, inr, refl, subst, sym}
+use Rattle.std.specs.Prelude.{IfSome}
 use Rattle.apply_model.specs.Plan.SavedPlan.{SavedPlan}
 use Rattle.apply_plan.specs.Plan.SavedPlan.{plan_of}
 use Rattle.apply_plan_terraform.specs.Outputs.{OutputsOfPlan}
@@ -16,7 +16,7 @@ use Rattle.stream_runs.specs.declared.fault.RunFault.TheVariants as run_fault
 use Rattle.stream_record_cli.specs.Causes.{of_recording_fault, of_run_fault, of_stream_fault}
 use Rattle.stream_record_cli.specs.Graphs.{AreWaitsIn, IsWaitsFault}
 use Rattle.stream_record_cli.specs.Plans.{HasDetails, IsPlanFault}
-use Rattle.stream_record_cli.specs.Recorded.{IsOfStream, IsRecording, IsRefused, IsRefusedBehind, IsScriptOfBytes, IsScriptOfStream, IsStreamRefused}
+use Rattle.stream_record_cli.specs.Recorded.{IsOfStream, IsRecording, IsRefused, IsRefusedBehind, IsScriptOfStream, IsStreamRefused}
 use Rattle.stream_record_cli.specs.StreamsRead.{IsRead, IsReadCause, IsUnread}
 use Rattle.stream_record_cli.specs.declared.command.recording.StreamChoice.{StreamChoice}
 use Rattle.stream_record_cli.specs.declared.record_fault.RecordFault.{RecordFault}

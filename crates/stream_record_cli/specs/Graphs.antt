@@ -1,5 +1,5 @@
 -- The waits that a graph states for the steps of a plan.
-use Rattle.std.specs.Prelude.{◌≡◌, ◌⊎◌, ⊤, ℕ, List, [], Option, None, Some, Ok, Err}
+use Rattle.std.specs.Prelude.{◌≡◌, ◌⊎◌, ⊤, ℕ, List, Option, None, Some, Ok, Err}
 use Rattle.apply_model.specs.Plan.ResourceChange.{ResourceChange}
 use Rattle.input_graph.specs.AllWaits.{AreAllWaits}
 use Rattle.input_graph.specs.NamedGraph.{NamedGraph}

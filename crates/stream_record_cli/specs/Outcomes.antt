@@ -1,5 +1,5 @@
 -- What `record` writes and answers.
-use Rattle.std.specs.Prelude.{◌≡◌, ℕ, List, [], Option, Result, Ok, Err, if◌then◌else◌, take}
+use Rattle.std.specs.Prelude.{◌≡◌, ℕ, List, Option, Result, Ok, Err, if◌then◌else◌, take}
 use Rattle.std.specs.Io.KnownBytes.{Appends, Keeps}
 use Rattle.apply_model.specs.Plan.Address.{is_empty}
 use Rattle.term_words.specs.MessageTexts.{text_bytes}

@@ -1,5 +1,5 @@
 -- The script of a stream, by the bytes of the plan, the graph and the stream.
-use Rattle.std.specs.Prelude.{◌≡◌, ◌⊎◌, ⊤, ℕ, List, Option, None, Some, IfSome, Ok, Err}
+use Rattle.std.specs.Prelude.{◌≡◌, ◌⊎◌, ⊤, ℕ, List, Option, IfSome, Ok, Err}
 use Rattle.apply_model.specs.Plan.SavedPlan.{SavedPlan}
 use Rattle.apply_plan.specs.Plan.SavedPlan.{plan_of}
 use Rattle.apply_plan_terraform.specs.Outputs.{OutputsOfPlan}

@@ -1,5 +1,5 @@
 -- The nodes that a graph has for the steps of a plan.
-use Rattle.std.specs.Prelude.{ℕ, List, [], ◌∷◌, Bool, true, false}
+use Rattle.std.specs.Prelude.{List, [], ◌∷◌, Bool, true, false}
 use Rattle.std.specs.List.{flat_map}
 use Rattle.apply_model.specs.Plan.ResourceChange.{ResourceChange}
 use Rattle.apply_model.specs.Plan.StepKind.{is_kind}

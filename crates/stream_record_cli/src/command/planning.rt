@@ -1,9 +1,8 @@
 //! Reads the plan with what only Terraform's form needs of it.
 
-ghost use Rattle.std.specs.Prelude.{◌≡◌, IfErr, IfOk, Ok, Some};
+ghost use Rattle.std.specs.Prelude.{◌≡◌, IfErr, IfOk, Ok};
 ghost use Rattle.apply_plan.specs.Plan.SavedPlan.{plan_of};
 ghost use Rattle.apply_plan_terraform.specs.Outputs.{outputs_view};
-ghost use Rattle.apply_plan_terraform.specs.ReadDetails.{details_of};
 ghost use Rattle.stream_record_cli.specs.Plans.{HasDetails, IsPlanFault};
 
 use crate::record_fault::RecordFault;

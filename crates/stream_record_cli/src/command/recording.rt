@@ -3,8 +3,6 @@
 ghost use Rattle.std.specs.Prelude.{◌≡◌, ◌<◌, ◌≤◌, Err, IfErr, IfOk, IfSome, None, Some, length};
 ghost use Rattle.std.specs.Option.{ForSome, option_copied};
 ghost use Rattle.std.specs.Io.KnownBytes.{Keeps};
-ghost use Rattle.apply_plan.specs.Plan.SavedPlan.{plan_of};
-ghost use Rattle.apply_plan_terraform.specs.Outputs.{outputs_view};
 ghost use Rattle.stream_record_cli.specs.Outcomes.{HasOutcome};
 ghost use Rattle.stream_record_cli.specs.Recorded.{IsOfStream, IsRecording, IsRefused, IsScriptOfStream, IsStreamRefused};
 ghost use Rattle.stream_record_cli.specs.declared.record_fault.RecordFault.TheVariants.{Gone};

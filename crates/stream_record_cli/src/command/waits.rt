@@ -1,6 +1,6 @@
 //! The waits that a graph states.
 
-ghost use Rattle.std.specs.Prelude.{◌≡◌, ◌⊎◌, IfErr, IfOk, length};
+ghost use Rattle.std.specs.Prelude.{◌≡◌, ◌⊎◌, IfErr, IfOk};
 ghost use Rattle.input_graph.specs.AllWaits.{lists_in};
 ghost use Rattle.stream_record_cli.specs.Causes.{of_waits_fault};
 ghost use Rattle.stream_record_cli.specs.Graphs.{AreGraphWaits, IsWaitsFault};

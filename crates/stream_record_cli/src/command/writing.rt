@@ -5,7 +5,6 @@ ghost use Rattle.std.specs.Io.KnownBytes.{Appends, Keeps};
 ghost use Rattle.stream_record_cli.specs.Causes.{IsStatusOf};
 ghost use Rattle.stream_record_cli.specs.Outcomes.{WasWritten, warned_status};
 ghost use Rattle.stream_record_cli.specs.declared.record_fault.RecordFault.TheVariants.{Gone};
-ghost use Rattle.term_words.specs.MessageTexts.{text_bytes};
 
 use crate::command::refusals::refuse;
 use crate::record_fault::RecordFault;

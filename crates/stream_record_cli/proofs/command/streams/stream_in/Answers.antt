@@ -1,4 +1,4 @@
-use Rattle.std.proofs.Common.{Option, List, ℕ, Some, subst, sym}
+use Rattle.std.proofs.Common.{Option, subst, sym}
 use Rattle.std.specs.Prelude.{IfSome}
 use Rattle.std.proofs.lemmas.Result.{err_from_is_err_and}
 use Rattle.stream_runs.specs.declared.choice.RunChoice.{RunChoice}

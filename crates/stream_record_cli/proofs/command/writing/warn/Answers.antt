@@ -1,4 +1,4 @@
-use Rattle.std.proofs.Common.{◌≡◌, ℕ, List, Option, Result, Ok, Err, arith, length, subst, sym, take, ◌≤◌}
+use Rattle.std.proofs.Common.{ℕ, List, Option, Result, Ok, Err, arith, length, subst, sym, take}
 use Rattle.std.specs.Prelude.{OnErr, OnOk}
 use Rattle.std.specs.Io.KnownBytes.{Appends}
 use Rattle.std.proofs.lemmas.List.{take_all}
