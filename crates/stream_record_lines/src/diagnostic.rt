@@ -3,18 +3,21 @@
 ghost use Rattle.std.specs.Prelude.{◌≡◌, IfOk, unwrap_or};
 ghost use Rattle.std.specs.Option.{option_copied};
 ghost use Rattle.serde_json.specs.View.{view};
-ghost use Rattle.stream_record_lines.specs.JsonMembers.{if_object, is_object};
+ghost use Rattle.stream_record_lines.specs.JsonMembers.{if_object, is_object, is_shallow};
 ghost use Rattle.stream_record_lines.specs.Messages.{diagnostic_address, diagnostic_of, note_of, object_json, severity_named, text_or_empty};
 ghost use Rattle.stream_record_lines.specs.declared.event.Event.TheVariants as event_variant;
 
 use crate::event::Event;
 use crate::json_member::read_member_json;
 use crate::members::diagnostic_text;
-use apply_json::{Scratch, is_text};
+use apply_json::{Reader, Scratch, is_text, skip_value};
 use apply_json_tree::members::{member, non_empty_text_member};
 use apply_model::{Diag, Note, Severity, Text};
 use serde_json::Value;
 use std::alloc::{AllocError, Global};
+
+/// How deep a range or a snippet may nest, so that a script can repeat it everywhere.
+const MAX_NESTING: usize = 119;
 
 /// What a diagnostic states. Only errors and warnings are of use.
 pub fn diagnostic_event(
@@ -88,7 +91,7 @@ fn diagnostic_address(tree: &Value) -> Option<&str>
     non_empty_text_member(member(tree, "diagnostic")?, "address")
 }
 
-/// The JSON text of a member of `diagnostic`, if it is an object.
+/// The JSON text of a member of `diagnostic`, if it is an object that a script can repeat.
 fn object_json(
     alloc: Global,
     scratch: &mut Scratch,
@@ -103,14 +106,18 @@ fn object_json(
     let Some(json) = read_member_json(alloc, scratch, name, diagnostic.as_bytes())? else {
         return Ok(None);
     };
-    if_object(alloc, json.as_str())
+    if_object(alloc, scratch, json.as_str())
 }
 
-/// A copy of the JSON text, if it is that of an object.
-fn if_object(alloc: Global, json: &str) -> Result<Option<Text>, AllocError>
+/// A copy of the JSON text, if it is that of an object that does not nest too deep.
+fn if_object(
+    alloc: Global,
+    scratch: &mut Scratch,
+    json: &str,
+) -> Result<Option<Text>, AllocError>
     ensures { IfOk result (λ found. found ≡ if_object json.now) }
 {
-    if is_object(json) {
+    if is_object(json) && is_shallow(scratch, json)? {
         Ok(Some(Text::new(alloc, json)?))
     } else {
         Ok(None)
@@ -125,4 +132,12 @@ fn is_object(json: &str) -> bool
         Some(byte) => *byte == b'{',
         None => false,
     }
+}
+
+/// Whether the JSON text nests no deeper than a script can repeat.
+fn is_shallow(scratch: &mut Scratch, json: &str) -> Result<bool, AllocError>
+    ensures { IfOk result (λ is. is ≡ is_shallow json.now) }
+{
+    let mut reader = Reader::new(json, scratch)?;
+    Ok(skip_value(&mut reader, MAX_NESTING).is_ok())
 }
