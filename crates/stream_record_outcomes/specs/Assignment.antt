@@ -18,7 +18,7 @@ use Rattle.stream_record_outcomes.specs.declared.circumstances.Circumstances.{Ci
 use Rattle.stream_record_outcomes.specs.declared.turn.Turn.{Turn}
 use Rattle.stream_record_outcomes.specs.declared.turn.Turn.TheVariants as turn
 use Rattle.stream_record_outcomes.specs.Outcome.{is_warning}
-use Rattle.stream_record_outcomes.specs.Provisioners.{is_failed_last, last_provisioner}
+use Rattle.stream_record_outcomes.specs.Provisioners.{fails_its_step, last_provisioner}
 
 -- ---- diagnostics that are of the plan as a whole
 
@@ -75,7 +75,7 @@ fit_of_end is_default_form step begun (Completed id_key id) =
 fit_of_end is_default_form step begun Failed = Some (record {
   severity = Some Error;
   address =
-      if is_unaddressed is_default_form step.kind && not (is_failed_last (last_provisioner begun.facts)) then None
+      if is_unaddressed is_default_form step.kind && not (fails_its_step (last_provisioner begun.facts)) then None
       else Some step.change.address;
 })
 

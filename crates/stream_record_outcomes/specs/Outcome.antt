@@ -1,5 +1,5 @@
 -- The outcome of a step, as a script states it.
-use Rattle.std.specs.Prelude.{◌≡◌, ℕ, ◌-◌, ◌<◌, List, [], ◌∷◌, All, length, Bool, true, false, ◌&&◌, ◌||◌, is_none, not, if◌then◌else◌, Option, Some, None, IfSome, option_map, unwrap_or}
+use Rattle.std.specs.Prelude.{◌≡◌, ℕ, ◌-◌, ◌<◌, List, [], ◌∷◌, All, length, Bool, true, false, ◌&&◌, ◌||◌, not, if◌then◌else◌, Option, Some, None, IfSome, option_map, unwrap_or}
 use Rattle.std.specs.Option.{option_map_or}
 use Rattle.apply_model.specs.declared.details.note.Note.{Note}
 use Rattle.apply_model.specs.declared.details.note.Severity.{Severity}
@@ -19,7 +19,7 @@ use Rattle.stream_record_steps.specs.declared.begun_step.EndResult.TheVariants a
 use Rattle.stream_record_steps.specs.Steps.{PlannedStep}
 use Rattle.stream_record_outcomes.specs.declared.fate.Fate.{Fate}
 use Rattle.stream_record_outcomes.specs.declared.fate.Fate.TheVariants.{Done, Warned, Failed}
-use Rattle.stream_record_outcomes.specs.Provisioners.{ProvisionerRun, at_once, has_provisioner, is_failed_last, is_under_way, kept_runs, last_provisioner, may_provision, provisioners_of, runs_in, unknown_error}
+use Rattle.stream_record_outcomes.specs.Provisioners.{ProvisionerRun, at_once, fails_its_step, has_provisioner, kept_runs, last_provisioner, may_provision, provisioners_of, runs_in, unknown_error}
 use Rattle.stream_record_outcomes.specs.Times.{timed_facts}
 
 -- ---- whether the step was done
@@ -47,13 +47,12 @@ is_done Failed = false
 
 -- ---- which provisioners the script states
 
--- The last provisioner makes the step fail: it failed, or neither it nor the step has an end.
+-- The last provisioner makes the step fail.
 abbrev pub fails_by_provisioner : PlannedStep → BegunStep → Fate → Bool
 fails_by_provisioner step begun Done = false
 fails_by_provisioner step begun Warned = false
 fails_by_provisioner step begun Failed =
-    may_provision step && (is_failed_last (last_provisioner begun.facts)
-    || (is_none begun.end && is_under_way (last_provisioner begun.facts)))
+    may_provision step && fails_its_step (last_provisioner begun.facts)
 
 -- A step that failed otherwise has no provisioners.
 abbrev pub states_provisioners : PlannedStep → BegunStep → Fate → Bool

@@ -54,17 +54,12 @@ has_provisioner last.UnderWay = true
 has_provisioner last.Ended = true
 has_provisioner last.Failed = true
 
-abbrev pub is_failed_last : LastProvisioner → Bool
-is_failed_last last.Absent = false
-is_failed_last last.UnderWay = false
-is_failed_last last.Ended = false
-is_failed_last last.Failed = true
-
-abbrev pub is_under_way : LastProvisioner → Bool
-is_under_way last.Absent = false
-is_under_way last.UnderWay = true
-is_under_way last.Ended = false
-is_under_way last.Failed = false
+-- The last provisioner of a step that failed is why it did: it failed, or has no end.
+abbrev pub fails_its_step : LastProvisioner → Bool
+fails_its_step last.Absent = false
+fails_its_step last.UnderWay = true
+fails_its_step last.Ended = false
+fails_its_step last.Failed = true
 
 -- ---- each provisioner
 

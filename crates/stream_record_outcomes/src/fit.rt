@@ -102,7 +102,7 @@ fn fit_of_end<'a>(
             })
         },
         EndResult::Failed => {
-            let is_of_provisioner = last_provisioner(begun.facts.as_slice()).is_failed();
+            let is_of_provisioner = last_provisioner(begun.facts.as_slice()).fails_its_step();
             let is_missing = is_unaddressed && !is_of_provisioner;
             Some(Fit::error(if is_missing { None } else { address }))
         }

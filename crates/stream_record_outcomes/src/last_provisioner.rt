@@ -1,7 +1,7 @@
 //! How the last provisioner of a step stands.
 
 ghost use Rattle.std.specs.Prelude.{◌≡◌};
-ghost use Rattle.stream_record_outcomes.specs.Provisioners.{ended_with, has_provisioner, is_failed_last, is_under_way, last_after, last_provisioner};
+ghost use Rattle.stream_record_outcomes.specs.Provisioners.{ended_with, fails_its_step, has_provisioner, last_after, last_provisioner};
 
 use stream_record_steps::{Stated, StepFact};
 
@@ -25,21 +25,13 @@ impl LastProvisioner {
         }
     }
 
-    pub fn is_failed(self) -> bool
-        ensures { result ≡ is_failed_last self }
+    /// Whether it is why its step failed, if the step did: it failed, or has no end.
+    pub fn fails_its_step(self) -> bool
+        ensures { result ≡ fails_its_step self }
     {
         match self {
-            LastProvisioner::Failed => true,
-            LastProvisioner::Absent | LastProvisioner::UnderWay | LastProvisioner::Ended => false,
-        }
-    }
-
-    pub fn is_under_way(self) -> bool
-        ensures { result ≡ is_under_way self }
-    {
-        match self {
-            LastProvisioner::UnderWay => true,
-            LastProvisioner::Absent | LastProvisioner::Ended | LastProvisioner::Failed => false,
+            LastProvisioner::UnderWay | LastProvisioner::Failed => true,
+            LastProvisioner::Absent | LastProvisioner::Ended => false,
         }
     }
 

@@ -34,11 +34,9 @@ pub fn may_provision(step: &PlannedStep<'_>) -> bool
 pub fn fails_by_provisioner(step: &PlannedStep<'_>, begun: &BegunStep, fate: Fate) -> bool
     ensures { result ≡ fails_by_provisioner step.now begun.now fate }
 {
-    if !fate.is_failed() || !may_provision(step) {
-        return false;
-    }
-    let last = last_provisioner(begun.facts.as_slice());
-    last.is_failed() || begun.end.is_none() && last.is_under_way()
+    fate.is_failed()
+        && may_provision(step)
+        && last_provisioner(begun.facts.as_slice()).fails_its_step()
 }
 
 /// Whether the script states provisioners of the step.
