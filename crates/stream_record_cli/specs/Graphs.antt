@@ -2,7 +2,9 @@
 use Rattle.std.specs.Prelude.{◌≡◌, ◌⊎◌, ⊤, ℕ, List, Option, None, Some, Ok, Err}
 use Rattle.apply_model.specs.Plan.ResourceChange.{ResourceChange}
 use Rattle.input_graph.specs.AllWaits.{AreAllWaits}
+use Rattle.input_graph.specs.Circles.{AreRanked}
 use Rattle.input_graph.specs.NamedGraph.{NamedGraph}
+use Rattle.input_graph.specs.PlanEdges.{plan_edges}
 use Rattle.input_graph.specs.Reading.{graph_in}
 use Rattle.input_graph.specs.StepNodes.{names_of}
 use Rattle.input_graph.specs.WaitsRefusal.{IsRefusedFor}
@@ -14,11 +16,13 @@ use Rattle.stream_record_cli.specs.declared.graph_refusal.GraphRefusal.{GraphRef
 use Rattle.stream_record_cli.specs.declared.record_fault.RecordFault.{RecordFault}
 use Rattle.stream_record_cli.specs.declared.record_fault.RecordFault.TheVariants as fault
 
--- The waits that the graph in these bytes states, for each step of the changes.
+-- The waits that the graph in these bytes states, for each step of the changes. Its edges go in no
+-- circle.
 pub record AreGraphWaits (changes : List ResourceChange) (bytes : List ℕ) (waits : List (List ℕ)) : Type 0 where
   pub graph : NamedGraph
   pub read : graph_in bytes ≡ Ok graph
   pub are : AreAllWaits (names_of (step_nodes changes)) graph waits
+  pub ranked : AreRanked (plan_edges (step_nodes changes) graph)
 
 -- The same, where there is a graph; without one there are no waits.
 abbrev pub AreWaitsIn : List ResourceChange → (graph : Option (List ℕ)) → (waits : Option (List (List ℕ))) → Type 0

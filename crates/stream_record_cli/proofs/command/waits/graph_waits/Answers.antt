@@ -1,6 +1,8 @@
 use Rattle.std.proofs.Common.{◌∙◌, List, subst}
 use Rattle.std.proofs.lemmas.Result.{err_from_is_err_and}
 use Rattle.input_graph.specs.AllWaits.{AreAllWaits, lists_in}
+use Rattle.input_graph.specs.Circles.{AreRanked}
+use Rattle.input_graph.specs.PlanEdges.{plan_edges}
 use Rattle.input_graph.specs.StepNodes.{names_of}
 use Rattle.input_graph.specs.declared.step_node.StepNode.{StepNode}
 use Rattle.stream_record_cli.proofs.Refused.{graphless, waitless}
@@ -16,6 +18,7 @@ returns-in-Ok-clause-ok c = record {
   graph = c.in_ok-graph.graph;
   read = c.in_ok-graph.ensures.ok;
   are = subst (λ (nodes : List StepNode). AreAllWaits (names_of nodes) c.in_ok-graph.graph (lists_in c.in-Ok.waits.items)) (c.deref.ensures.value ∙ c.in_ok-nodes.ensures) c.in-Ok.ensures.ok;
+  ranked = subst (λ (nodes : List StepNode). AreRanked (plan_edges nodes c.in_ok-graph.graph)) (c.deref.ensures.value ∙ c.in_ok-nodes.ensures) c.in-Ok.ensures.ranked;
 }
 
 pub returns-clause-err : goal.returns-clause-err
