@@ -93,7 +93,7 @@ pub record IsNextTurn (basis : Basis) (course : Course) (turns : List ℕ) (turn
   pub none : end_at course turn.step ≡ None
   pub ready : ready_at basis course turn.step ≡ Some turn.at
 
-earlier_is : (a b : Option ReadyTurn) (turn : ReadyTurn) → earlier_of a b ≡ Some turn → (a ≡ Some turn) ⊎ (b ≡ Some turn)
+pub earlier_is : (a b : Option ReadyTurn) (turn : ReadyTurn) → earlier_of a b ≡ Some turn → (a ≡ Some turn) ⊎ (b ≡ Some turn)
 earlier_is None b turn is = inr is
 earlier_is (Some a) None turn is = inl is
 earlier_is (Some a) (Some b) turn is = ⊎_elim
@@ -101,7 +101,7 @@ earlier_is (Some a) (Some b) turn is = ⊎_elim
     (λ (no : is_earlier b.at a.at ≡ false). inl (sym (ap (λ t. cond t (Some b) (Some a)) no) ∙ is))
     (cases_Bool (is_earlier b.at a.at))
 
-next_is : (step : ℕ) (end : Option LaneEnd) (ready : Option LaneTime) (turn : ReadyTurn) → cond (is_some end) None (option_map (ready_turn step) ready) ≡ Some turn
+pub next_is : (step : ℕ) (end : Option LaneEnd) (ready : Option LaneTime) (turn : ReadyTurn) → cond (is_some end) None (option_map (ready_turn step) ready) ≡ Some turn
     → (end ≡ None) × (ready ≡ Some turn.at) × (turn.step ≡ step)
 next_is step (Some end) ready turn is = cc
 next_is step None None turn is = cc

@@ -7,6 +7,8 @@ pub mod Guess
 pub mod Joined
 pub mod LaneTime
 pub mod Reached
+pub mod ReadyTurns
 pub mod Recorded
 pub mod States
 pub mod Steps
+pub mod Waiters

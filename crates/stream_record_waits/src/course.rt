@@ -2,7 +2,6 @@
 
 ghost use Rattle.std.specs.Prelude.{◌≡◌, ◌==◌, ◌<◌, All, IfSome, if◌then◌else◌, length, option_map};
 ghost use Rattle.stream_record_waits.specs.LaneTime.{next_round};
-ghost use Rattle.stream_record_waits.specs.Course.{earlier_of};
 
 use crate::basis::StepBasis;
 use crate::lane_time::LaneTime;
@@ -48,7 +47,7 @@ pub struct LaneCourse {
 
 impl LaneCourse {
     ghost use Rattle.stream_record_waits.specs.Basis.{AreMarks, IsCourse, IsMark, IsSound, basis_of, course_of, most_rounds, with_further};
-    ghost use Rattle.stream_record_waits.specs.Course.{done_at, done_by, end_at, ends_later, first_ready, later_if_both, next_of, pin_at, ready_at};
+    ghost use Rattle.stream_record_waits.specs.Course.{done_at, done_by, end_at, ends_later, later_if_both, next_of, pin_at, ready_at};
 
     /// When the step is done.
     fn done(&self, basis: &StepBasis<'_>, step: usize) -> Option<LaneTime>
@@ -159,7 +158,7 @@ impl LaneCourse {
     }
 
     /// The turn that begins with a step, if it has not started and is ready at some time.
-    fn next_of(
+    pub(crate) fn next_of(
         &self,
         basis: &StepBasis<'_>,
         marks: &mut Vec<Mark>,
@@ -177,46 +176,5 @@ impl LaneCourse {
         }
         let at = self.ready(basis, marks, step)?;
         Some(ReadyTurn { step, at })
-    }
-
-    /// The turn that is ready first, of these that have not started.
-    pub(crate) fn first_ready(
-        &self,
-        basis: &StepBasis<'_>,
-        marks: &mut Vec<Mark>,
-        turns: &[usize],
-    ) -> Option<ReadyTurn>
-        requires sound { IsSound (basis_of basis.now) }
-        requires course { IsCourse (basis_of basis.now) most_rounds (course_of self.now) }
-        requires marks { AreMarks (basis_of basis.now) (course_of self.now) marks.old.items }
-        requires turns { All (λ step. step < length basis.now.steps.now) turns.now }
-        ensures marks { AreMarks (basis_of basis.now) (course_of self.now) marks.new.items }
-        ensures first { result ≡ first_ready (basis_of basis.now) (course_of self.now) turns.now }
-    {
-        let mut first = None;
-        let mut left = turns.len();
-        while left > 0 {
-            left -= 1;
-            let next = self.next_of(basis, marks, turns[left]);
-            first = earlier_of(next, first);
-        }
-        first
-    }
-}
-
-/// The earlier of two ready turns. Of two at the same time it is the first.
-fn earlier_of(first: Option<ReadyTurn>, second: Option<ReadyTurn>) -> Option<ReadyTurn>
-    ensures { result ≡ earlier_of first second }
-{
-    match (first, second) {
-        (Some(a), Some(b)) => {
-            if b.at.is_earlier(a.at) {
-                Some(b)
-            } else {
-                Some(a)
-            }
-        }
-        (Some(a), None) => Some(a),
-        (None, b) => b,
     }
 }

@@ -8,7 +8,7 @@ ghost use Rattle.stream_record_waits.specs.Behind.{AreBehind};
 ghost use Rattle.stream_record_waits.specs.Basis.{IsSound, basis_of};
 ghost use Rattle.stream_record_waits.specs.Course.{pinned_waits};
 ghost use Rattle.stream_record_waits.specs.Graph.{AreWaitsOf, count_of};
-ghost use Rattle.stream_record_waits.specs.Recorded.{AreRecordedWaits, AreSoundWaits, HasTooMany, graph_in, max_waits, no_waits};
+ghost use Rattle.stream_record_waits.specs.Recorded.{AreRecordedWaits, AreSoundWaits, HasTooMany, graph_in, max_waits};
 ghost use Rattle.stream_record_waits.specs.States.{states_of};
 ghost use Rattle.stream_record_waits.specs.Steps.{lists_in};
 
@@ -20,6 +20,7 @@ use crate::graph_waits::graph_waits;
 use crate::guess::waits_without_graph;
 use crate::joined::{joined_by_graph, joined_by_lines};
 use crate::limits::MAX_WAITS;
+use crate::no_waits::no_waits;
 use crate::pins::with_pins;
 use crate::schedule::schedule;
 use crate::states::states_of;
@@ -149,17 +150,6 @@ fn pinned_waits(
 {
     let course = schedule(alloc, basis, lanes)?;
     with_pins(alloc, basis, &course)
-}
-
-/// So many lists of no wait. `Err` where memory is refused.
-fn no_waits(alloc: Global, count: usize) -> Result<Vec<Vec<usize>>, AllocError>
-    ensures { IfOk result (λ waits. lists_in waits.items ≡ no_waits count) }
-{
-    let mut waits = Vec::with_capacity(alloc, count)?;
-    for _step in 0..count {
-        waits.push(Vec::new(alloc))?;
-    }
-    Ok(waits)
 }
 
 /// Whether there are at most 1,000,000 waits.

@@ -1,13 +1,15 @@
 //! The rounds of a schedule.
 
-ghost use Rattle.std.specs.Prelude.{◌≡◌, ◌+◌, ◌*◌, ◌<◌, ◌≤◌, ◌^◌, All, Some, length, true, false, ℕ};
-ghost use Rattle.stream_record_waits.specs.Basis.{AreMarks, IsCourse, IsSound, IsWithin, basis_of, course_of, most_rounds};
-ghost use Rattle.stream_record_waits.specs.Course.{after_next, end_at, first_ready, is_put_back, with_end, with_next, with_turn};
+ghost use Rattle.std.specs.Prelude.{◌≡◌, ◌<◌, ◌≤◌, ◌^◌, length, option_map};
+ghost use Rattle.stream_record_waits.specs.Basis.{IsCourse, IsSound, basis_of, course_of, most_rounds};
+ghost use Rattle.stream_record_waits.specs.Course.{after_round, first_ready, is_put_back, turns_of, with_end, with_next, with_turn};
+ghost use Rattle.stream_record_waits.specs.ReadyTurns.{AreReadyTurns};
 
 use crate::basis::StepBasis;
-use crate::course::{LaneCourse, LaneEnd, Mark};
+use crate::course::{LaneCourse, LaneEnd};
 use crate::first_earliest::first_earliest;
 use crate::lane_time::LaneTime;
+use crate::ready_turns::ReadyTurns;
 
 impl LaneCourse {
     /// A step ends then and there, and the lane is then free.
@@ -71,27 +73,18 @@ impl LaneCourse {
     }
 
     /// One round: the turn that is ready first is put back, or starts in the lane that is free
-    /// first. Returns whether a turn was ready.
-    pub(crate) fn round(
-        &mut self,
-        basis: &StepBasis<'_>,
-        marks: &mut Vec<Mark>,
-        turns: &[usize],
-    ) -> bool
+    /// first. Returns the step with which it begins, if a turn was ready.
+    pub(crate) fn round(&mut self, basis: &StepBasis<'_>, turns: &ReadyTurns) -> Option<usize>
         requires sound { IsSound (basis_of basis.now) }
         requires course { IsCourse (basis_of basis.now) most_rounds (course_of self.old) }
-        requires marks { AreMarks (basis_of basis.now) (course_of self.old) marks.old.items }
-        requires turns { All (λ step. step < length basis.now.steps.now) turns.now }
-        ensures course { course_of self.new ≡ after_next (basis_of basis.now) (course_of self.old) (first_ready (basis_of basis.now) (course_of self.old) turns.now) }
-        ensures marks { AreMarks (basis_of basis.now) (course_of self.new) marks.new.items }
-        ensures ended { result ≡ false → course_of self.new ≡ course_of self.old }
+        requires turns { AreReadyTurns (basis_of basis.now) (course_of self.old) turns.now }
+        ensures course { course_of self.new ≡ after_round (basis_of basis.now) (course_of self.old) }
+        ensures step { result ≡ option_map (λ turn. turn.step) (first_ready (basis_of basis.now) (course_of self.old) (turns_of (basis_of basis.now))) }
     {
-        let Some(turn) = self.first_ready(basis, marks, turns) else {
-            return false;
-        };
+        let turn = turns.first()?;
         let lane = first_earliest(self.free.as_slice());
         let begin = turn.at.later_of(self.free[lane]);
         self.go_on(basis, turn.step, begin, lane);
-        true
+        Some(turn.step)
     }
 }

@@ -2,12 +2,13 @@
 
 ghost use Rattle.std.specs.Prelude.{◌≡◌, ◌<◌, ◌^◌, IfOk, length, map, ℕ};
 ghost use Rattle.stream_record_waits.specs.Basis.{IsSound, basis_of, course_of, first_mark};
-ghost use Rattle.stream_record_waits.specs.Course.{first_course, schedule, seconds_at, turns_of};
+ghost use Rattle.stream_record_waits.specs.Course.{first_course, schedule, seconds_at};
 ghost use Rattle.stream_record_waits.specs.Steps.{lists_in};
 
 use crate::basis::StepBasis;
 use crate::course::{LaneCourse, Mark};
 use crate::lane_time::LaneTime;
+use crate::waiters::waiters_of;
 use std::alloc::{AllocError, Global};
 
 /// The schedule in so many lanes. `Err` where memory is refused.
@@ -22,14 +23,15 @@ pub(crate) fn schedule(
     ensures pinned { IfOk result (λ course. length course.pinned.items ≡ length basis.now.steps.now) }
 {
     seconds_are_short(basis);
-    let turns = turns_of(alloc, basis)?;
+    let waiters = waiters_of(alloc, basis)?;
     let mut marks = first_marks(alloc, basis.after)?;
     let mut course = first_course(alloc, basis.steps.len(), lanes)?;
+    let mut turns = course.ready_turns(alloc, basis, &mut marks)?;
     for round in 0..2 * basis.steps.len() {
-        let goes_on = course.round(basis, &mut marks, turns.as_slice());
-        if !goes_on {
+        let Some(step) = course.round(basis, &turns) else {
             return Ok(course);
-        }
+        };
+        course.renew_after(basis, waiters.as_slice(), &mut marks, &mut turns, step);
     }
     Ok(course)
 }
@@ -52,20 +54,6 @@ fn first_course(alloc: Global, count: usize, lanes: u8) -> Result<LaneCourse, Al
         free: vec![in alloc; LaneTime::first(); lanes as usize]?,
         pinned: vec![in alloc; false; count]?,
     })
-}
-
-/// The steps with which turns begin.
-fn turns_of(alloc: Global, basis: &StepBasis<'_>) -> Result<Vec<usize>, AllocError>
-    requires { IsSound (basis_of basis.now) }
-    ensures { IfOk result (λ turns. turns.items ≡ turns_of (basis_of basis.now)) }
-{
-    let mut turns = Vec::new(alloc);
-    for step in 0..basis.steps.len() {
-        if basis.begins_turn(step) {
-            turns.push(step)?;
-        }
-    }
-    Ok(turns)
 }
 
 /// The mark of each step before the first round.

@@ -1,12 +1,15 @@
-use Rattle.std.proofs.Common.{◌≡◌, ◌∙◌, ◌<◌, ◌≤◌, ◌^◌, List, ap, arith, get_or, length, subst, sym, ℕ}
+use Rattle.std.proofs.Common.{◌≡◌, ◌∙◌, ◌<◌, ◌≤◌, ◌^◌, List, ap, arith, get_or, length, subst, sym, true, ℕ}
+use Rattle.std.specs.Prelude.{option_map}
 use Rattle.std.proofs.lemmas.List.{get_or_read}
 use Rattle.std.proofs.lemmas.List.Elements.{All-contains}
+use Rattle.stream_record_waits.specs.declared.course.ReadyTurn.{ReadyTurn}
 use Rattle.stream_record_waits.specs.declared.lane_time.LaneTime.{LaneTime}
-use Rattle.stream_record_waits.specs.Basis.{AreMarks, basis_of, course_of, most_rounds}
-use Rattle.stream_record_waits.specs.Course.{Course, after_next, with_next}
+use Rattle.stream_record_waits.specs.Basis.{basis_of, course_of, most_rounds}
+use Rattle.stream_record_waits.specs.Course.{after_next, begins_turn, turns_of, with_next}
 use Rattle.stream_record_waits.specs.LaneTime.{first_earliest, first_lane_time, later_of}
-use Rattle.stream_record_waits.proofs.AfterRound.{marks_stay, next_stays, next_turn}
-use Rattle.stream_record_waits.proofs.InTime.{begin_below, first_earliest_lt}
+use Rattle.stream_record_waits.proofs.AfterRound.{next_turn}
+use Rattle.stream_record_waits.proofs.FirstReady.{first_is_ready}
+use Rattle.stream_record_waits.proofs.InTime.{begin_below, first_earliest_lt, turns_known}
 use Rattle.stream_record_waits.proofs.course.LaneCourse.round.Goals as goal
 
 lane_fits : (free slice : List LaneTime) (lane : ℕ) → slice ≡ free → lane ≡ first_earliest slice → 0 < length free → lane < length free
@@ -24,8 +27,10 @@ index-requires c =
 
 pub go_on-requires-clause-step : goal.go_on-requires-clause-step
 go_on-requires-clause-step c =
-    let next = next_turn (basis_of c.args.basis.now) (course_of c.args.self.now) c.args.turns.now c.in-Some.turn (sym c.in-Some.ensures.first) in
-    All-contains (λ step. step < length c.args.basis.now.steps.now) c.args.turns.now c.in-Some.turn.step c.requires.turns next.among
+    let basis = basis_of c.args.basis.now in
+    let course = course_of c.args.self.now in
+    let next = next_turn basis course (turns_of basis) c.in_ok-turn.turn (sym (first_is_ready basis course c.args.turns.now c.requires.turns c.first.result c.first.ensures) ∙ c.in_ok-turn.was) in
+    (All-contains (λ step. (step < length basis.steps) × (begins_turn basis step ≡ true)) (turns_of basis) c.in_ok-turn.turn.step (turns_known basis) next.among).0
 
 pub go_on-requires-clause-lane : goal.go_on-requires-clause-lane
 go_on-requires-clause-lane c =
@@ -35,11 +40,11 @@ pub go_on-requires-clause-begin : goal.go_on-requires-clause-begin
 go_on-requires-clause-begin c =
     let basis = basis_of c.args.basis.now in
     let course = course_of c.args.self.now in
-    let next = next_turn basis course c.args.turns.now c.in-Some.turn (sym c.in-Some.ensures.first) in
-    let low = begin_below basis most_rounds course c.requires.course c.args.turns.now c.in-Some.turn next in
+    let next = next_turn basis course (turns_of basis) c.in_ok-turn.turn (sym (first_is_ready basis course c.args.turns.now c.requires.turns c.first.result c.first.ensures) ∙ c.in_ok-turn.was) in
+    let low = begin_below basis most_rounds course c.requires.course (turns_of basis) c.in_ok-turn.turn next in
     let at = at_lane c.args.self.now.free.items c.as_slice.result.now c.first_earliest-lane.result c.index.result.now c.as_slice.ensures.value c.first_earliest-lane.ensures c.requires.course.lanes c.index.ensures in
-    let is : c.later_of-begin.result ≡ later_of c.in-Some.turn.at (get_or c.args.self.now.free.items (first_earliest c.args.self.now.free.items) first_lane_time) =
-    c.later_of-begin.ensures ∙ ap (later_of c.in-Some.turn.at) at in
+    let is : c.later_of-begin.result ≡ later_of c.in_ok-turn.turn.at (get_or c.args.self.now.free.items (first_earliest c.args.self.now.free.items) first_lane_time) =
+    c.later_of-begin.ensures ∙ ap (later_of c.in_ok-turn.turn.at) at in
     let few = low.0 in
     subst (λ (m : LaneTime). m.second ≤ 2 ^ 60) (sym is) (omega (arith, few))
 
@@ -48,19 +53,23 @@ returns-clause-course c =
     let basis = basis_of c.args.basis.now in
     let course = course_of c.args.self.now in
     let free = c.args.self.now.free.items in
-    let turn = c.in-Some.turn in
+    let turn = c.in_ok-turn.turn in
     let at = at_lane free c.as_slice.result.now c.first_earliest-lane.result c.index.result.now c.as_slice.ensures.value c.first_earliest-lane.ensures c.requires.course.lanes c.index.ensures in
     c.go_on.ensures
     ∙ ap (λ (m : LaneTime). with_next basis course m c.first_earliest-lane.result turn.step) (c.later_of-begin.ensures ∙ ap (later_of turn.at) at)
     ∙ ap (λ (lane : ℕ). with_next basis course (later_of turn.at (get_or free (first_earliest free) first_lane_time)) lane turn.step) (c.first_earliest-lane.ensures ∙ ap first_earliest c.as_slice.ensures.value)
-    ∙ ap (after_next basis course) c.in-Some.ensures.first
+    ∙ ap (after_next basis course) (sym c.in_ok-turn.was ∙ first_is_ready basis course c.args.turns.now c.requires.turns c.first.result c.first.ensures)
 
-pub returns-clause-marks : goal.returns-clause-marks
-returns-clause-marks c =
-    let basis = basis_of c.args.basis.now in
-    let course = course_of c.args.self.now in
-    let next = next_turn basis course c.args.turns.now c.in-Some.turn (sym c.in-Some.ensures.first) in
-    subst (λ (new : Course). AreMarks basis new c.first_ready.new.marks.items) (sym c.go_on.ensures)
-    (marks_stay basis course (with_next basis course c.later_of-begin.result c.first_earliest-lane.result c.in-Some.turn.step)
-    (next_stays basis course c.later_of-begin.result c.first_earliest-lane.result c.in-Some.turn.step next.none (c.requires.course.follow c.in-Some.turn.step next.none))
-    c.first_ready.new.marks.items c.in-Some.ensures.marks)
+pub returns-clause-step : goal.returns-clause-step
+returns-clause-step c =
+    ap (option_map (λ (turn : ReadyTurn). turn.step)) (sym c.in_ok-turn.was ∙ first_is_ready (basis_of c.args.basis.now) (course_of c.args.self.now) c.args.turns.now c.requires.turns c.first.result c.first.ensures)
+
+pub returns-in_err-turn-clause-course : goal.returns-in_err-turn-clause-course
+returns-in_err-turn-clause-course c =
+    ap (after_next (basis_of c.args.basis.now) (course_of c.args.self.now))
+    (sym c.in_err-turn.was ∙ first_is_ready (basis_of c.args.basis.now) (course_of c.args.self.now) c.args.turns.now c.requires.turns c.first.result c.first.ensures)
+
+pub returns-in_err-turn-clause-step : goal.returns-in_err-turn-clause-step
+returns-in_err-turn-clause-step c =
+    c.from_residual.ensures
+    ∙ ap (option_map (λ (turn : ReadyTurn). turn.step)) (sym c.in_err-turn.was ∙ first_is_ready (basis_of c.args.basis.now) (course_of c.args.self.now) c.args.turns.now c.requires.turns c.first.result c.first.ensures)
