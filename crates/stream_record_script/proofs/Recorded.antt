@@ -1,5 +1,5 @@
 -- What is known once each part of the work is done.
-use Rattle.std.proofs.Common.{◌≡◌, ◌∙◌, ◌+◌, ℕ, ◌++◌, [], ◌∷◌, List, Option, ap, length, refl, subst, sym}
+use Rattle.std.proofs.Common.{◌≡◌, ◌∙◌, ◌+◌, ◌≤◌, ℕ, ◌++◌, [], ◌∷◌, List, Option, ap, length, refl, subst, sym}
 use Rattle.std.specs.Prelude.{◌≢◌, Err, Result, suc}
 use Rattle.std.specs.List.{filter_map, flat_map}
 use Rattle.apply_model.specs.declared.details.note.Note.{Note}
@@ -22,7 +22,8 @@ use Rattle.stream_record_waits.specs.declared.step_of_plan.StepOfPlan.{StepOfPla
 use Rattle.stream_record_waits.specs.declared.step_state.StepState.{StepState}
 use Rattle.stream_record_waits.specs.declared.waits_fault.WaitsFault.{WaitsFault}
 use Rattle.stream_record_waits.specs.declared.waits_fault.WaitsFault.TheVariants as waits
-use Rattle.stream_record_waits.specs.Recorded.{AreRecordedWaits, AreSoundWaits, HasTooMany}
+use Rattle.stream_record_waits.specs.Graph.{count_of}
+use Rattle.stream_record_waits.specs.Recorded.{AreRecordedWaits, AreSoundWaits, HasTooMany, max_waits}
 use Rattle.stream_record_waits.specs.States.{states_of}
 use Rattle.stream_record_warnings.specs.StepWarnings.{step_warnings}
 use Rattle.stream_record_warnings.specs.StreamWarnings.{stream_warnings}
@@ -128,7 +129,7 @@ module _ (read : PlanRead) (graph : Option (List (List ℕ))) (wishes : Wishes) 
   unwaited waits.TooMany why = too_many (why (λ is. cc))
   unwaited waits.Memory why = tt
 
-  module _ (after early : List (List ℕ)) (found : AreRecordedWaits steps graph choices after early) (sound : AreSoundWaits steps after)
+  module _ (after early : List (List ℕ)) (found : AreRecordedWaits steps graph choices after early) (sound : AreSoundWaits steps after) (few : count_of after early ≤ max_waits)
       (states : List StepState) (states_are : states ≡ states_of steps after)
       (stated : OutcomeMap) (stated_is : stated ≡ script_of read.plan.changes recorded states after)
       (outputs : List script_output.Output.Output) (outputs_are : outputs ≡ script_outputs read.outputs stream.outputs)
@@ -156,6 +157,7 @@ module _ (read : PlanRead) (graph : Option (List (List ℕ))) (wishes : Wishes) 
           subst (λ (all : List StepOfPlan). AreRecordedWaits all graph (choices_of read wishes stream) after early) are.steps_are
           (subst (λ (chosen : Choices). AreRecordedWaits steps graph chosen after early) are.choices_are found);
       sound = subst (λ (all : List StepOfPlan). AreSoundWaits all after) are.steps_are sound;
+      few = few;
       text = sym text_is ∙ is;
       warned =
           warnings_are

@@ -1,5 +1,5 @@
 -- The script of a stream, and the warnings of what it does not say.
-use Rattle.std.specs.Prelude.{◌≡◌, ⊤, ℕ, ◌++◌, List, Bool, true, false, not, ◌&&◌, is_none, Option, Result, Err}
+use Rattle.std.specs.Prelude.{◌≡◌, ◌≤◌, ⊤, ℕ, ◌++◌, List, Bool, true, false, not, ◌&&◌, is_none, Option, Result, Err}
 use Rattle.std.specs.Option.{option_map_or}
 use Rattle.apply_model.specs.declared.details.note.Note.{Note}
 use Rattle.apply_model.specs.Plan.SavedPlan.{SavedPlan}
@@ -14,7 +14,8 @@ use Rattle.stream_record_outcomes.specs.declared.recorded_step.RecordedStep.{Rec
 use Rattle.stream_record_outcomes.specs.Recording.{notes_of_no_step, recorded_steps}
 use Rattle.stream_record_stream.specs.Streams.{StreamRead, cut_off_at, has_error}
 use Rattle.stream_record_waits.specs.declared.choices.Choices.{Choices}
-use Rattle.stream_record_waits.specs.Recorded.{AreRecordedWaits, AreSoundWaits, HasTooMany}
+use Rattle.stream_record_waits.specs.Graph.{count_of}
+use Rattle.stream_record_waits.specs.Recorded.{AreRecordedWaits, AreSoundWaits, HasTooMany, max_waits}
 use Rattle.stream_record_waits.specs.States.{states_of}
 use Rattle.stream_record_warnings.specs.StepWarnings.{step_warnings}
 use Rattle.stream_record_warnings.specs.StreamWarnings.{stream_warnings}
@@ -92,6 +93,7 @@ pub record IsRecorded (read : PlanRead) (graph : Option (List (List ℕ))) (wish
   pub early : List (List ℕ)
   pub waits : AreRecordedWaits (steps_of_plan stream.begun (steps_in read stream)) graph (choices_of read wishes stream) after early
   pub sound : AreSoundWaits (steps_of_plan stream.begun (steps_in read stream)) after
+  pub few : count_of after early ≤ max_waits
   pub text : text_with read stream after ≡ made
   pub warned : warnings ≡ warnings_with read wishes stream early
 

@@ -92,7 +92,7 @@ returns-in_err-script-2-clause-err c =
     let same_loose = ap (script_within changes c.deref-12.result.now c.deref-13.result.now) (c.deref-3.ensures.value ∙ sym c.deref-14.ensures.value) in
     let p = err_from_is_err_and c.from_residual-in_err-script-2.result c.from_residual-in_err-script-2.ensures.1 in
     rw (p.1, p.2)
-    (unmade read graph wishes stream recorded loose steps choices are after early found.waits found.sound states (c.deref-10.ensures.value ∙ found.states)
+    (unmade read graph wishes stream recorded loose steps choices are after early found.waits found.sound found.most states (c.deref-10.ensures.value ∙ found.states)
     c.deref-12.result.now script c.deref-13.result.now outputs (text_bytes c.in_ok-warnings.warnings) warnings
     _ (λ named. same_loose ∙ c.in_err-script-2.ensures.err named))
 
@@ -127,6 +127,6 @@ returns-clause-ok c =
     (map now c.deref-7.result.now) (text_bytes c.in_ok-warnings.warnings) (c.deref-5.ensures.value ∙ sym c.deref-2.ensures.value)
     (ap lists_in c.deref-6.ensures.value) (ap (map now) c.deref-7.ensures.value ∙ c.in_ok-split.ensures.unknown) c.in_ok-warnings.ensures in
     let same_loose = ap (script_within changes c.deref-12.result.now c.deref-13.result.now) (c.deref-3.ensures.value ∙ sym c.deref-14.ensures.value) in
-    made read graph wishes stream recorded loose steps choices are after early found.waits found.sound states (c.deref-10.ensures.value ∙ found.states)
+    made read graph wishes stream recorded loose steps choices are after early found.waits found.sound found.most states (c.deref-10.ensures.value ∙ found.states)
     c.deref-12.result.now script c.deref-13.result.now outputs (text_bytes c.in_ok-warnings.warnings) warnings
     (Ok (text_bytes c.in_ok-script-2.script)) (same_loose ∙ c.in_ok-script-2.ensures.ok)
