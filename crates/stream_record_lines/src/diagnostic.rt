@@ -110,11 +110,7 @@ fn object_json(
 }
 
 /// A copy of the JSON text, if it is that of an object that does not nest too deep.
-fn if_object(
-    alloc: Global,
-    scratch: &mut Scratch,
-    json: &str,
-) -> Result<Option<Text>, AllocError>
+fn if_object(alloc: Global, scratch: &mut Scratch, json: &str) -> Result<Option<Text>, AllocError>
     ensures { IfOk result (λ found. found ≡ if_object json.now) }
 {
     if is_object(json) && is_shallow(scratch, json)? {
