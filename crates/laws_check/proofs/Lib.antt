@@ -50,7 +50,7 @@ mod LeftOut
 pub mod Legible
 pub mod LinesAccepted
 pub mod LookUps
-mod MemberLists
+pub mod MemberLists
 pub mod Moves
 pub mod NumberTexts
 pub mod ObjectsBack
