@@ -1,9 +1,8 @@
--- The script of what was recorded may be written.
-use Rattle.std.proofs.Common.{◌≡◌, ◌∙◌, ◌+◌, ◌-◌, ◌<◌, ◌≤◌, ℕ, suc, Bool, true, false, cond, eqb, List, [], drop, length, Option, None, Some, refl, sym, ap, arith, subst, ◌⊎◌, inl, inr, ⊎_elim}
+-- A script may be written if its waits are ranked, and the first step of each change is stated.
+use Rattle.std.proofs.Common.{◌≡◌, ◌∙◌, ◌+◌, ◌-◌, ◌<◌, ◌≤◌, ℕ, suc, Bool, true, false, cond, List, [], drop, length, Option, None, Some, refl, sym, ap, arith, subst, ◌⊎◌, inl, inr, ⊎_elim}
 use Rattle.std.specs.Prelude.{IfSome, is_some, option_and_then, option_map, slice_get, sum_by}
 use Rattle.std.specs.List.{AllByRecursion, Contains}
-use Rattle.std.specs.Option.{option_flatten}
-use Rattle.std.proofs.lemmas.Bool.{eq-eqb, lt-ltb, ne_eqb}
+use Rattle.std.proofs.lemmas.Bool.{lt-ltb, ne_eqb}
 use Rattle.std.proofs.lemmas.List.{length-map}
 use Rattle.std.proofs.lemmas.List.FromFn.{length-map-range_with_len}
 use Rattle.std.proofs.lemmas.Option.{slice_get_within, unwrap_or-slice_get}
@@ -13,7 +12,7 @@ use Rattle.apply_model.specs.declared.script.script_step.ScriptStep.TheVariants.
 use Rattle.apply_model.specs.declared.script.wait.Wait.{Wait}
 use Rattle.apply_model.specs.Plan.ResourceChange.{ResourceChange}
 use Rattle.apply_model.specs.Script.Limits.{max_waits}
-use Rattle.apply_model.specs.Script.OutcomeMap.{OutcomeMap, stated_step}
+use Rattle.apply_model.specs.Script.OutcomeMap.{stated_step}
 use Rattle.apply_model.specs.Script.Step.{after_of, answer_to}
 use Rattle.apply_model.specs.Script.Waits.{could_begin, named_for}
 use Rattle.apply_plan.specs.Script.Refusals.{misplaces_provisioners, warns_not_a_read}
@@ -21,30 +20,22 @@ use Rattle.stream_record.specs.EvenScript as even
 use Rattle.stream_record.specs.EvenScript.{even_step, steps_at}
 use Rattle.stream_record.specs.ScriptText.{entry_steps, unless_no_steps, waited_change, with_step}
 use Rattle.stream_record_outcomes.specs.declared.recorded_step.RecordedStep.{RecordedStep}
-use Rattle.stream_record_outcomes.specs.Outcome.{IsAllowed}
 use Rattle.stream_record_outcomes.specs.Recording.{AreAllowed}
-use Rattle.stream_record_steps.specs.Begun.{Begun}
 use Rattle.stream_record_steps.specs.Steps.{PlannedStep, planned_steps}
-use Rattle.stream_record_waits.specs.declared.step_of_plan.StepOfPlan.{StepOfPlan}
 use Rattle.stream_record_waits.specs.declared.step_state.StepState.{StepState}
 use Rattle.stream_record_waits.specs.declared.step_state.StepState.TheVariants as state
 use Rattle.stream_record_waits.specs.Graph.{waits_at}
-use Rattle.stream_record_waits.specs.States.{state_at, states_of}
-use Rattle.stream_record_waits.specs.Steps.{step_at, step_before}
-use Rattle.stream_record_script.specs.Runs.{steps_of_plan}
 use Rattle.stream_record_script.specs.Steps.{first_steps, script_of, script_step, script_steps}
+use Rattle.laws_recorded.specs.Graphs.{IsRankedGraph}
 use Rattle.laws_recorded.specs.Texts.{IsWritableRecording}
 use Rattle.laws_record.specs.Writable.{HasStep, IsWritable, IsWritableChange, IsWritableEntry, IsWritableStep, NamesEachObjectOnce, written}
 use Rattle.laws_recorded.proofs.Counts.{few_at, few_found, few_waits}
 use Rattle.laws_recorded.proofs.Items.{as_many_changes, change_steps, few_steps, item_in, step_item}
 use Rattle.laws_recorded.proofs.Outcomes.{only_reads, outcome_at, outcome_is, well_placed}
-use Rattle.laws_recorded.proofs.PlaceRanks.{AreRanked}
 use Rattle.laws_recorded.proofs.Places.{IsOfChange, at_most_two, base, planned_at, stands_from}
 use Rattle.laws_recorded.proofs.Planned.{of_number, same_planned, wait_at, wait_of, waited}
 use Rattle.laws_recorded.proofs.Ranked.{WaitsLower, could}
-use Rattle.laws_recorded.proofs.RunOrder.{as_many, has_run, step_there}
-use Rattle.laws_recorded.proofs.Stated.{all_pointwise, at_all, entries_from, item_there, named_in, neither, none_passes, same_step, stated_in, unless_none_is}
-use Rattle.laws_recorded.proofs.StatesOf.{began, first_stated, state_in}
+use Rattle.laws_recorded.proofs.Stated.{all_pointwise, at_all, entries_from, item_there, named_in, none_passes, same_step, stated_in, unless_none_is}
 
 -- ---- what an item is
 
@@ -61,13 +52,6 @@ stated_as state.Answered found after step is = let same : step ≡ even_step aft
 stated_as state.Skipped found after step is = let same : step ≡ Skipped after = cc in inr (inr same)
 stated_as state.Absent found after step is = absurd cc
 
-none_stated : (now : StepState) (found : Option RecordedStep) (after : List Wait) → None ≡ script_step now found after → ((now ≡ state.Began) × (found ≡ None)) ⊎ (now ≡ state.Absent)
-none_stated state.Began None after is = inl (refl, refl)
-none_stated state.Began (Some one) after is = absurd cc
-none_stated state.Answered found after is = absurd cc
-none_stated state.Skipped found after is = absurd cc
-none_stated state.Absent found after is = inr refl
-
 even_is_writable : (after : List Wait) → length after ≤ max_waits → IsWritableStep (even_step after)
 even_is_writable after few = record {
   bounded = record { short = omega arith; few_provisioners = omega arith; little_output = λ k d less. absurd (omega arith); few_waits = few };
@@ -79,21 +63,22 @@ even_is_writable after few = record {
 -- ---- the script
 
 -- the waits of the step at a place
-abbrev waits_for : List ResourceChange → (after : List (List ℕ)) → (place : ℕ) → List Wait
+abbrev pub waits_for : List ResourceChange → (after : List (List ℕ)) → (place : ℕ) → List Wait
 waits_for changes after place = steps_at (even.planned_steps changes) (even.waits_at after place)
 
-abbrev items_for : List ResourceChange → Begun → List (Option RecordedStep) → (after : List (List ℕ)) → List (Option ScriptStep)
-items_for changes begun recorded after = script_steps (even.planned_steps changes) after 0 recorded (states_of (steps_of_plan begun recorded) after)
+-- an item for each step of the plan
+abbrev pub items_of : List ResourceChange → List (Option RecordedStep) → List StepState → (after : List (List ℕ)) → List (Option ScriptStep)
+items_of changes recorded states after = script_steps (even.planned_steps changes) after 0 recorded states
 
-abbrev script_for : List ResourceChange → Begun → List (Option RecordedStep) → (after : List (List ℕ)) → OutcomeMap
-script_for changes begun recorded after = script_of changes recorded (states_of (steps_of_plan begun recorded) after) after
+-- the first step of each change is stated
+abbrev pub AreFirstStated : List ResourceChange → List (Option ScriptStep) → Type 0
+AreFirstStated changes items =
+    (c : ℕ) (change : ResourceChange) → slice_get changes c ≡ Some change → 0 < length change.steps → slice_get items (base changes c) ≡ Some None → ⊥
 
-module _ (changes : List ResourceChange) (each : AllByRecursion IsWritableChange changes) (once : NamesEachObjectOnce changes) (begun : Begun) (planned_is : begun.planned ≡ planned_steps changes)
-    (recorded : List (Option RecordedStep)) (allowed : AreAllowed begun.planned recorded) (writable : AllByRecursion IsWritableRecording recorded)
-    (after : List (List ℕ)) (few : sum_by length after ≤ max_waits) (ranks : AreRanked (steps_of_plan begun recorded) after) where
-  many : length (steps_of_plan begun recorded) ≡ length (planned_steps changes)
-  many = as_many begun recorded begun.planned 0 ∙ ap length planned_is
-
+module _ (changes : List ResourceChange) (each : AllByRecursion IsWritableChange changes) (once : NamesEachObjectOnce changes)
+    (recorded : List (Option RecordedStep)) (states : List StepState) (allowed : AreAllowed (planned_steps changes) recorded) (writable : AllByRecursion IsWritableRecording recorded)
+    (after : List (List ℕ)) (few : sum_by length after ≤ max_waits) (ranks : IsRankedGraph (planned_steps changes) after)
+    (first_there : AreFirstStated changes (items_of changes recorded states after)) where
   few_for : (place : ℕ) → length (waits_for changes after place) ≤ max_waits
   few_for place = omega (arith, few_found (even.planned_steps changes) (even.waits_at after place), few_at after place, few)
 
@@ -101,47 +86,6 @@ module _ (changes : List ResourceChange) (each : AllByRecursion IsWritableChange
   few_kinds c change at = (at_all IsWritableChange changes c change each at).few
 
   -- ---- items
-
-  pub record HasItem (place : ℕ) (item : Option ScriptStep) : Type 0 where
-    pub found : Option RecordedStep
-    pub found_at : slice_get recorded place ≡ Some found
-    pub within : place < length (steps_of_plan begun recorded)
-    pub is : item ≡ script_step (state_at (steps_of_plan begun recorded) after place) found (waits_for changes after place)
-
-  item_at : (place : ℕ) (item : Option ScriptStep) → slice_get (items_for changes begun recorded after) place ≡ Some item → HasItem place item
-  item_at place item at =
-      let one = item_in (even.planned_steps changes) after 0 recorded (states_of (steps_of_plan begun recorded) after) place item at in
-      let now = state_in (steps_of_plan begun recorded) after place one.state one.state_at in
-      let zeroth : 0 + place ≡ place = omega arith in record {
-        found = one.found;
-        found_at = one.found_at;
-        within = now.0;
-        is =
-            one.is
-            ∙ ap (λ (p : ℕ). script_step one.state one.found (waits_for changes after p)) zeroth
-            ∙ ap (λ (s : StepState). script_step s one.found (waits_for changes after place)) now.1;
-      }
-
-  -- the first step of a change is stated
-  first_there : (c : ℕ) (change : ResourceChange) → slice_get changes c ≡ Some change → 0 < length change.steps
-      → slice_get (items_for changes begun recorded after) (base changes c) ≡ Some None → ⊥
-  first_there c change at some none =
-      let has = item_at (base changes c) None none in
-      let kind = item_there change.steps 0 some in
-      let own = planned_at changes 0 0 c 0 change kind.0 at kind.1 in
-      let zeroth : base changes c + 0 ≡ base changes c = omega arith in
-      let stands : slice_get begun.planned (base changes c) ≡ Some own.0 =
-      ap (λ (ps : List PlannedStep). slice_get ps (base changes c)) planned_is ∙ ap (slice_get (planned_steps changes)) (sym zeroth) ∙ own.1 in
-      let numbered : own.0.number ≡ 0 = let n = own.2.number_is in omega (arith, n) in
-      let first : (step_at (steps_of_plan begun recorded) (base changes c)).is_first ≡ true =
-      ap (λ (s : StepOfPlan). s.is_first) (step_there begun recorded (base changes c) own.0 stands) ∙ eq-eqb own.0.number 0 numbered in
-      ⊎_elim
-      (λ (not : (state_at (steps_of_plan begun recorded) after (base changes c) ≡ state.Began) × (has.found ≡ None)).
-      let run = began (steps_of_plan begun recorded) after (base changes c) not.0 in
-      let ran = has_run begun recorded (base changes c) run.0 run.1 in
-      let there : None ≡ Some ran.found = sym (ap option_flatten has.found_at ∙ not.1) ∙ ran.recorded_is in cc)
-      (λ (absent : state_at (steps_of_plan begun recorded) after (base changes c) ≡ state.Absent). first_stated (steps_of_plan begun recorded) after (base changes c) first absent)
-      (none_stated (state_at (steps_of_plan begun recorded) after (base changes c)) has.found (waits_for changes after (base changes c)) has.is)
 
   -- the step of a change at k is the item at its place
   pub record IsStep (c k : ℕ) (change : ResourceChange) (step : ScriptStep) : Type 0 where
@@ -154,16 +98,17 @@ module _ (changes : List ResourceChange) (each : AllByRecursion IsWritableChange
     pub stated : IsStatedAs found (waits_for changes after (base changes c + k)) step
 
   step_of : (c k : ℕ) (change : ResourceChange) (step : ScriptStep) → slice_get changes c ≡ Some change
-      → slice_get (first_steps change.steps (drop (base changes c) (items_for changes begun recorded after))) k ≡ Some step
+      → slice_get (first_steps change.steps (drop (base changes c) (items_of changes recorded states after))) k ≡ Some step
       → IsStep c k change step
   step_of c k change step at has =
-      let here = step_item changes (items_for changes begun recorded after) c k change step
+      let here = step_item changes (items_of changes recorded states after) c k change step
       (few_kinds c change at) (first_there c change at) has in
-      let item = item_at (base changes c + k) (Some step) here.1 in
+      let item = item_in (even.planned_steps changes) after 0 recorded states (base changes c + k) (Some step) here.1 in
       let kind = item_there change.steps k here.0 in
       let own = planned_at changes 0 0 c k change kind.0 at kind.1 in
       let numbered : 0 + c ≡ c = omega arith in
-      let placed : 0 + base changes c ≡ base changes c = omega arith in record {
+      let placed : 0 + base changes c ≡ base changes c = omega arith in
+      let item_place : 0 + (base changes c + k) ≡ base changes c + k = omega arith in record {
         less = here.0;
         own = own.0;
         own_at = own.1;
@@ -171,8 +116,8 @@ module _ (changes : List ResourceChange) (each : AllByRecursion IsWritableChange
         found = item.found;
         found_at = item.found_at;
         stated =
-            stated_as (state_at (steps_of_plan begun recorded) after (base changes c + k)) item.found
-            (waits_for changes after (base changes c + k)) step item.is;
+            stated_as item.state item.found (waits_for changes after (base changes c + k)) step
+            (item.is ∙ ap (λ (p : ℕ). script_step item.state item.found (waits_for changes after p)) item_place);
       }
 
   -- ---- one step
@@ -201,9 +146,6 @@ module _ (changes : List ResourceChange) (each : AllByRecursion IsWritableChange
       other)
       is.stated
 
-  allowed_at : (place : ℕ) (own : PlannedStep) (one : RecordedStep) → slice_get (planned_steps changes) place ≡ Some own → slice_get recorded place ≡ Some (Some one) → IsAllowed own one.outcome
-  allowed_at place own one stands at = allowed place own one (ap (λ (ps : List PlannedStep). slice_get ps place) planned_is ∙ stands) at
-
   step_is_writable : (c k : ℕ) (change : ResourceChange) (step : ScriptStep) → IsStep c k change step → IsWritableStep step
   step_is_writable c k change step is =
       let place = base changes c + k in
@@ -223,7 +165,7 @@ module _ (changes : List ResourceChange) (each : AllByRecursion IsWritableChange
       by_state (λ (s : ScriptStep). misplaces_provisioners (is_some change.deposed) ((0 + k, kind), answer_to s) ≡ false) c k change step is
       (λ one has.
       let here = waits_for changes after place in
-      let well = well_placed is.own one.outcome (allowed_at place is.own one is.own_at has) (0 + k) here is.of.number_is in
+      let well = well_placed is.own one.outcome (allowed place is.own one is.own_at has) (0 + k) here is.of.number_is in
       ap (λ (ki : StepKind). misplaces_provisioners (is_some change.deposed) ((0 + k, ki), Some (record one.outcome { after = here }))) (sym (kind_is c k change step kind is at))
       ∙ ap (λ (ch : ResourceChange). misplaces_provisioners (is_some ch.deposed) ((0 + k, is.own.kind), Some (record one.outcome { after = here }))) (sym is.of.change_is)
       ∙ well)
@@ -237,7 +179,7 @@ module _ (changes : List ResourceChange) (each : AllByRecursion IsWritableChange
       (λ one has.
       let here = waits_for changes after place in
       ap (λ (ki : StepKind). warns_not_a_read ((0 + k, ki), Some (record one.outcome { after = here }))) (sym (kind_is c k change step kind is at))
-      ∙ only_reads is.own one.outcome (allowed_at place is.own one is.own_at has) (0 + k) here)
+      ∙ only_reads is.own one.outcome (allowed place is.own one is.own_at has) (0 + k) here)
       refl refl
 
   -- ---- the steps that are waited for
@@ -263,22 +205,14 @@ module _ (changes : List ResourceChange) (each : AllByRecursion IsWritableChange
   -- ---- each step could begin
 
   stated_at : (c k : ℕ) (change : ResourceChange) (step : ScriptStep) → slice_get changes c ≡ Some change
-      → stated_step (script_for changes begun recorded after) c k ≡ Some step → IsStep c k change step
+      → stated_step (script_of changes recorded states after) c k ≡ Some step → IsStep c k change step
   stated_at c k change step at has =
-      let its = items_for changes begun recorded after in
+      let its = items_of changes recorded states after in
       step_of c k change step at
       (sym (ap (λ (o : Option (Option (List ScriptStep))). option_and_then (λ ss. slice_get ss k) (option_and_then (λ stated. stated) o)) (change_steps changes its c change at)) ∙ has)
 
-  before_is : (place : ℕ) (own : PlannedStep) (j : ℕ) → slice_get (planned_steps changes) place ≡ Some own → own.number ≡ suc j → 0 < place → step_before (steps_of_plan begun recorded) place ≡ Some (place - 1)
-  before_is place own j stands numbered positive =
-      let first : (step_at (steps_of_plan begun recorded) place).is_first ≡ false =
-      ap (λ (s : StepOfPlan). s.is_first) (step_there begun recorded place own (ap (λ (ps : List PlannedStep). slice_get ps place) planned_is ∙ stands))
-      ∙ ne_eqb own.number 0 (λ zeroth. omega (arith, numbered, zeroth)) in
-      let start : eqb place 0 ≡ false = ne_eqb place 0 (λ zeroth. omega (arith, positive, zeroth)) in
-      ap (λ (b : Bool). cond b None (Some (place - 1))) (neither (eqb place 0) (step_at (steps_of_plan begun recorded) place).is_first start first)
-
   waits_lower : (place : ℕ) (step : Wait) → slice_get (even.planned_steps changes) place ≡ Some step
-      → WaitsLower (written changes (script_for changes begun recorded after)) (even.planned_steps changes) ranks.rank place step
+      → WaitsLower (written changes (script_of changes recorded states after)) (even.planned_steps changes) ranks.rank place step
   waits_lower place step at i wait has =
       let own = waited changes place step at in
       let stands = stands_from changes 0 0 place own.0 own.1 in
@@ -289,8 +223,7 @@ module _ (changes : List ResourceChange) (each : AllByRecursion IsWritableChange
       let spot : base changes step.change + step.step ≡ place = let index = stands.index_is in
       let one : base changes step.change ≡ base changes stands.c = ap (base changes) change_is in omega (arith, index, one, number_is) in
       let inside = slice_get_within (planned_steps changes) place own.0 own.1 in
-      let within : place < length (steps_of_plan begun recorded) = omega (arith, inside, many) in
-      let own_script = script_for changes begun recorded after in
+      let own_script = script_of changes recorded states after in
       ⊎_elim
       (λ (before : (j : ℕ) × (step.step ≡ suc j) × (wait ≡ record { change = step.change; step = j })).
       let j = before.0 in
@@ -299,7 +232,6 @@ module _ (changes : List ResourceChange) (each : AllByRecursion IsWritableChange
       let kind = item_there own.0.change.steps j (omega (arith, k_less, number_is, k_is)) in
       let other = planned_at changes 0 0 step.change j own.0.change kind.0 change_at kind.1 in
       let there : base changes step.change + j ≡ place - 1 = omega (arith, spot, k_is) in
-      let positive : 0 < place = omega (arith, spot, k_is) in
       let other_at : slice_get (planned_steps changes) (place - 1) ≡ Some other.0 = ap (slice_get (planned_steps changes)) (sym there) ∙ other.1 in
       let c_is : other.0.change_number ≡ step.change = let n = other.2.change_number_is in omega (arith, n) in
       let j_is : other.0.number ≡ j = let n = other.2.number_is in omega (arith, n) in
@@ -310,7 +242,7 @@ module _ (changes : List ResourceChange) (each : AllByRecursion IsWritableChange
         place - 1,
         found,
         slice_get_within (even.planned_steps changes) (place - 1) wait found,
-        ranks.before place (place - 1) within (before_is place own.0 j own.1 numbered positive),
+        ranks.before place own.0 own.1 (ne_eqb own.0.number 0 (λ zeroth. omega (arith, numbered, zeroth))),
       ))
       (λ (named : (m : ℕ) × (slice_get (named_for (written changes own_script) step.change step.step) m ≡ Some wait)).
       let one = named_in (stated_step (written changes own_script) step.change step.step) named.0 wait named.1 in
@@ -321,16 +253,16 @@ module _ (changes : List ResourceChange) (each : AllByRecursion IsWritableChange
       ∙ ap (λ (ws : List Wait). slice_get ws named.0) (sym waits) ∙ one.2 in
       let number = of_number (even.planned_steps changes) (even.waits_at after place) named.0 wait listed in
       let has_number : Contains (waits_at after place) number.0 = subst (λ (ns : List ℕ). Contains ns number.0) (unwrap_or-slice_get after place []) number.1 in
-      (number.0, number.2, slice_get_within (even.planned_steps changes) number.0 wait number.2, ranks.waits place number.0 within has_number))
+      (number.0, number.2, slice_get_within (even.planned_steps changes) number.0 wait number.2, ranks.waits place number.0 inside has_number))
       (stated_in (written changes own_script) step.change step.step i wait has)
 
   planned_many : length (even.planned_steps changes) ≡ length (planned_steps changes)
   planned_many = ap length (same_planned changes 0 0) ∙ rw length-map refl
 
   begins : (c k : ℕ) (change : ResourceChange) → slice_get changes c ≡ Some change → k < length change.steps
-      → could_begin (written changes (script_for changes begun recorded after)) c k ≡ true
+      → could_begin (written changes (script_of changes recorded states after)) c k ≡ true
   begins c k change at less =
-      let own_script = script_for changes begun recorded after in
+      let own_script = script_of changes recorded states after in
       let kind = item_there change.steps k less in
       let own = planned_at changes 0 0 c k change kind.0 at kind.1 in
       let place = base changes c + k in
@@ -348,11 +280,11 @@ module _ (changes : List ResourceChange) (each : AllByRecursion IsWritableChange
   -- ---- the entries
 
   entry_is : (c : ℕ) (change : ResourceChange) → slice_get changes c ≡ Some change
-      → IfSome (entry_steps (script_for changes begun recorded after) c)
-      (IsWritableEntry changes (script_for changes begun recorded after) c change)
+      → IfSome (entry_steps (script_of changes recorded states after) c)
+      (IsWritableEntry changes (script_of changes recorded states after) c change)
   entry_is c change at =
-      let own_script = script_for changes begun recorded after in
-      let its = items_for changes begun recorded after in
+      let own_script = script_of changes recorded states after in
+      let its = items_of changes recorded states after in
       let own = first_steps change.steps (drop (base changes c) its) in
       let stated : entry_steps own_script c ≡ unless_no_steps own =
       ap (λ (o : Option (Option (List ScriptStep))). option_and_then unless_no_steps (option_and_then (λ stated. stated) o)) (change_steps changes its c change at) in
@@ -371,11 +303,11 @@ module _ (changes : List ResourceChange) (each : AllByRecursion IsWritableChange
         begins = λ k less. begins c k change at (omega (arith, small, less));
       }))
 
-  pub script_is_writable : IsWritable changes (script_for changes begun recorded after)
-  script_is_writable =
-      let its = items_for changes begun recorded after in
-      let own_script = script_for changes begun recorded after in
-      let waits = few_waits changes (even.planned_steps changes) after recorded (states_of (steps_of_plan begun recorded) after) (as_many_changes changes its) in
+  pub steps_are_writable : IsWritable changes (script_of changes recorded states after)
+  steps_are_writable =
+      let its = items_of changes recorded states after in
+      let own_script = script_of changes recorded states after in
+      let waits = few_waits changes (even.planned_steps changes) after recorded states (as_many_changes changes its) in
       record {
         each = each;
         once = once;

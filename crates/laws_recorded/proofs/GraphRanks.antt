@@ -2,7 +2,6 @@
 use Rattle.std.proofs.Common.{◌≡◌, ◌∙◌, ◌+◌, ◌-◌, ◌<◌, ◌≤◌, ℕ, zero, suc, Bool, true, false, cond, eqb, List, [], ◌∷◌, ◌++◌, drop, get_or, length, Option, None, Some, refl, sym, ap, ap₂, arith, subst, ⊎_elim}
 use Rattle.std.specs.Prelude.{IfSome, filter_map, option_map, slice_get, unwrap_or}
 use Rattle.std.specs.List.{Contains, cons_option, zip}
-use Rattle.std.proofs.lemmas.Bool.{eqb-false}
 use Rattle.std.proofs.lemmas.List.{get_or_past}
 use Rattle.std.proofs.lemmas.List.Elements.{All-contains}
 use Rattle.std.proofs.lemmas.Option.{get_or_from_slice_get, slice_get-get_or, slice_get-map, slice_get_cases}
@@ -21,7 +20,7 @@ use Rattle.stream_record_waits.specs.Graph.{waits_at}
 use Rattle.stream_record_cli.specs.StepNames.{nodes_from, nodes_of_change, step_nodes}
 use Rattle.laws_recorded.specs.Graphs.{IsRankedGraph}
 use Rattle.laws_recorded.proofs.Items.{get_drop}
-use Rattle.laws_recorded.proofs.Places.{get_either, get_first, get_second, length-steps_from, stands_from}
+use Rattle.laws_recorded.proofs.Places.{get_either, get_first, get_second, later_place, length-steps_from}
 use Rattle.laws_recorded.proofs.Planned.{contains_at}
 use Rattle.laws_recorded.proofs.RunOrder.{item_before}
 
@@ -133,7 +132,7 @@ module _ (changes : List ResourceChange) (graph : NamedGraph) (ranked : AreRanke
   before_lower place step at later =
       let nodes = step_nodes changes in
       let own = node_at changes 0 0 place step at in
-      let positive = positive_at step place at later in
+      let positive = later_place changes place step at later in
       let other = item_before nodes place (place - 1) own.0 (omega arith) own.1 in
       let spot : 1 + (place - 1) ≡ place = omega (arith, positive) in
       let pair = zip_at nodes (drop 1 nodes) (place - 1) other.0 own.0 other.1 (get_drop 1 nodes (place - 1) ∙ ap (slice_get nodes) spot ∙ own.1) in
@@ -143,13 +142,9 @@ module _ (changes : List ResourceChange) (graph : NamedGraph) (ranked : AreRanke
       let first = rank_is place own.0.name (slice_get-map (λ (s : StepNode). s.name) nodes place ∙ ap (option_map (λ (s : StepNode). s.name)) own.1) in
       let second = rank_is (place - 1) other.0.name (slice_get-map (λ (s : StepNode). s.name) nodes (place - 1) ∙ ap (option_map (λ (s : StepNode). s.name)) other.1) in
       omega (arith, first, second, less)
-    where
-      positive_at : (step : PlannedStep) (place : ℕ) → slice_get (planned_steps changes) place ≡ Some step → is_first_step step ≡ false → 0 < place
-      positive_at step place at later =
-          let stands = stands_from changes 0 0 place step at in
-          let number = eqb-false step.number 0 later in
-          let index = stands.index_is in
-          let k_is = stands.number_is in omega (arith, number, index, k_is)
+
+nothing : (other : ℕ) → Contains [] other → ⊥
+nothing other (k, less, is) = omega (arith, less)
 
 -- the waits of a graph without a circle are ranked
 pub graph_ranked : (changes : List ResourceChange) (graph : NamedGraph) (waits : List (List ℕ)) → AreAllWaits (names_of (step_nodes changes)) graph waits → AreRanked (plan_edges (step_nodes changes) graph)
@@ -165,6 +160,11 @@ graph_ranked changes graph waits are ranked = record {
       (slice_get_cases waits place).1;
   before = λ place step at later. before_lower changes graph ranked place step at later;
 }
-  where
-    nothing : (other : ℕ) → Contains [] other → ⊥
-    nothing other (k, less, is) = omega (arith, less)
+
+-- where no step waits, the steps are ranked by their places
+pub without_graph : (changes : List ResourceChange) → IsRankedGraph (planned_steps changes) []
+without_graph changes = record {
+  rank = λ place. place;
+  waits = λ place other within has. absurd (nothing other (subst (λ (ns : List ℕ). Contains ns other) (get_or_past [] place [] (omega arith)) has));
+  before = λ place step at later. let positive = later_place changes place step at later in omega (arith, positive);
+}

@@ -26,8 +26,11 @@ pub mod Counts
 pub mod Planned
 pub mod Stated
 pub mod Entries
+pub mod RecordedEntries
 pub mod StreamOrder
 pub mod WholeScript
 pub mod GraphRanks
 pub mod AcceptedScripts
+pub mod EvenScripts
+pub mod PlanAlone
 pub mod PlanObjects

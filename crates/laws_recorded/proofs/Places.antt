@@ -1,10 +1,11 @@
 -- Where each step of a plan stands among all steps.
-use Rattle.std.proofs.Common.{◌≡◌, ◌∙◌, ◌+◌, ◌*◌, ◌≤◌, ℕ, zero, suc, List, [], ◌∷◌, ◌++◌, length, Some, refl, sym, ap, arith, length-append, ◌⊎◌, inl, inr, ⊎_elim}
+use Rattle.std.proofs.Common.{◌≡◌, ◌∙◌, ◌+◌, ◌*◌, ◌<◌, ◌≤◌, ℕ, zero, suc, false, List, [], ◌∷◌, ◌++◌, length, Some, refl, sym, ap, arith, length-append, ◌⊎◌, inl, inr, ⊎_elim}
 use Rattle.std.specs.Prelude.{slice_get}
 use Rattle.std.specs.List.{AllByRecursion}
+use Rattle.std.proofs.lemmas.Bool.{eqb-false}
 use Rattle.apply_model.specs.declared.plan.step_kind.StepKind.{StepKind}
 use Rattle.apply_model.specs.Plan.ResourceChange.{ResourceChange}
-use Rattle.stream_record_steps.specs.Steps.{PlannedStep, planned_from, planned_steps, steps_from}
+use Rattle.stream_record_steps.specs.Steps.{PlannedStep, is_first_step, planned_from, planned_steps, steps_from}
 use Rattle.laws_recorded.proofs.BegunOrder.{HavePlaces}
 
 -- ---- lists one after another
@@ -186,6 +187,14 @@ planned_at (first ∷ changes) n place (suc c) k change kind at has =
 
 pub have_places : (changes : List ResourceChange) → HavePlaces (planned_steps changes)
 have_places changes place step at = let placed = (stands_from changes 0 0 place step at).place_is in omega (arith, placed)
+
+-- a step that is not the first of its change is not the first of the plan
+pub later_place : (changes : List ResourceChange) (place : ℕ) (step : PlannedStep) → slice_get (planned_steps changes) place ≡ Some step → is_first_step step ≡ false → 0 < place
+later_place changes place step at later =
+    let stands = stands_from changes 0 0 place step at in
+    let number = eqb-false step.number 0 later in
+    let index = stands.index_is in
+    let k_is = stands.number_is in omega (arith, number, index, k_is)
 
 -- at most two steps for each change
 pub at_most_two : (changes : List ResourceChange) (n place : ℕ) → AllByRecursion (λ (change : ResourceChange). length change.steps ≤ 2) changes → length (planned_from n place changes) ≤ 2 * length changes

@@ -22,7 +22,7 @@ use Rattle.laws_recorded.specs.Begins.{BeginInOrder}
 use Rattle.laws_recorded.specs.Graphs.{IsRankedGraph}
 use Rattle.laws_recorded.specs.Texts.{IsWritableRecording}
 use Rattle.laws_record.specs.Writable.{IsWritable, IsWritableChange, NamesEachObjectOnce}
-use Rattle.laws_recorded.proofs.Entries.{script_is_writable}
+use Rattle.laws_recorded.proofs.RecordedEntries.{script_is_writable}
 use Rattle.laws_recorded.proofs.PlaceRanks.{AreRanked, ranks_with, ranks_without}
 use Rattle.laws_recorded.proofs.RunOrder.{HaveOutcomes, has_ranks, runs_in_order}
 
@@ -65,6 +65,6 @@ module _ (circumstances : Circumstances) (begun : Begun) (notes : List Note) whe
     may_be_written graph ranked are =
         let kept = considered circumstances notes in
         let fewer : sum_by length after ≤ max_waits = omega (arith, few) in
-        script_is_writable changes each once begun planned_is (recorded_steps circumstances begun notes)
+        script_is_writable changes begun planned_is (recorded_steps circumstances begun notes) after each once
         (all_allowed circumstances.cut_off_at begun kept (assignment_of circumstances.is_default_form begun kept) 0 begun.planned)
-        writable after fewer (ranks_of graph ranked are)
+        writable fewer (ranks_of graph ranked are)
