@@ -1,14 +1,12 @@
 -- The steps among nodes.
-use Rattle.std.proofs.Common.{◌≡◌, ◌≢◌, ◌⊎◌, ◌<◌, ◌+◌, ℕ, List, [], ◌∷◌, ◌++◌, Bor, length, take, get_or, cond, eqb, true, false, Bool, Option, Some, None, refl, sym, ap, ◌∙◌, ⊎_elim, inl, inr, subst, eq-eqb, ne_eqb}
-use Rattle.std.specs.Prelude.{slice_get, option_to_list}
+use Rattle.std.proofs.Common.{◌≡◌, ◌≢◌, ◌⊎◌, ◌<◌, ◌+◌, ℕ, List, [], ◌∷◌, ◌++◌, length, take, get_or, cond, eqb, true, false, Bool, Option, Some, None, refl, sym, ap, ◌∙◌, ⊎_elim, inl, inr, subst, eq-eqb, ne_eqb}
+use Rattle.std.specs.Prelude.{option_to_list}
 use Rattle.std.specs.List.{Contains, cons_option, filter_map}
 use Rattle.std.proofs.lemmas.Bool.{cases_Bool, true≢false}
-use Rattle.std.proofs.lemmas.List.{get_or-map, length-map, take_more}
+use Rattle.std.proofs.lemmas.List.{take_more}
 use Rattle.std.proofs.lemmas.List.Elements.{filter_map-append}
-use Rattle.std.proofs.lemmas.Option.{get_or_from_slice_get, slice_get_within}
-use Rattle.input_graph.specs.StepNodes.{step_named}
-use Rattle.input_graph.specs.Targets.{texts}
-use Rattle.input_graph.specs.Waits.{steps_among, unless_same}
+use Rattle.std.proofs.lemmas.Option.{get_or_from_slice_get, slice_get-get_or}
+use Rattle.input_graph.specs.Waits.{unless_same}
 use Rattle.input_graph.proofs.Members.{front_or_further, further, in_front, no_member}
 
 module _ {X Y : Type 0} (h : X → Option Y) where
@@ -62,18 +60,16 @@ alone None = refl
 alone (Some k) = refl
 
 -- one node more
-pub one_other : (steps : List (List ℕ)) (step : ℕ) (nodes : List (Bor (List ℕ))) (k : ℕ) (node : Bor (List ℕ)) (others new : List ℕ) (other : Option ℕ) → slice_get nodes k ≡ Some node
-    → others ≡ steps_among steps step (take k (texts nodes)) → other ≡ unless_same step (step_named steps node.now) → new ≡ others ++ option_to_list other
-    → new ≡ steps_among steps step (take (k + 1) (texts nodes))
-one_other steps step nodes k node others new other here so_far is grown =
-    let within = slice_get_within nodes k node here in
-    let inside : k < length (texts nodes) = rw length-map within in
-    let text : get_or (texts nodes) k [] ≡ node.now = get_or-map (λ (reference : Bor (List ℕ)). reference.now) nodes k node [] within ∙ ap (λ (r : Bor (List ℕ)). r.now) (get_or_from_slice_get nodes k node node here) in
-    let h : List ℕ → Option ℕ = λ name. unless_same step (step_named steps name) in
+pub one_other : (step_of : List (Option ℕ)) (step : ℕ) (nodes : List ℕ) (i d : ℕ) (e : Option ℕ) (others new : List ℕ) → i < length nodes → get_or nodes i d < length step_of
+    → others ≡ filter_map (λ node. unless_same step (get_or step_of node None)) (take i nodes) → new ≡ others ++ option_to_list (unless_same step (get_or step_of (get_or nodes i d) e))
+    → new ≡ filter_map (λ node. unless_same step (get_or step_of node None)) (take (i + 1) nodes)
+one_other step_of step nodes i d e others new within inside so_far grown =
+    let h : ℕ → Option ℕ = λ node. unless_same step (get_or step_of node None) in
+    let same : get_or step_of (get_or nodes i d) e ≡ get_or step_of (get_or nodes i d) None =
+    sym (get_or_from_slice_get step_of (get_or nodes i d) (get_or step_of (get_or nodes i d) e) None (slice_get-get_or step_of (get_or nodes i d) e inside)) in
     grown
-    ∙ ap (λ (list : List ℕ). list ++ option_to_list other) so_far
-    ∙ ap (λ (o : Option ℕ). steps_among steps step (take k (texts nodes)) ++ option_to_list o) is
-    ∙ ap (λ (list : List ℕ). steps_among steps step (take k (texts nodes)) ++ list) (alone (h node.now))
-    ∙ sym (filter_map-append h (take k (texts nodes)) (node.now ∷ []))
-    ∙ ap (λ (t : List ℕ). filter_map h (take k (texts nodes) ++ t ∷ [])) (sym text)
-    ∙ ap (filter_map h) (sym (take_more (texts nodes) k [] inside))
+    ∙ ap (λ (list : List ℕ). list ++ option_to_list (unless_same step (get_or step_of (get_or nodes i d) e))) so_far
+    ∙ ap (λ (o : Option ℕ). filter_map h (take i nodes) ++ option_to_list (unless_same step o)) same
+    ∙ ap (λ (list : List ℕ). filter_map h (take i nodes) ++ list) (alone (h (get_or nodes i d)))
+    ∙ sym (filter_map-append h (take i nodes) (get_or nodes i d ∷ []))
+    ∙ ap (filter_map h) (sym (take_more nodes i d within))

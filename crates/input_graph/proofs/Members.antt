@@ -4,9 +4,9 @@ use Rattle.std.specs.Prelude.{◌||◌, slice_get}
 use Rattle.std.specs.List.{Contains, list_any}
 use Rattle.std.specs.Str.{bytes_eq}
 use Rattle.std.proofs.lemmas.Bool.{cases_Bool, true≢false}
-use Rattle.std.proofs.lemmas.List.Elements.{All-cons, All-head, All-nil, All-push, All-tail, Contains-append_left, Contains-push}
+use Rattle.std.proofs.lemmas.List.Elements.{All-push, Contains-append_left, Contains-push}
 use Rattle.std.proofs.lemmas.Slice.Eq.{bytes_eq-Decides}
-use Rattle.input_graph.specs.Nodes.{with_all, with_node}
+use Rattle.input_graph.specs.Nodes.{with_node}
 
 pub in_front : {X : Type 0} (x : X) (xs : List X) → Contains (x ∷ xs) x
 in_front x xs = (0, omega arith, refl)
@@ -112,25 +112,3 @@ any_with_if other nodes node false is = any_push (bytes_eq other) nodes node
 
 pub any_with : (other : List ℕ) (nodes : List (List ℕ)) (node : List ℕ) → list_any (bytes_eq other) (with_node nodes node) ≡ (list_any (bytes_eq other) nodes || bytes_eq other node)
 any_with other nodes node = any_with_if other nodes node (list_any (bytes_eq node) nodes) refl
-
--- several join
-pub keeps_all : (more nodes : List (List ℕ)) (other : List ℕ) → Contains nodes other → Contains (with_all nodes more) other
-keeps_all [] nodes other c = c
-keeps_all (x ∷ xs) nodes other c = keeps_all xs (with_node nodes x) other ((joins nodes x).keeps other c)
-
-pub has_all : (more nodes : List (List ℕ)) → All (Contains (with_all nodes more)) more
-has_all [] nodes = All-nil (Contains (with_all nodes []))
-has_all (x ∷ xs) nodes = All-cons (Contains (with_all nodes (x ∷ xs))) x xs (keeps_all xs (with_node nodes x) x (joins nodes x).has) (has_all xs (with_node nodes x))
-
-pub grows_all : (more nodes : List (List ℕ)) → length nodes ≤ length (with_all nodes more)
-grows_all [] nodes = omega arith
-grows_all (x ∷ xs) nodes = omega (arith, (joins nodes x).grows, grows_all xs (with_node nodes x))
-
-pub stays_all : (more nodes : List (List ℕ)) (k : ℕ) → k < length nodes → slice_get (with_all nodes more) k ≡ slice_get nodes k
-stays_all [] nodes k within = refl
-stays_all (x ∷ xs) nodes k within = stays_all xs (with_node nodes x) k (omega (arith, within, (joins nodes x).grows)) ∙ (joins nodes x).stays k within
-
-pub only_all : (P : List ℕ → Type 0) (more nodes : List (List ℕ)) → All P nodes → All P more → All P (with_all nodes more)
-only_all P [] nodes all others = all
-only_all P (x ∷ xs) nodes all others =
-    only_all P xs (with_node nodes x) (only_if P nodes x (list_any (bytes_eq x) nodes) all (All-head P x xs others)) (All-tail P x xs others)

@@ -1,14 +1,13 @@
 -- Texts behind references.
-use Rattle.std.proofs.Common.{◌≡◌, ◌<◌, ◌+◌, ℕ, List, [], ◌∷◌, ◌++◌, length, take, get_or, Option, Some, None, cond, true, false, Bool, Bor, refl, sym, ap, ◌∙◌, map}
+use Rattle.std.proofs.Common.{◌≡◌, ℕ, List, [], ◌∷◌, ◌++◌, Option, Some, None, cond, true, false, Bool, Bor, refl, sym, ap, ◌∙◌, map}
 use Rattle.std.specs.Prelude.{◌||◌, filter}
 use Rattle.std.specs.List.{list_any}
 use Rattle.std.specs.Option.{option_copied, option_map_or}
 use Rattle.std.specs.Str.{bytes_eq}
 use Rattle.std.specs.declared.alloc.Global.{Global}
 use Rattle.std.specs.declared.vec.Vec.{Vec}
-use Rattle.std.proofs.lemmas.List.{get_or-map, length-map, map-append}
-use Rattle.std.proofs.lemmas.List.Sums.{fold_more}
-use Rattle.input_graph.specs.Nodes.{with_all, with_node}
+use Rattle.std.proofs.lemmas.List.{map-append}
+use Rattle.input_graph.specs.Nodes.{with_node}
 use Rattle.input_graph.specs.Targets.{edge_texts, targets_of, texts}
 
 any_text : (node : List ℕ) (nodes : List (Bor (List ℕ))) → list_any (λ other. bytes_eq node other.now) nodes ≡ list_any (bytes_eq node) (texts nodes)
@@ -33,19 +32,6 @@ joined_text node nodes new is = ap texts is ∙ inserted node nodes
 pub tested : (node : List ℕ) (nodes : List (Bor (List ℕ))) (test result : Bool) → test ≡ list_any (λ other. bytes_eq node other.now) nodes → test ≡ result
     → list_any (bytes_eq node) (texts nodes) ≡ result
 tested node nodes test result is gives = sym (any_text node nodes) ∙ sym is ∙ gives
-
--- one node more of those that join
-pub one_joins : (all : List (Bor (List ℕ))) (i : ℕ) (d : Bor (List ℕ)) (nodes new : List (Bor (List ℕ))) (first : List (List ℕ)) → i < length all
-    → texts nodes ≡ with_all first (take i (texts all))
-    → new ≡ cond (list_any (λ other. bytes_eq (get_or all i d).now other.now) nodes) nodes (nodes ++ get_or all i d ∷ [])
-    → texts new ≡ with_all first (take (i + 1) (texts all))
-one_joins all i d nodes new first within so_far is =
-    let inside : i < length (texts all) = rw length-map within in
-    ap texts is
-    ∙ inserted (get_or all i d) nodes
-    ∙ ap (λ (list : List (List ℕ)). with_node list (get_or all i d).now) so_far
-    ∙ ap (λ (text : List ℕ). with_node (with_all first (take i (texts all))) text) (sym (get_or-map (λ (reference : Bor (List ℕ)). reference.now) all i d [] within))
-    ∙ sym (fold_more with_node first (texts all) i [] inside)
 
 -- what a map has at a node
 found_texts : (found : Option (Bor (Vec (Bor (List ℕ)) Global)))

@@ -12,4 +12,6 @@ pub mod GraphNodes
 pub mod Circles
 pub mod CircleSearch
 pub mod PlanEdges
+pub mod Numbering
+pub mod Reached
 pub mod WaitsRefusal

@@ -1,6 +1,6 @@
 -- Which steps a step waits for.
 use Rattle.std.specs.Prelude.{◌≡◌, ◌≢◌, ◌==◌, ℕ, List, map, false, if◌then◌else◌, Option, Some, None, slice_get}
-use Rattle.std.specs.List.{Contains, filter_map}
+use Rattle.std.specs.List.{Contains}
 use Rattle.std.specs.List.Sorted.{IsStrictlyIncreasing}
 use Rattle.input_graph.specs.NamedGraph.{NamedGraph}
 use Rattle.input_graph.specs.StepNodes.{is_step, known_name, step_named}
@@ -27,10 +27,6 @@ pub record WaitsFor (steps : List (List ℕ)) (edges : List (List ℕ × List �
 abbrev pub unless_same : (step : ℕ) → Option ℕ → Option ℕ
 unless_same step None = None
 unless_same step (Some other) = if other == step then None else Some other
-
--- The numbers of the other steps among nodes, in the order of the nodes.
-abbrev pub steps_among : (steps : List (List ℕ)) → (step : ℕ) → (nodes : List (List ℕ)) → List ℕ
-steps_among steps step nodes = filter_map (λ node. unless_same step (step_named steps node)) nodes
 
 -- The numbers of the steps that a step waits for, in their order, each once.
 pub record AreWaits (steps : List (List ℕ)) (edges : List (List ℕ × List ℕ)) (step : ℕ) (waits : List ℕ) : Type 0 where

@@ -12,6 +12,7 @@ mod known_nodes;
 mod limits;
 mod line;
 mod naming;
+mod numbered_graph;
 mod quoted;
 mod reached;
 mod reading;

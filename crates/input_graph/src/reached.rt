@@ -1,65 +1,89 @@
-//! Searches the nodes that a step reaches.
+//! Searches the nodes that a step reaches. Every `Err` means that memory was refused.
 
-ghost use Rattle.std.specs.Prelude.{◌≡◌, All, IfOk, List, OnOk, ℕ};
-ghost use Rattle.std.specs.List.{Contains};
-ghost use Rattle.input_graph.specs.Nodes.{with_all};
-ghost use Rattle.input_graph.specs.Targets.{targets_of, texts};
-ghost use Rattle.input_graph.specs.Waits.{Reaches};
+ghost use Rattle.std.specs.Prelude.{◌≡◌, ◌<◌, ◌≤◌, [], All, IfOk, OnOk, get_or, length, set};
+ghost use Rattle.input_graph.specs.AllWaits.{lists_in};
+ghost use Rattle.input_graph.specs.Numbering.{AreSeen, HaveJoined, IsNumbered};
+ghost use Rattle.input_graph.specs.Reached.{HasReached};
 
-use crate::step_nodes::StepNodes;
-use crate::targets::Targets;
-use indexmap::IndexSet;
+use crate::numbered_graph::NumberedGraph;
 use std::alloc::{AllocError, Global};
 
-/// The nodes that a path of edges reaches from a node, through nodes that are no step. `Err` where
-/// memory is refused.
-pub fn reached_nodes<'a>(
+/// The numbers of the nodes that a path of edges reaches from a node, through nodes that are no
+/// step. `seen` has a mark for each node, less than `stamp`.
+pub fn reached_nodes(
     alloc: Global,
-    steps: &StepNodes<'_>,
-    targets: &Targets<'a>,
-    start: &str,
-) -> Result<IndexSet<&'a str>, AllocError>
-    ensures sound { IfOk result (λ nodes. All (Reaches steps.now targets.now start.now) (texts nodes.keys)) }
-    ensures complete { IfOk result (λ nodes. (node : List ℕ)
-        → Reaches steps.now targets.now start.now node → Contains (texts nodes.keys) node) }
+    graph: &NumberedGraph<'_, '_>,
+    seen: &mut Vec<usize>,
+    stamp: usize,
+    start: usize,
+) -> Result<Vec<usize>, AllocError>
+    requires numbered { IsNumbered graph.now }
+    requires start { start < length graph.now.names.keys }
+    requires each { length seen.old.items ≡ length graph.now.names.keys }
+    requires marks { All (λ mark. mark < stamp) seen.old.items }
+    ensures reached { IfOk result (λ found. HasReached graph.now start found.items) }
+    ensures each { OnOk result (length seen.new.items ≡ length graph.now.names.keys) }
+    ensures marks { OnOk result (All (λ mark. mark ≤ stamp) seen.new.items) }
 {
-    let mut nodes = IndexSet::new(alloc);
-    add_targets(&mut nodes, targets, start)?;
+    let mut found = Vec::new(alloc);
+    add_targets(graph, &mut found, seen, stamp, start)?;
     // Nodes join at the end, and the edges of each are followed once.
     'nodes: for place in 0..usize::MAX {
-        if place >= nodes.len() {
-            return Ok(nodes);
+        if place >= found.len() {
+            return Ok(found);
         }
-        let node = *nodes.get_index(place).unwrap();
-        if !steps.is_step(node) {
-            add_targets(&mut nodes, targets, node)?;
+        let node = found[place];
+        if graph.step_of[node].is_none() {
+            add_targets(graph, &mut found, seen, stamp, node)?;
         }
     }
-    // No set has that many nodes.
-    let _len = nodes.len();
-    Ok(nodes)
+    // No list has that many nodes.
+    let _len = found.len();
+    Ok(found)
 }
 
 /// Adds the nodes to which the edges of a node lead.
-fn add_targets<'a>(
-    nodes: &mut IndexSet<&'a str>,
-    targets: &Targets<'a>,
-    node: &str,
+fn add_targets(
+    graph: &NumberedGraph<'_, '_>,
+    found: &mut Vec<usize>,
+    seen: &mut Vec<usize>,
+    stamp: usize,
+    node: usize,
 ) -> Result<(), AllocError>
-    ensures { OnOk result (texts nodes.new.keys ≡ with_all (texts nodes.old.keys) (targets_of targets.now node.now)) }
+    requires numbered { IsNumbered graph.now }
+    requires node { node < length graph.now.names.keys }
+    requires seen { AreSeen seen.old.items stamp found.old.items (length graph.now.names.keys) }
+    ensures joined { OnOk result (HaveJoined found.old.items (get_or (lists_in graph.now.targets.items) node []) found.new.items) }
+    ensures seen { OnOk result (AreSeen seen.new.items stamp found.new.items (length graph.now.names.keys)) }
 {
-    match targets.of(node) {
-        Some(more) => add_all(nodes, more.as_slice()),
-        None => Ok(()),
-    }
+    add_all(found, seen, stamp, &graph.targets[node])
 }
 
 /// Adds nodes that are not yet there.
-fn add_all<'a>(nodes: &mut IndexSet<&'a str>, more: &[&'a str]) -> Result<(), AllocError>
-    ensures { OnOk result (texts nodes.new.keys ≡ with_all (texts nodes.old.keys) (texts more.now)) }
+fn add_all(
+    found: &mut Vec<usize>,
+    seen: &mut Vec<usize>,
+    stamp: usize,
+    more: &[usize],
+) -> Result<(), AllocError>
+    requires within { All (λ node. node < length seen.old.items) more.now }
+    requires seen { AreSeen seen.old.items stamp found.old.items (length seen.old.items) }
+    ensures joined { OnOk result (HaveJoined found.old.items more.now found.new.items) }
+    ensures seen { OnOk result (AreSeen seen.new.items stamp found.new.items (length seen.old.items)) }
 {
     for node in more {
-        nodes.insert(*node)?;
+        if seen[*node] != stamp {
+            found.push(*node)?;
+            mark(seen, stamp, *node);
+        }
     }
     Ok(())
+}
+
+/// Marks a node.
+fn mark(seen: &mut Vec<usize>, stamp: usize, node: usize)
+    requires { node < length seen.old.items }
+    ensures { seen.new.items ≡ set seen.old.items node stamp }
+{
+    seen[node] = stamp;
 }

@@ -1,28 +1,33 @@
 //! The steps that one step waits for.
 
-ghost use Rattle.std.specs.Prelude.{◌≡◌, ◌<◌, ◌++◌, IfOk, OnOk, length, option_to_list};
-ghost use Rattle.input_graph.specs.StepNodes.{step_named};
-ghost use Rattle.input_graph.specs.Targets.{texts};
-ghost use Rattle.input_graph.specs.Waits.{AreWaits, steps_among, unless_same};
+ghost use Rattle.std.specs.Prelude.{◌≡◌, ◌<◌, ◌≤◌, ◌+◌, ◌++◌, All, IfOk, None, OnOk, get_or, length, option_to_list};
+ghost use Rattle.std.specs.List.{filter_map};
+ghost use Rattle.input_graph.specs.Numbering.{IsNumbered};
+ghost use Rattle.input_graph.specs.Waits.{AreWaits, unless_same};
 
+use crate::numbered_graph::NumberedGraph;
 use crate::reached::reached_nodes;
-use crate::step_nodes::StepNodes;
-use crate::targets::Targets;
-use indexmap::IndexSet;
 use std::alloc::{AllocError, Global};
 
-/// The steps that a step waits for, in their order. `Err` where memory is refused.
+/// The steps that a step waits for, in their order. `seen` has a mark for each node, of an earlier
+/// step. `Err` where memory is refused.
 pub fn step_waits(
     alloc: Global,
-    steps: &StepNodes<'_>,
-    targets: &Targets<'_>,
+    graph: &NumberedGraph<'_, '_>,
+    seen: &mut Vec<usize>,
     step: usize,
 ) -> Result<Vec<usize>, AllocError>
-    requires { step < length steps.now }
-    ensures { IfOk result (λ waits. AreWaits steps.now targets.now step waits.items) }
+    requires numbered { IsNumbered graph.now }
+    requires step { step < length graph.now.nodes.now }
+    requires each { length seen.old.items ≡ length graph.now.names.keys }
+    requires marks { All (λ mark. mark ≤ step) seen.old.items }
+    ensures waits { IfOk result (λ waits. AreWaits graph.now.nodes.now graph.now.edges step waits.items) }
+    ensures each { OnOk result (length seen.new.items ≡ length graph.now.names.keys) }
+    ensures marks { OnOk result (All (λ mark. mark ≤ step + 1) seen.new.items) }
 {
-    let nodes = reached_nodes(alloc, steps, targets, steps.name(step))?;
-    let mut waits = other_steps(alloc, steps, &nodes, step)?;
+    let start = graph.starts[step];
+    let nodes = reached_nodes(alloc, graph, seen, step + 1, start)?;
+    let mut waits = other_steps(alloc, &graph.step_of, &nodes, step)?;
     waits.sort_unstable();
     waits.dedup();
     Ok(waits)
@@ -31,35 +36,28 @@ pub fn step_waits(
 /// The numbers of the other steps among nodes, in the order of the nodes.
 fn other_steps(
     alloc: Global,
-    steps: &StepNodes<'_>,
-    nodes: &IndexSet<&str>,
+    step_of: &[Option<usize>],
+    nodes: &[usize],
     step: usize,
 ) -> Result<Vec<usize>, AllocError>
-    ensures { IfOk result (λ others. others.items ≡ steps_among steps.now step (texts nodes.now.keys)) }
+    requires { All (λ node. node < length step_of.now) nodes.now }
+    ensures { IfOk result (λ others. others.items ≡ filter_map (λ node. unless_same step (get_or step_of.now node None)) nodes.now) }
 {
     let mut others = Vec::new(alloc);
-    for place in 0..nodes.len() {
-        let node = *nodes.get_index(place).unwrap();
-        let other = other_step(steps, node, step);
-        add_other(&mut others, other)?;
+    for node in nodes {
+        add_other(&mut others, step_of[*node], step)?;
     }
     Ok(others)
 }
 
-/// Adds a step, if there is one.
-fn add_other(others: &mut Vec<usize>, other: Option<usize>) -> Result<(), AllocError>
-    ensures { OnOk result (others.new.items ≡ others.old.items ++ option_to_list other) }
+/// Adds a step, if there is one and it is not this one.
+fn add_other(others: &mut Vec<usize>, other: Option<usize>, step: usize) -> Result<(), AllocError>
+    ensures { OnOk result (others.new.items ≡ others.old.items ++ option_to_list (unless_same step other)) }
 {
     if let Some(other) = other {
-        others.push(other)?;
+        if other != step {
+            others.push(other)?;
+        }
     }
     Ok(())
-}
-
-/// The number of the step whose node has that name, unless it is this one.
-fn other_step(steps: &StepNodes<'_>, node: &str, step: usize) -> Option<usize>
-    ensures { result ≡ unless_same step (step_named steps.now node.now) }
-{
-    let other = steps.number(node)?;
-    if other == step { None } else { Some(other) }
 }

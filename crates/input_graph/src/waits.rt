@@ -13,6 +13,7 @@ use crate::circle::node_on_circle;
 use crate::graph::Graph;
 use crate::known_edges::known_edges;
 use crate::known_nodes::first_without_node;
+use crate::numbered_graph::NumberedGraph;
 use crate::step_node::StepNode;
 use crate::step_nodes::StepNodes;
 use crate::step_waits::step_waits;
@@ -75,19 +76,20 @@ fn circle_in<'a>(
 
 /// For each step, the numbers of the steps that it waits for. `edges` are the edges of the graph.
 /// `Err` is `WaitsFault::TooMany` or `WaitsFault::Memory`, as in `waits_of`.
-fn all_waits(
+fn all_waits<'a>(
     alloc: Global,
-    nodes: &StepNodes<'_>,
-    edges: Vec<(&str, &str)>,
+    nodes: &StepNodes<'a>,
+    edges: Vec<(&'a str, &'a str)>,
 ) -> Result<Vec<Vec<usize>>, WaitsFault>
     ensures ok { IfOk result (λ waits. AreWaitsAlong nodes.now (edge_texts edges.entry.items) (lists_in waits.items)) }
     ensures err { IfErr result (IsRefusedAlong nodes.now (edge_texts edges.entry.items)) }
 {
-    let targets = Targets::new(alloc, edges)?;
+    let graph = NumberedGraph::new(alloc, nodes, Targets::new(alloc, edges)?)?;
+    let mut seen = vec![in alloc; 0; graph.names.len()]?;
     let mut all = Vec::new(alloc);
     let mut count = 0;
     for step in 0..nodes.len() {
-        let waits = step_waits(alloc, nodes, &targets, step)?;
+        let waits = step_waits(alloc, &graph, &mut seen, step)?;
         let len = waits.len();
         if len > MAX_WAITS - count {
             return Err(WaitsFault::TooMany);

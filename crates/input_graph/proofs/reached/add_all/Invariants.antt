@@ -1,7 +1,6 @@
-use Rattle.std.proofs.Common.{◌≡◌, take}
-use Rattle.input_graph.specs.Nodes.{with_all}
-use Rattle.input_graph.specs.Targets.{texts}
+use Rattle.std.proofs.Common.{length, take}
+use Rattle.input_graph.specs.Numbering.{AreSeen, HaveJoined}
 use Rattle.input_graph.proofs.reached.add_all.Given as goal
 
 abbrev pub invariant-loop-node : goal.invariant-loop-node
-invariant-loop-node l = texts l.nodes.keys ≡ with_all (texts l.initial.nodes.keys) (take l.node-index (texts l.more))
+invariant-loop-node l = HaveJoined l.initial.found.items (take l.node-index l.more) l.found.items × AreSeen l.seen.items l.stamp l.found.items (length l.initial.seen.items)
