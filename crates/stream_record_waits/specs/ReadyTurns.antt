@@ -7,7 +7,8 @@ use Rattle.stream_record_waits.specs.Course.{Basis, Course, begins_turn, is_join
 use Rattle.stream_record_waits.specs.Graph.{waits_at}
 use Rattle.stream_record_waits.specs.LaneTime.{IsNoLater, is_earlier}
 
--- A turn goes before another: it is ready earlier, or at the same time and begins with a lower step.
+-- A turn goes before another: it is ready earlier, or at the same time and begins with a lower
+-- step.
 abbrev pub goes_first : ReadyTurn → ReadyTurn → Bool
 goes_first a b = is_earlier a.at b.at || not (is_earlier b.at a.at) && nat_lt a.step b.step
 
@@ -71,8 +72,8 @@ pub record AreRenewed (basis : Basis) (course : Course) (old new : ReadyTurns) (
   pub stay : (step : ℕ) → step < length basis.steps → turn_in old step ≡ turn_of basis course step → turn_in new step ≡ turn_of basis course step
   pub renewed : (step : ℕ) → step < length basis.steps → P step → turn_in new step ≡ turn_of basis course step
 
--- A turn may be ready at another time once the turn that begins with a step was put back or started:
--- it is that turn, or it may wait for that step or for the second step of that turn.
+-- A turn may be ready at another time once the turn that begins with a step was put back or
+-- started: it is that turn, or it may wait for that step or for the second step of that turn.
 abbrev pub IsAffected : Basis → (waiters : List (List ℕ)) → ℕ → ℕ → Type 0
 IsAffected basis waiters step other =
     (other ≡ step) ⊎ (Contains (waits_at waiters step) other ⊎ ((is_joined basis (step + 1) ≡ true) × Contains (waits_at waiters (step + 1)) other))

@@ -6,8 +6,8 @@ ghost use Rattle.stream_record_waits.specs.ReadyTurns.{first_of, goes_first};
 use crate::course::ReadyTurn;
 use std::alloc::{AllocError, Global};
 
-/// The turn of each step, if it is ready, in a tournament tree. The root is the turn that goes first.
-/// A change of one turn takes one comparison for each level of the tree.
+/// The turn of each step, if it is ready, in a tournament tree. The root is the turn that goes
+/// first. A change of one turn takes one comparison for each level of the tree.
 #[derive(Drop)]
 pub struct ReadyTurns {
     /// The number of steps.
