@@ -28,6 +28,7 @@ use Rattle.stream_record_waits.specs.Graph.{waits_at}
 use Rattle.stream_record_script.specs.Steps.{first_steps, script_of, script_step, script_steps}
 use Rattle.laws_recorded.specs.Graphs.{IsRankedGraph}
 use Rattle.laws_recorded.specs.Texts.{IsWritableRecording}
+use Rattle.laws_record.proofs.Whole.{same_step}
 use Rattle.laws_record.specs.Writable.{HasStep, IsWritable, IsWritableChange, IsWritableEntry, IsWritableStep, NamesEachObjectOnce, written}
 use Rattle.laws_recorded.proofs.Counts.{few_at, few_found, few_waits}
 use Rattle.laws_recorded.proofs.Items.{as_many_changes, change_steps, few_steps, item_in, step_item}
@@ -35,7 +36,7 @@ use Rattle.laws_recorded.proofs.Outcomes.{only_reads, outcome_at, outcome_is, we
 use Rattle.laws_recorded.proofs.Places.{IsOfChange, at_most_two, base, planned_at, stands_from}
 use Rattle.laws_recorded.proofs.Planned.{of_number, same_planned, wait_at, wait_of, waited}
 use Rattle.laws_recorded.proofs.Ranked.{WaitsLower, could}
-use Rattle.laws_recorded.proofs.Stated.{all_pointwise, at_all, entries_from, item_there, named_in, none_passes, same_step, stated_in, unless_none_is}
+use Rattle.laws_recorded.proofs.Stated.{all_pointwise, at_all, entries_from, item_there, named_in, none_passes, stated_in, unless_none_is}
 
 -- ---- what an item is
 

@@ -1,6 +1,6 @@
 -- The entries of a script, and what its text states.
 use Rattle.std.proofs.Common.{◌≡◌, ◌∙◌, ◌+◌, ◌<◌, ℕ, zero, suc, Bool, false, List, [], ◌∷◌, length, map, Option, None, Some, refl, sym, ap, arith, subst, ◌⊎◌, inl, inr}
-use Rattle.std.specs.Prelude.{◌||◌, IfSome, option_and_then, slice_get}
+use Rattle.std.specs.Prelude.{◌||◌, IfSome, slice_get}
 use Rattle.std.specs.List.{AllByRecursion, enumerate_from, list_any, zip}
 use Rattle.std.specs.Option.{option_map_or}
 use Rattle.apply_model.specs.declared.plan.step_kind.StepKind.{StepKind}
@@ -8,12 +8,11 @@ use Rattle.apply_model.specs.declared.script.outcome.Outcome.{Outcome}
 use Rattle.apply_model.specs.declared.script.script_step.ScriptStep.{ScriptStep}
 use Rattle.apply_model.specs.declared.script.wait.Wait.{Wait}
 use Rattle.apply_model.specs.Plan.ResourceChange.{ResourceChange}
-use Rattle.apply_model.specs.Script.OutcomeMap.{OutcomeMap, stated_step, stated_steps}
+use Rattle.apply_model.specs.Script.OutcomeMap.{OutcomeMap}
 use Rattle.apply_model.specs.Script.Step.{after_of, answer_to}
 use Rattle.apply_model.specs.Script.Waits.{named_for, stated_waits}
 use Rattle.stream_record.specs.ScriptText.{entry_steps, unless_no_steps}
-use Rattle.laws_record.specs.Writable.{AreWritableEntries, IsWritableEntry, written}
-use Rattle.laws_recorded.proofs.Ranked.{range_got}
+use Rattle.laws_record.specs.Writable.{AreWritableEntries, IsWritableEntry}
 
 -- ---- lists
 
@@ -67,19 +66,6 @@ unless_none_is P [] is = tt
 unless_none_is P (step ∷ steps) is = is
 
 -- ---- what the text states
-
-steps_written : (changes : List ResourceChange) (script : OutcomeMap) (c : ℕ) → c < length changes → stated_steps (written changes script) c ≡ entry_steps script c
-steps_written changes script c less =
-    let place : 0 + c ≡ c = omega arith in
-    ap (option_and_then (λ stated. stated)) (range_got (entry_steps script) 0 (length changes) c less) ∙ ap (entry_steps script) place
-
-one_step : (o : Option (List ScriptStep)) (k : ℕ) → option_and_then (λ steps. slice_get steps k) (option_and_then unless_no_steps o) ≡ option_and_then (λ steps. slice_get steps k) o
-one_step None k = refl
-one_step (Some []) k = refl
-one_step (Some (step ∷ steps)) k = refl
-
-pub same_step : (changes : List ResourceChange) (script : OutcomeMap) (c k : ℕ) → c < length changes → stated_step (written changes script) c k ≡ stated_step script c k
-same_step changes script c k less = ap (option_and_then (λ steps. slice_get steps k)) (steps_written changes script c less) ∙ one_step (stated_steps script c) k
 
 -- a stated wait is for the step before, or named
 pub stated_in : (script : OutcomeMap) (c k i : ℕ) (wait : Wait) → slice_get (stated_waits script c k) i ≡ Some wait
