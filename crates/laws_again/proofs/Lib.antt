@@ -1,0 +1,9 @@
+pub mod PlainRuns
+pub mod ComesAgain
+pub mod RecordedExtras
+pub mod TerraformRuns
+pub mod TerraformComesAgain
+pub mod LatestLines
+pub mod StreamSteps
+pub mod KnownWaits
+pub mod WithoutGraph

@@ -1,0 +1,4 @@
+pub mod Streams
+pub mod ReadBack
+pub mod TerraformStreams
+pub mod WithoutWaits

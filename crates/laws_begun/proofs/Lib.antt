@@ -1,0 +1,14 @@
+pub mod Places
+pub mod Sought
+pub mod Phases
+pub mod Goes
+pub mod Meant
+pub mod OwnLines
+pub mod OneLine
+pub mod AllLines
+pub mod KnownSteps
+pub mod WholeEvents
+pub mod InTurn
+pub mod WholeRuns
+pub mod AsItWent
+pub mod ReadRuns

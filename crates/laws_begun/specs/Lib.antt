@@ -1,0 +1,4 @@
+pub mod Telling
+pub mod Followed
+pub mod Runs
+pub mod Went

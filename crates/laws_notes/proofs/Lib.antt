@@ -1,0 +1,7 @@
+mod Dealt
+mod ReadBack
+mod Fitting
+mod OfStep
+mod Ahead
+mod Settled
+mod Again

@@ -1,0 +1,11 @@
+pub mod ShortLines
+pub mod OwnNotes
+pub mod CountedLines
+pub mod LooseNotes
+pub mod FilledAddresses
+pub mod OwnErrors
+pub mod OwnReads
+pub mod ReadScripts
+pub mod FinishedPlans
+pub mod ScriptObjects
+pub mod ShownWhole

@@ -1,0 +1,17 @@
+pub mod Frees
+pub mod RecordTimes
+pub mod Places
+pub mod BegunSteps
+pub mod RecordedSteps
+pub mod Turns
+pub mod Rounds
+pub mod Keeps
+pub mod NoWaits
+pub mod RunTimes
+pub mod RunSchedule
+pub mod Ordered
+pub mod Ranks
+pub mod ChangeOrder
+pub mod LaneEvents
+pub mod Told
+pub mod Numbered

@@ -1,0 +1,4 @@
+pub mod Dealing
+pub mod OfLanes
+pub mod OfRun
+pub mod Schedules

@@ -1,0 +1,3 @@
+pub mod PlanKept
+pub mod Outcomes
+pub mod RecordedRuns

@@ -1,0 +1,13 @@
+pub mod AllSteps
+pub mod EndPlaces
+pub mod Fitting
+pub mod Followable
+pub mod Forms
+pub mod KnownLines
+pub mod NotesTold
+pub mod Planned
+pub mod ReadBack
+pub mod Recorded
+pub mod Retold
+pub mod StepsKnown
+pub mod WholeSteps

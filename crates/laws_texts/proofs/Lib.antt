@@ -1,0 +1,17 @@
+pub mod BegunEvents
+pub mod Clocks
+pub mod EventsOfSteps
+pub mod HookLines
+pub mod LookedUp
+pub mod NoteLines
+pub mod NotesInOrder
+pub mod NotesOfSteps
+pub mod NotesOfTimeLines
+pub mod PlainStreams
+pub mod RunAlike
+pub mod WarningsOfEnds
+pub mod WholeStreams
+pub mod Terraform
+pub mod TimeLineStreams
+pub mod Totals
+pub mod Woven

@@ -1,0 +1,4 @@
+-- Terraform's form.
+pub mod HookLines
+pub mod NoteLines
+pub mod Streams

@@ -1,0 +1,5 @@
+use Rattle.laws_texts.proofs.TimeLineStreams.{same_plain}
+use Rattle.laws_texts.proofs.time_lines.time_lines_that_end_alike_have_the_same_stream.Goals as goal
+
+pub returns : goal.returns
+returns c = same_plain

@@ -1,0 +1,9 @@
+pub mod Increasing
+pub mod KeptWaits
+pub mod Applied
+pub mod StatesAt
+pub mod ChangeSteps
+pub mod StepPlaces
+pub mod RecordedScripts
+pub mod GoesAgain
+pub mod AsWritten
