@@ -257,5 +257,5 @@ read_of_steps plan bytes script c k change kind e at kind_is =
     let made = by_number (length plan.changes) listed.0 in
     let clear = unless_refused_ok (option_map NeverBegins (position_from (is_stuck made) 0 listed.0)) made script listed.2 in
     let suit = all_answered (Suits plan.changes) (λ (p : ℕ × Data). entry_at plan.changes (take p.0 (list_of elements.0)) p.1) (enumerate_from 0 (list_of elements.0)) listed.0
-        (λ p one is. entry_suits plan.changes (take p.0 (list_of elements.0)) p.1 one is) listed.1 in
+    (λ p one is. entry_suits plan.changes (take p.0 (list_of elements.0)) p.1 one is) listed.1 in
     subst (λ (s : OutcomeMap). IsOfStep change k kind (outcome_of s c k)) clear.1 (all_of_steps plan.changes listed.0 suit c k change kind at kind_is)
