@@ -1,3 +1,4 @@
+pub mod Considered
 pub mod PlainRuns
 pub mod ComesAgain
 pub mod RecordedExtras

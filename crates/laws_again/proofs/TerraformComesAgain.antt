@@ -1,6 +1,8 @@
 -- Streams in Terraform's form, by the bytes of what a run reads.
-use Rattle.std.proofs.Common.{◌≡◌, ◌∙◌, ℕ, List, [], Option, Some, None, Ok, Bool, cond, false, sym, ap, subst}
+use Rattle.std.proofs.Common.{◌≡◌, ◌∙◌, ℕ, List, [], ◌∷◌, Option, Some, None, Ok, Bool, cond, false, true, refl, sym, ap, ap₂, subst, subst₂}
 use Rattle.serde_json.specs.Data.{no_members}
+use Rattle.apply_model.specs.declared.details.note.Note.{Note}
+use Rattle.apply_model.specs.declared.details.output.Output.{Output}
 use Rattle.apply_model.specs.Plan.SavedPlan.{SavedPlan}
 use Rattle.apply_model.specs.Script.OutcomeMap.{OutcomeMap}
 use Rattle.apply_events.specs.declared.event.Event.{Event}
@@ -8,14 +10,17 @@ use Rattle.apply_events.specs.Waits.TimeLine.{IsTimeLine}
 use Rattle.apply_plan.specs.Plan.SavedPlan.{plan_of}
 use Rattle.apply_plan.specs.Script.OutcomeMap.{script_of}
 use Rattle.apply_plan_terraform.specs.Extras.{ExtrasOfScript, extras_of_bytes, with_notes}
+use Rattle.apply_plan_terraform.specs.declared.plan_notes.PlanNote.{PlanNote}
+use Rattle.apply_plan_terraform.specs.declared.plan_notes.PlanNote.TheVariants.{Partial, Unfinished}
+use Rattle.apply_plan_terraform.specs.Notes.{note_of_plan, written_notes}
 use Rattle.apply_plan_terraform.specs.ReadDetails.{DetailsOfPlan, details_of}
 use Rattle.apply_run.specs.InForm.{WasAppliedAsTerraformInLanes}
-use Rattle.apply_run.specs.Read.{StatedInputs, extras_of}
+use Rattle.apply_run.specs.Read.{StatedInputs, extras_of, is_unfinished}
 use Rattle.apply_run.specs.Run.{SinkState}
 use Rattle.apply_run.specs.declared.form_report.FormReport.{FormReport}
 use Rattle.apply_text.specs.declared.operation.Operation.{Operation}
 use Rattle.apply_writer.specs.Stream.Form.{stream_in}
-use Rattle.apply_writer.specs.Stream.Terraform.{terraform_form}
+use Rattle.apply_writer.specs.Stream.Terraform.{StreamExtras, terraform_form}
 use Rattle.stream_lines.specs.Cut.{cut_lines}
 use Rattle.stream_record_cli.specs.Recorded.{IsScriptOfBytes}
 use Rattle.stream_record_cli.specs.declared.command.recording.StreamChoice.{StreamChoice}
@@ -27,10 +32,9 @@ use Rattle.laws_own_streams.specs.Runs.{without_hooks}
 use Rattle.laws_record.specs.Extras.{outputs_by_name}
 use Rattle.laws_record.specs.Writable.{written}
 use Rattle.laws_waits.specs.Scripts.{recorded_script}
-use Rattle.laws_again.specs.Streams.{IsWholePlan, inputs_of}
+use Rattle.laws_again.specs.Streams.{inputs_of}
 use Rattle.laws_again.specs.TerraformStreams.{IsRunInForm, IsStreamInLanesInForm}
 use Rattle.laws_again.proofs.ComesAgain.{appended}
-use Rattle.laws_again.proofs.TerraformRuns.{finished}
 
 -- What a plan and a script state.
 abbrev pub inputs : SavedPlan → DetailsOfPlan → OutcomeMap → ExtrasOfScript → StatedInputs
@@ -50,27 +54,46 @@ pub record HasToldStreamInForm (IsTold : StatedInputs → Type 0) (plan : List �
   pub has : HasStreamInForm plan script saved details lanes start operation stream
   pub told : IsTold (inputs saved details has.steps has.extras)
 
+-- The only diagnostic of a plan that Terraform did not finish is its error.
+error_alone : (note : Option PlanNote) → is_unfinished note ≡ true → (script : List Note) → written_notes note script ≡ note_of_plan Unfinished ∷ []
+error_alone None unfinished script = absurd cc
+error_alone (Some Partial) unfinished script = absurd cc
+error_alone (Some Unfinished) unfinished script = refl
+
+abbrev pub without_changes : SavedPlan → SavedPlan
+without_changes saved = record { version = saved.version; changes = [] }
+
+abbrev pub with_error : DetailsOfPlan → List Output → StreamExtras
+with_error details outputs = record { details = details.changes; notes = note_of_plan Unfinished ∷ []; outputs = outputs }
+
+-- These bytes are the stream of a run of such a plan.
+pub record HasErrorStream (saved : SavedPlan) (details : DetailsOfPlan) (lanes start : ℕ) (operation : Operation) (stream : List ℕ) : Type 0 where
+  pub outputs : List Output
+  pub events : List Event
+  pub time_line : IsTimeLine (without_hooks (without_changes saved) []) lanes events
+  pub stream_is : stream ≡ stream_in (terraform_form (without_changes saved) [] (with_error details outputs) start operation) events
+
 module _ (plan : List ℕ) (script : Option (List ℕ)) (lanes start : ℕ) (operation : Operation) (stream : List ℕ)
-    (own : IsStreamInLanesInForm plan script lanes start operation stream) (whole : own.stated.details.note ≡ None) where
+    (own : IsStreamInLanesInForm plan script lanes start operation stream) where
   abbrev plan_if : (unfinished : Bool) → SavedPlan
-  plan_if unfinished = cond unfinished (record { version = own.stated.plan.version; changes = [] }) own.stated.plan
+  plan_if unfinished = cond unfinished (without_changes own.stated.plan) own.stated.plan
 
   abbrev script_if : (unfinished : Bool) → OutcomeMap
   script_if unfinished = cond unfinished [] own.stated.script
 
   -- A plan that Terraform finished is applied as it is.
-  abbrev stream_as_stated : HasStreamInForm plan script own.stated.plan own.stated.details lanes start operation stream
-  stream_as_stated = record {
+  abbrev stream_as_stated : is_unfinished own.stated.details.note ≡ false → HasStreamInForm plan script own.stated.plan own.stated.details lanes start operation stream
+  stream_as_stated finished = record {
     steps = own.stated.script;
     extras = own.stated.extras;
     events = own.events;
     run = record {
       read = own.read;
       sizes = own.sizes;
-      time_line = subst (λ (b : Bool). IsTimeLine (without_hooks (plan_if b) (script_if b)) lanes own.events) (finished own.stated.details.note whole) own.time_line;
+      time_line = subst (λ (b : Bool). IsTimeLine (without_hooks (plan_if b) (script_if b)) lanes own.events) finished own.time_line;
     };
     stream_is = subst (λ (b : Bool). stream ≡ stream_in (terraform_form (plan_if b) (script_if b) (extras_of own.stated) start operation) own.events)
-        (finished own.stated.details.note whole) own.stream_is;
+        finished own.stream_is;
   }
 
   -- What the plan states is read of its bytes.
@@ -81,17 +104,34 @@ module _ (plan : List ℕ) (script : Option (List ℕ)) (lanes start : ℕ) (ope
     same_details : own.stated.details ≡ details
     same_details = let both = sym own.read.details_are ∙ details_are in cc
 
-    has_stream : HasStreamInForm plan script saved details lanes start operation stream
-    has_stream =
-        subst (λ (s : SavedPlan). HasStreamInForm plan script s details lanes start operation stream) same_plan
-        (subst (λ (d : DetailsOfPlan). HasStreamInForm plan script own.stated.plan d lanes start operation stream) same_details stream_as_stated)
+    as_stated : (unfinished : Bool) → is_unfinished details.note ≡ unfinished → is_unfinished own.stated.details.note ≡ unfinished
+    as_stated unfinished is = ap (λ (d : DetailsOfPlan). is_unfinished d.note) same_details ∙ is
 
-    has_told_stream : (IsTold : StatedInputs → Type 0) → IsTold own.stated
+    has_stream : is_unfinished details.note ≡ false → HasStreamInForm plan script saved details lanes start operation stream
+    has_stream finished =
+        subst₂ (λ (s : SavedPlan) (d : DetailsOfPlan). HasStreamInForm plan script s d lanes start operation stream) same_plan same_details
+        (stream_as_stated (as_stated false finished))
+
+    has_told_stream : (IsTold : StatedInputs → Type 0) → IsTold own.stated → is_unfinished details.note ≡ false
         → HasToldStreamInForm IsTold plan script saved details lanes start operation stream
-    has_told_stream IsTold told =
-        subst (λ (s : SavedPlan). HasToldStreamInForm IsTold plan script s details lanes start operation stream) same_plan
-        (subst (λ (d : DetailsOfPlan). HasToldStreamInForm IsTold plan script own.stated.plan d lanes start operation stream) same_details
-        (record { has = stream_as_stated; told = told }))
+    has_told_stream IsTold told finished =
+        subst₂ (λ (s : SavedPlan) (d : DetailsOfPlan). HasToldStreamInForm IsTold plan script s d lanes start operation stream) same_plan same_details
+        (record { has = stream_as_stated (as_stated false finished); told = told })
+
+    -- Of a plan that Terraform did not finish no change is applied.
+    pub has_error_stream : is_unfinished details.note ≡ true → HasErrorStream saved details lanes start operation stream
+    has_error_stream unfinished =
+        let is = as_stated true unfinished in
+        subst₂ (λ (s : SavedPlan) (d : DetailsOfPlan). HasErrorStream s d lanes start operation stream) same_plan same_details
+        (record {
+          outputs = (extras_of own.stated).outputs;
+          events = own.events;
+          time_line = subst (λ (b : Bool). IsTimeLine (without_hooks (plan_if b) (script_if b)) lanes own.events) is own.time_line;
+          stream_is = own.stream_is
+              ∙ ap₂ (λ (b : Bool) (notes : List Note). stream_in (terraform_form (plan_if b) (script_if b)
+              (record { details = own.stated.details.changes; notes = notes; outputs = (extras_of own.stated).outputs }) start operation) own.events)
+              is (error_alone own.stated.details.note is own.stated.extras.notes);
+        })
 
 -- What a script states is read of its bytes.
 module _ (plan text : List ℕ) (saved : SavedPlan) (details : DetailsOfPlan) (lanes start : ℕ) (operation : Operation) (stream : List ℕ)
@@ -121,7 +161,6 @@ pub record IsToldAgain (IsTold : StatedInputs → Type 0) (plan : List ℕ) (scr
     (stream text warnings again : List ℕ) (is : IsScriptOfBytes plan graph choice stream text warnings) : Type 0 where
   pub first : HasToldStreamInForm IsTold plan script is.saved is.is.parts.details.details lanes start operation stream
   pub second : HasStreamInForm plan (Some text) is.saved is.is.parts.details.details lanes start operation again
-  pub none : is.is.parts.details.details.note ≡ None
   pub reads : read_of is.saved false 0 (cut_lines (stream_in (terraform_form is.saved first.has.steps
       (extras_of (inputs is.saved is.is.parts.details.details first.has.steps first.has.extras)) start operation) first.has.events)) ≡ Ok is.is.read
   pub steps_are : second.steps ≡ written is.saved.changes (recorded_script is.saved is.is.read.begun
@@ -131,20 +170,19 @@ pub record IsToldAgain (IsTold : StatedInputs → Type 0) (plan : List ℕ) (scr
 
 pub told_again : (IsTold : StatedInputs → Type 0) (plan : List ℕ) (script graph : Option (List ℕ)) (choice : StreamChoice) (lanes start : ℕ) (operation : Operation)
     (stream text warnings again : List ℕ) (is : IsScriptOfBytes plan graph choice stream text warnings)
-    (own : IsStreamInLanesInForm plan script lanes start operation stream) → IsTold own.stated → IsWholePlan plan
+    (own : IsStreamInLanesInForm plan script lanes start operation stream) → IsTold own.stated → is_unfinished is.is.parts.details.details.note ≡ false
     → IsReadOf is.saved false 0 stream (Ok is.is.read)
     → IsStreamInLanesInForm plan (Some text) lanes start operation again
     → script_of is.saved text ≡ Ok (written is.saved.changes (recorded_script is.saved is.is.read.begun
     (steps_in (plan_read plan graph choice stream text warnings is) is.is.read) is.is.is.after))
     → extras_of_bytes is.is.parts.details.details.outputs text ≡ Ok (found plan graph choice stream text warnings is)
     → IsToldAgain IsTold plan script graph choice lanes start operation stream text warnings again is
-told_again IsTold plan script graph choice lanes start operation stream text warnings again is own told whole as_read anew steps_read extras_read =
+told_again IsTold plan script graph choice lanes start operation stream text warnings again is own told finished as_read anew steps_read extras_read =
     let details = is.is.parts.details.details in
-    let first = has_told_stream plan script lanes start operation stream own (whole own.stated.details own.read.details_are) is.saved details is.read is.is.parts.details.read IsTold told in
-    let second = has_stream plan (Some text) lanes start operation again anew (whole anew.stated.details anew.read.details_are) is.saved details is.read is.is.parts.details.read in record {
+    let first = has_told_stream plan script lanes start operation stream own is.saved details is.read is.is.parts.details.read IsTold told finished in
+    let second = has_stream plan (Some text) lanes start operation again anew is.saved details is.read is.is.parts.details.read finished in record {
       first = first;
       second = second;
-      none = whole details is.is.parts.details.read;
       reads = subst (λ (bytes : List ℕ). read_of is.saved false 0 (cut_lines bytes) ≡ Ok is.is.read) first.has.stream_is as_read;
       steps_are = steps_are plan text is.saved details lanes start operation again second _ steps_read;
       extras_are = ap (λ (e : ExtrasOfScript). extras_of (inputs is.saved details first.has.steps e))

@@ -10,8 +10,6 @@ use Rattle.apply_model.specs.Plan.SavedPlan.{SavedPlan}
 use Rattle.apply_model.specs.Script.OutcomeMap.{OutcomeMap, outcome_of}
 use Rattle.apply_events.specs.declared.event.Event.{Event}
 use Rattle.apply_events.specs.Totals.{totals_of}
-use Rattle.apply_plan_terraform.specs.declared.plan_notes.PlanNote.{PlanNote}
-use Rattle.apply_run.specs.Read.{is_unfinished}
 use Rattle.apply_text.specs.declared.operation.Operation.{Operation}
 use Rattle.apply_text.specs.declared.operation.Operation.TheVariants.{Apply, Destroy}
 use Rattle.apply_text.specs.Latest.{latest_of}
@@ -22,10 +20,6 @@ use Rattle.apply_writer.specs.Stream.Form.{lines_in, stream_in}
 use Rattle.apply_writer.specs.Stream.Terraform.{StreamExtras, contains_error, imported_in, planned_id_of, terraform_form}
 use Rattle.laws_lines.specs.Stated.{id_in_form}
 use Rattle.laws_outputs.specs.Again.{AreShownAlike}
-
--- A plan without a note is one that Terraform finished.
-pub finished : (planned : Option PlanNote) → planned ≡ None → is_unfinished planned ≡ false
-finished planned none = ap is_unfinished none
 
 -- The id that the end of a step of the plan reports is that of its outcome, or the one that the
 -- plan gives.

@@ -1,9 +1,8 @@
 -- The streams of runs in lanes, without hooks, by the bytes of the plan and of the script.
-use Rattle.std.specs.Prelude.{◌≡◌, ℕ, List, [], false, Option, Some, None}
+use Rattle.std.specs.Prelude.{◌≡◌, ℕ, List, [], false, Option, None}
 use Rattle.apply_model.specs.Plan.SavedPlan.{SavedPlan}
 use Rattle.apply_model.specs.Script.Outcome.{is_warned}
 use Rattle.apply_model.specs.Script.OutcomeMap.{OutcomeMap, outcome_of}
-use Rattle.apply_plan_terraform.specs.ReadDetails.{DetailsOfPlan, details_of}
 use Rattle.apply_events.specs.declared.event.Event.{Event}
 use Rattle.apply_events.specs.Lanes.{AreLanes}
 use Rattle.apply_events.specs.Waits.TimeLine.{IsTimeLine}
@@ -36,10 +35,6 @@ pub record IsStreamInLanes (plan : List ℕ) (script : Option (List ℕ)) (lanes
   pub stream_is : stream ≡ stream_in (plain_form saved steps start operation) events
 
 -- ---- what `record` has to find
-
--- The plan is whole: neither of some targets alone nor left unfinished by an error.
-abbrev pub IsWholePlan : (plan : List ℕ) → Type 0
-IsWholePlan plan = (details : DetailsOfPlan) → details_of plan ≡ Some details → details.note ≡ None
 
 -- `record` reads the stream as it is, and pins no step behind the one it began after.
 pub record ReadsAsItIs (choice : StreamChoice) : Type 0 where

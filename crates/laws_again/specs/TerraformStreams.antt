@@ -86,11 +86,13 @@ AreOutputsAgain plan extras other_extras operation events =
     contains_error extras.notes (totals_of plan events) ≡ false → operation ≡ Apply
     → AreShownAlike other_extras.outputs extras.outputs
 
--- What is stated beyond the steps is told again. `notes` were read of the stream as they are, and
--- `left` are those of them that were recorded as of no step.
+-- What is stated beyond the steps is told again. `notes` were read of the stream as they are, but
+-- for the diagnostic of the plan, which each apply of it has (`of_plan`, none or one). `left` are
+-- those that were recorded as of no step.
 pub record AreExtrasAgain (plan : SavedPlan) (script : OutcomeMap) (extras other_extras : StreamExtras) (operation : Operation)
     (events : List Event) (notes left : List Note) : Type 0 where
   pub details : other_extras.details ≡ extras.details
-  pub notes_are : notes ≡ notes_by_ends diagnostic_address plan script events ++ extras.notes
-  pub left_are : other_extras.notes ≡ left
+  pub of_plan : List Note
+  pub notes_are : notes ++ of_plan ≡ notes_by_ends diagnostic_address plan script events ++ extras.notes
+  pub left_are : other_extras.notes ≡ left ++ of_plan
   pub outputs : AreOutputsAgain plan extras other_extras operation events

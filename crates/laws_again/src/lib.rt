@@ -18,6 +18,7 @@ pub use plain::{
     a_run_that_was_read_back_has_the_same_stream, a_stream_of_our_own_comes_again,
 };
 pub use terraform::{
+    a_plan_left_unfinished_has_one_stream,
     a_recorded_script_has_the_stream_of_its_run_in_terraforms_form,
     a_run_is_read_back_in_terraforms_form,
     a_run_that_was_read_back_has_the_same_stream_in_terraforms_form,

@@ -1,6 +1,6 @@
 //! Streams in the default form.
 
-ghost use Rattle.std.specs.Prelude.{◌≡◌, ◌<◌, ℕ, List, [], None, Ok, Option, Some, false};
+ghost use Rattle.std.specs.Prelude.{◌≡◌, ◌<◌, ℕ, List, [], Ok, Option, Some, false};
 ghost use Rattle.apply_events.specs.Waits.TimeLine.{IsTimeLine};
 ghost use Rattle.apply_events.specs.declared.event.Event.{Event};
 ghost use Rattle.apply_model.specs.Plan.SavedPlan.{SavedPlan};
@@ -14,7 +14,7 @@ ghost use Rattle.apply_text.specs.declared.operation.Operation.{Operation};
 ghost use Rattle.apply_writer.specs.Stream.Form.{plain_form, stream_in};
 ghost use Rattle.apply_writer.specs.declared.report.Report.{Report};
 ghost use Rattle.laws_again.specs.ReadBack.{plain_reading};
-ghost use Rattle.laws_again.specs.Streams.{IsRunInLanes, IsStreamInLanes, IsToldWhole, IsWholePlan, ReadsAsItIs, inputs_of};
+ghost use Rattle.laws_again.specs.Streams.{IsRunInLanes, IsStreamInLanes, IsToldWhole, ReadsAsItIs, inputs_of};
 ghost use Rattle.laws_begun.specs.Followed.{HasAddressesApart};
 ghost use Rattle.laws_lanes.specs.Alike.{GoesAlike};
 ghost use Rattle.laws_own_streams.specs.Runs.{without_hooks};
@@ -57,7 +57,7 @@ pub fn a_run_is_read_back()
     ensures { (plan : List ℕ) (script : Option (List ℕ)) (saved : SavedPlan) (steps : OutcomeMap) (lanes start : ℕ) (operation : Operation)
         (events : List Event) (of_plan : PlanRead) (read : StreamRead)
         → IsRunInLanes plan script saved steps lanes events → start < end_of_starts
-        → HasAddressesApart saved → ((c k : ℕ) → is_warned (outcome_of steps c k).result ≡ false) → of_plan.note ≡ None
+        → HasAddressesApart saved → ((c k : ℕ) → is_warned (outcome_of steps c k).result ≡ false)
         → read_of saved false 0 (cut_lines (stream_in (plain_form saved steps start operation) events)) ≡ Ok read
         → IsReadBack (without_hooks saved steps) lanes events (plain_reading saved steps start) read.begun [] read.notes
         (steps_in of_plan read) (notes_in of_plan read) }
@@ -94,7 +94,7 @@ pub fn a_recorded_script_has_the_stream_of_its_run()
     ensures { (plan : List ℕ) (script : Option (List ℕ)) (saved : SavedPlan) (steps other : OutcomeMap) (lanes start : ℕ) (operation : Operation)
         (events others : List Event) (graph : List ℕ) (waits after early : List (List ℕ)) (of_plan : PlanRead) (read : StreamRead) (wishes : Wishes)
         → IsRunInLanes plan script saved steps lanes events → start < end_of_starts
-        → IsToldWhole saved steps lanes graph → of_plan.note ≡ None → wishes.begins ≡ false
+        → IsToldWhole saved steps lanes graph → wishes.begins ≡ false
         → read_of saved false 0 (cut_lines (stream_in (plain_form saved steps start operation) events)) ≡ Ok read
         → AreGraphWaits saved.changes graph waits
         → AreRecordedWaits (steps_of_plan read.begun (steps_in of_plan read)) (Some waits) (choices_of of_plan wishes read) after early
@@ -117,7 +117,7 @@ pub fn a_stream_of_our_own_comes_again()
     ensures stream { (plan : List ℕ) (script : Option (List ℕ)) (graph : List ℕ) (choice : StreamChoice) (lanes start : ℕ)
         (operation : Operation) (stream text warnings again : List ℕ)
         → (own : IsStreamInLanes plan script lanes start operation stream) → start < end_of_starts
-        → IsWholePlan plan → IsToldWhole own.saved own.steps lanes graph → ReadsAsItIs choice
+        → IsToldWhole own.saved own.steps lanes graph → ReadsAsItIs choice
         → IsScriptOfBytes plan (Some graph) choice stream text warnings
         → IsStreamInLanes plan (Some text) lanes start operation again
         → again ≡ stream }
@@ -125,7 +125,7 @@ pub fn a_stream_of_our_own_comes_again()
         (operation : Operation) (stream text warnings again : List ℕ) (report other_report : Report) (before after other_before other_after : SinkState)
         → (applied : WasAppliedInLanes (inputs_of plan script) lanes start operation report before after)
         → before.bytes ≡ Some [] → after.bytes ≡ Some stream → start < end_of_starts
-        → IsWholePlan plan → IsToldWhole applied.plan applied.script lanes graph → ReadsAsItIs choice
+        → IsToldWhole applied.plan applied.script lanes graph → ReadsAsItIs choice
         → IsScriptOfBytes plan (Some graph) choice stream text warnings
         → WasAppliedInLanes (inputs_of plan (Some text)) lanes start operation other_report other_before other_after
         → other_before.bytes ≡ Some [] → other_after.bytes ≡ Some again

@@ -1,6 +1,6 @@
 //! Streams in Terraform's form.
 
-ghost use Rattle.std.specs.Prelude.{◌≡◌, ◌<◌, ◌++◌, ℕ, List, [], map, None, Ok, Option, Some, false};
+ghost use Rattle.std.specs.Prelude.{◌≡◌, ◌<◌, ◌++◌, ℕ, List, [], map, Ok, Option, Some, false, true};
 ghost use Rattle.serde_json.specs.Data.{no_members};
 ghost use Rattle.apply_events.specs.Totals.{totals_of};
 ghost use Rattle.apply_events.specs.Waits.TimeLine.{IsTimeLine};
@@ -10,8 +10,9 @@ ghost use Rattle.apply_model.specs.Script.Outcome.{is_warned};
 ghost use Rattle.apply_model.specs.Script.OutcomeMap.{OutcomeMap, outcome_of};
 ghost use Rattle.apply_model.specs.declared.details.note.Note.{Note};
 ghost use Rattle.apply_plan_terraform.specs.Extras.{extras_of_bytes, with_notes};
+ghost use Rattle.apply_plan_terraform.specs.ReadDetails.{DetailsOfPlan, details_of};
 ghost use Rattle.apply_run.specs.InForm.{WasAppliedAsTerraformInLanes};
-ghost use Rattle.apply_run.specs.Read.{StatedInputs, extras_of};
+ghost use Rattle.apply_run.specs.Read.{StatedInputs, extras_of, is_unfinished};
 ghost use Rattle.apply_run.specs.Run.{SinkState};
 ghost use Rattle.apply_run.specs.declared.form_report.FormReport.{FormReport};
 ghost use Rattle.apply_text.specs.Start.{end_of_starts};
@@ -19,7 +20,7 @@ ghost use Rattle.apply_text.specs.declared.operation.Operation.{Operation};
 ghost use Rattle.apply_text_terraform.specs.Message.{diagnostic_address};
 ghost use Rattle.apply_writer.specs.Stream.Form.{stream_in};
 ghost use Rattle.apply_writer.specs.Stream.Terraform.{StreamExtras, terraform_form};
-ghost use Rattle.laws_again.specs.Streams.{IsWholePlan, ReadsAsItIs, inputs_of};
+ghost use Rattle.laws_again.specs.Streams.{ReadsAsItIs, inputs_of};
 ghost use Rattle.laws_again.specs.TerraformStreams.{AreExtrasAgain, IsRunInForm, IsStreamInLanesInForm, IsShownWhole, IsToldWholeInForm, terraform_reading};
 ghost use Rattle.laws_begun.specs.Followed.{HasAddressesApart};
 ghost use Rattle.laws_lanes.specs.Alike.{GoesAlike};
@@ -35,9 +36,10 @@ ghost use Rattle.stream_lines.specs.Cut.{cut_lines};
 ghost use Rattle.stream_record_cli.specs.Graphs.{AreGraphWaits};
 ghost use Rattle.stream_record_cli.specs.Recorded.{IsScriptOfBytes};
 ghost use Rattle.stream_record_cli.specs.declared.command.recording.StreamChoice.{StreamChoice};
+ghost use Rattle.stream_record_outcomes.specs.Assignment.{considered};
 ghost use Rattle.stream_record_outcomes.specs.declared.recorded_step.RecordedStep.{RecordedStep};
 ghost use Rattle.stream_record_script.specs.Outputs.{script_outputs};
-ghost use Rattle.stream_record_script.specs.Recordings.{PlanRead, choices_of, notes_in, steps_in};
+ghost use Rattle.stream_record_script.specs.Recordings.{PlanRead, choices_of, circumstances_of, notes_in, steps_in};
 ghost use Rattle.stream_record_script.specs.Runs.{steps_of_plan};
 ghost use Rattle.stream_record_script.specs.declared.recording.Wishes.{Wishes};
 ghost use Rattle.stream_record_steps.specs.Begun.{Begun};
@@ -70,30 +72,30 @@ use laws_texts::time_lines_that_end_alike_have_the_same_stream_in_terraforms_for
 
 /// What `record` reads back of a run in Terraform's form.
 ///
-/// `back`: its steps. `notes`: its diagnostics, as they are. `outputs`: the outputs that the stream
-/// shows.
+/// Terraform finished the plan. `back`: its steps, and the diagnostics that `record` considers.
+/// `notes`: all diagnostics, as they are. `outputs`: the outputs that the stream shows.
 pub fn a_run_is_read_back_in_terraforms_form()
     ensures back { (plan : List ℕ) (script : Option (List ℕ)) (stated : StatedInputs) (lanes start : ℕ) (operation : Operation)
         (events : List Event) (of_plan : PlanRead) (read : StreamRead)
         → IsRunInForm plan script stated lanes events → start < end_of_starts
         → HasAddressesApart stated.plan → ((c k : ℕ) → is_warned (outcome_of stated.script c k).result ≡ false)
-        → IsShownWhole stated → stated.details.note ≡ None → of_plan.note ≡ None
+        → IsShownWhole stated → is_unfinished stated.details.note ≡ false → of_plan.note ≡ stated.details.note
         → read_of stated.plan false 0 (cut_lines (stream_in (terraform_form stated.plan stated.script (extras_of stated) start operation) events)) ≡ Ok read
         → IsReadBack (without_hooks stated.plan stated.script) lanes events
-        (terraform_reading stated.plan stated.script stated.details.changes start) read.begun (map shown_in_form (extras_of stated).notes) read.notes
-        (steps_in of_plan read) (notes_in of_plan read) }
+        (terraform_reading stated.plan stated.script stated.details.changes start) read.begun (map shown_in_form stated.extras.notes)
+        (considered (circumstances_of of_plan.note read) read.notes) (steps_in of_plan read) (notes_in of_plan read) }
     ensures notes { (plan : List ℕ) (script : Option (List ℕ)) (stated : StatedInputs) (lanes start : ℕ) (operation : Operation)
         (events : List Event) (read : StreamRead)
         → IsRunInForm plan script stated lanes events → start < end_of_starts
         → ((c k : ℕ) → is_warned (outcome_of stated.script c k).result ≡ false)
-        → IsShownWhole stated → stated.details.note ≡ None
+        → IsShownWhole stated → is_unfinished stated.details.note ≡ false
         → read_of stated.plan false 0 (cut_lines (stream_in (terraform_form stated.plan stated.script (extras_of stated) start operation) events)) ≡ Ok read
         → read.notes ≡ notes_by_ends diagnostic_address stated.plan stated.script events ++ (extras_of stated).notes }
     ensures outputs { (plan : List ℕ) (script : Option (List ℕ)) (stated : StatedInputs) (lanes start : ℕ) (operation : Operation)
         (events : List Event) (read : StreamRead)
         → IsRunInForm plan script stated lanes events → start < end_of_starts
         → ((c k : ℕ) → is_warned (outcome_of stated.script c k).result ≡ false)
-        → IsShownWhole stated → stated.details.note ≡ None
+        → IsShownWhole stated → is_unfinished stated.details.note ≡ false
         → read_of stated.plan false 0 (cut_lines (stream_in (terraform_form stated.plan stated.script (extras_of stated) start operation) events)) ≡ Ok read
         → read.outputs ≡ outputs_read (extras_of stated) operation (totals_of stated.plan events) }
 {
@@ -148,7 +150,7 @@ pub fn a_script_that_goes_alike_has_the_stream_of_its_run_in_terraforms_form()
         (lanes start : ℕ) (operation : Operation) (events others : List Event) (of_plan : PlanRead) (read : StreamRead)
         → IsRunInForm plan script stated lanes events → start < end_of_starts
         → HasAddressesApart stated.plan → ((c k : ℕ) → is_warned (outcome_of stated.script c k).result ≡ false)
-        → IsShownWhole stated → stated.details.note ≡ None → of_plan.note ≡ None
+        → IsShownWhole stated → is_unfinished stated.details.note ≡ false → of_plan.note ≡ stated.details.note
         → read_of stated.plan false 0 (cut_lines (stream_in (terraform_form stated.plan stated.script (extras_of stated) start operation) events)) ≡ Ok read
         → GoesAlike (without_hooks stated.plan stated.script) (without_hooks stated.plan other) lanes
         → HasRecorded (without_hooks stated.plan stated.script) lanes (steps_in of_plan read) other
@@ -172,7 +174,8 @@ pub fn a_recorded_script_has_the_stream_of_its_run_in_terraforms_form()
         (lanes start : ℕ) (operation : Operation) (events others : List Event) (graph : List ℕ) (waits after early : List (List ℕ))
         (of_plan : PlanRead) (read : StreamRead) (wishes : Wishes)
         → IsRunInForm plan script stated lanes events → start < end_of_starts
-        → IsToldWholeInForm stated lanes graph → stated.details.note ≡ None → of_plan.note ≡ None → wishes.begins ≡ false
+        → IsToldWholeInForm stated lanes graph → is_unfinished stated.details.note ≡ false → of_plan.note ≡ stated.details.note
+        → wishes.begins ≡ false
         → read_of stated.plan false 0 (cut_lines (stream_in (terraform_form stated.plan stated.script (extras_of stated) start operation) events)) ≡ Ok read
         → AreGraphWaits stated.plan.changes graph waits
         → AreRecordedWaits (steps_of_plan read.begun (steps_in of_plan read)) (Some waits) (choices_of of_plan wishes read) after early
@@ -191,6 +194,19 @@ pub fn a_recorded_script_has_the_stream_of_its_run_in_terraforms_form()
     a_script_that_goes_alike_has_the_stream_of_its_run_in_terraforms_form();
 }
 
+/// A plan that Terraform did not finish has one stream in Terraform's form, whatever the script
+/// says: the plan is applied without changes.
+pub fn a_plan_left_unfinished_has_one_stream()
+    ensures { (plan : List ℕ) (script other : Option (List ℕ)) (details : DetailsOfPlan) (lanes start : ℕ) (operation : Operation)
+        (stream again : List ℕ) → details_of plan ≡ Some details → is_unfinished details.note ≡ true
+        → IsStreamInLanesInForm plan script lanes start operation stream
+        → IsStreamInLanesInForm plan other lanes start operation again
+        → again ≡ stream }
+{
+    time_lines_are_unique();
+    no_stream_depends_on_a_sensitive_value();
+}
+
 /// A stream of our own comes again, in Terraform's form. The script that `record` writes of the
 /// stream of a run in lanes, with a graph of its waits, tells the same bytes in as many lanes. The
 /// run may fail, and may show outputs, also sensitive ones: their values stand in no stream.
@@ -201,7 +217,7 @@ pub fn a_stream_of_our_own_comes_again_in_terraforms_form()
     ensures stream { (plan : List ℕ) (script : Option (List ℕ)) (graph : List ℕ) (choice : StreamChoice) (lanes start : ℕ)
         (operation : Operation) (stream text warnings again : List ℕ)
         → (own : IsStreamInLanesInForm plan script lanes start operation stream) → start < end_of_starts
-        → IsWholePlan plan → IsToldWholeInForm own.stated lanes graph → ReadsAsItIs choice
+        → IsToldWholeInForm own.stated lanes graph → ReadsAsItIs choice
         → IsScriptOfBytes plan (Some graph) choice stream text warnings
         → IsStreamInLanesInForm plan (Some text) lanes start operation again
         → again ≡ stream }
@@ -209,7 +225,7 @@ pub fn a_stream_of_our_own_comes_again_in_terraforms_form()
         (operation : Operation) (stream text warnings again : List ℕ) (report other_report : FormReport) (before after other_before other_after : SinkState)
         → (applied : WasAppliedAsTerraformInLanes (inputs_of plan script) lanes start operation report before after)
         → before.bytes ≡ Some [] → after.bytes ≡ Some stream → start < end_of_starts
-        → IsWholePlan plan → IsToldWholeInForm applied.stated lanes graph → ReadsAsItIs choice
+        → IsToldWholeInForm applied.stated lanes graph → ReadsAsItIs choice
         → IsScriptOfBytes plan (Some graph) choice stream text warnings
         → WasAppliedAsTerraformInLanes (inputs_of plan (Some text)) lanes start operation other_report other_before other_after
         → other_before.bytes ≡ Some [] → other_after.bytes ≡ Some again
@@ -217,5 +233,6 @@ pub fn a_stream_of_our_own_comes_again_in_terraforms_form()
 {
     a_run_accepts_each_script_that_record_writes();
     outputs_and_diagnostics_of_a_stream_are_read_back();
+    a_plan_left_unfinished_has_one_stream();
     a_recorded_script_has_the_stream_of_its_run_in_terraforms_form();
 }

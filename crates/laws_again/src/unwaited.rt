@@ -13,7 +13,7 @@ ghost use Rattle.apply_text.specs.Start.{end_of_starts};
 ghost use Rattle.apply_text.specs.declared.operation.Operation.{Operation};
 ghost use Rattle.apply_writer.specs.Stream.Form.{plain_form, stream_in};
 ghost use Rattle.apply_writer.specs.declared.report.Report.{Report};
-ghost use Rattle.laws_again.specs.Streams.{IsRunInLanes, IsStreamInLanes, IsWholePlan, inputs_of};
+ghost use Rattle.laws_again.specs.Streams.{IsRunInLanes, IsStreamInLanes, inputs_of};
 ghost use Rattle.laws_again.specs.WithoutWaits.{AreWithoutWaits, IsToldWithoutWaits, ReadsInLanes, line_at};
 ghost use Rattle.laws_lanes.specs.Alike.{GoesAlike};
 ghost use Rattle.laws_own_streams.specs.Runs.{without_hooks};
@@ -86,7 +86,7 @@ pub fn a_recorded_script_without_waits_has_the_stream_of_its_run()
     ensures { (plan : List ℕ) (script : Option (List ℕ)) (saved : SavedPlan) (steps other : OutcomeMap) (lanes start : ℕ) (operation : Operation)
         (events others : List Event) (after early : List (List ℕ)) (of_plan : PlanRead) (read : StreamRead) (wishes : Wishes)
         → IsRunInLanes plan script saved steps lanes events → start < end_of_starts
-        → IsToldWithoutWaits saved steps → of_plan.note ≡ None
+        → IsToldWithoutWaits saved steps
         → read_of saved false 0 (cut_lines (stream_in (plain_form saved steps start operation) events)) ≡ Ok read
         → AreRecordedWaits (steps_of_plan read.begun (steps_in of_plan read)) None (choices_of of_plan wishes read) after early
         → AreSoundWaits (steps_of_plan read.begun (steps_in of_plan read)) after
@@ -134,7 +134,7 @@ pub fn a_stream_without_waits_comes_again()
     ensures stream { (plan : List ℕ) (script : Option (List ℕ)) (choice : StreamChoice) (lanes start : ℕ)
         (operation : Operation) (stream text warnings again : List ℕ)
         → (own : IsStreamInLanes plan script lanes start operation stream) → start < end_of_starts
-        → IsWholePlan plan → IsToldWithoutWaits own.saved own.steps → ReadsInLanes choice lanes
+        → IsToldWithoutWaits own.saved own.steps → ReadsInLanes choice lanes
         → IsScriptOfBytes plan None choice stream text warnings
         → IsStreamInLanes plan (Some text) lanes start operation again
         → again ≡ stream }
@@ -142,7 +142,7 @@ pub fn a_stream_without_waits_comes_again()
         (operation : Operation) (stream text warnings again : List ℕ) (report other_report : Report) (before after other_before other_after : SinkState)
         → (applied : WasAppliedInLanes (inputs_of plan script) lanes start operation report before after)
         → before.bytes ≡ Some [] → after.bytes ≡ Some stream → start < end_of_starts
-        → IsWholePlan plan → IsToldWithoutWaits applied.plan applied.script → ReadsInLanes choice lanes
+        → IsToldWithoutWaits applied.plan applied.script → ReadsInLanes choice lanes
         → IsScriptOfBytes plan None choice stream text warnings
         → WasAppliedInLanes (inputs_of plan (Some text)) lanes start operation other_report other_before other_after
         → other_before.bytes ≡ Some [] → other_after.bytes ≡ Some again

@@ -7,14 +7,14 @@ ghost use Rattle.apply_events.specs.declared.event.Event.{Event};
 ghost use Rattle.apply_model.specs.Script.OutcomeMap.{OutcomeMap};
 ghost use Rattle.apply_plan_terraform.specs.Extras.{with_notes};
 ghost use Rattle.apply_run.specs.InForm.{WasAppliedAsTerraformInLanes};
-ghost use Rattle.apply_run.specs.Read.{StatedInputs, extras_of};
+ghost use Rattle.apply_run.specs.Read.{StatedInputs, extras_of, is_unfinished};
 ghost use Rattle.apply_run.specs.Run.{SinkState};
 ghost use Rattle.apply_run.specs.declared.form_report.FormReport.{FormReport};
 ghost use Rattle.apply_text.specs.Start.{end_of_starts};
 ghost use Rattle.apply_text.specs.declared.operation.Operation.{Operation};
 ghost use Rattle.apply_writer.specs.Stream.Form.{stream_in};
 ghost use Rattle.apply_writer.specs.Stream.Terraform.{StreamExtras, terraform_form};
-ghost use Rattle.laws_again.specs.Streams.{IsWholePlan, inputs_of};
+ghost use Rattle.laws_again.specs.Streams.{inputs_of};
 ghost use Rattle.laws_again.specs.TerraformStreams.{IsRunInForm, IsStreamInLanesInForm};
 ghost use Rattle.laws_again.specs.WithoutWaits.{IsToldWithoutWaitsInForm, ReadsInLanes};
 ghost use Rattle.laws_own_streams.specs.Runs.{without_hooks};
@@ -33,7 +33,7 @@ ghost use Rattle.stream_record_stream.specs.Streams.{StreamRead};
 ghost use Rattle.stream_record_waits.specs.Recorded.{AreRecordedWaits, AreSoundWaits};
 
 use crate::terraform::{
-    a_run_is_read_back_in_terraforms_form,
+    a_plan_left_unfinished_has_one_stream, a_run_is_read_back_in_terraforms_form,
     a_script_that_goes_alike_has_the_stream_of_its_run_in_terraforms_form,
     outputs_and_diagnostics_of_a_stream_are_read_back,
 };
@@ -51,7 +51,7 @@ pub fn a_recorded_script_without_waits_has_the_stream_of_its_run_in_terraforms_f
         (lanes start : ℕ) (operation : Operation) (events others : List Event) (after early : List (List ℕ))
         (of_plan : PlanRead) (read : StreamRead) (wishes : Wishes)
         → IsRunInForm plan script stated lanes events → start < end_of_starts
-        → IsToldWithoutWaitsInForm stated → stated.details.note ≡ None → of_plan.note ≡ None → wishes.lanes ≡ lanes
+        → IsToldWithoutWaitsInForm stated → is_unfinished stated.details.note ≡ false → of_plan.note ≡ stated.details.note → wishes.lanes ≡ lanes
         → read_of stated.plan false 0 (cut_lines (stream_in (terraform_form stated.plan stated.script (extras_of stated) start operation) events)) ≡ Ok read
         → AreRecordedWaits (steps_of_plan read.begun (steps_in of_plan read)) None (choices_of of_plan wishes read) after early
         → AreSoundWaits (steps_of_plan read.begun (steps_in of_plan read)) after
@@ -80,7 +80,7 @@ pub fn a_stream_without_waits_comes_again_in_terraforms_form()
     ensures stream { (plan : List ℕ) (script : Option (List ℕ)) (choice : StreamChoice) (lanes start : ℕ)
         (operation : Operation) (stream text warnings again : List ℕ)
         → (own : IsStreamInLanesInForm plan script lanes start operation stream) → start < end_of_starts
-        → IsWholePlan plan → IsToldWithoutWaitsInForm own.stated → ReadsInLanes choice lanes
+        → IsToldWithoutWaitsInForm own.stated → ReadsInLanes choice lanes
         → IsScriptOfBytes plan None choice stream text warnings
         → IsStreamInLanesInForm plan (Some text) lanes start operation again
         → again ≡ stream }
@@ -88,7 +88,7 @@ pub fn a_stream_without_waits_comes_again_in_terraforms_form()
         (operation : Operation) (stream text warnings again : List ℕ) (report other_report : FormReport) (before after other_before other_after : SinkState)
         → (applied : WasAppliedAsTerraformInLanes (inputs_of plan script) lanes start operation report before after)
         → before.bytes ≡ Some [] → after.bytes ≡ Some stream → start < end_of_starts
-        → IsWholePlan plan → IsToldWithoutWaitsInForm applied.stated → ReadsInLanes choice lanes
+        → IsToldWithoutWaitsInForm applied.stated → ReadsInLanes choice lanes
         → IsScriptOfBytes plan None choice stream text warnings
         → WasAppliedAsTerraformInLanes (inputs_of plan (Some text)) lanes start operation other_report other_before other_after
         → other_before.bytes ≡ Some [] → other_after.bytes ≡ Some again
@@ -96,5 +96,6 @@ pub fn a_stream_without_waits_comes_again_in_terraforms_form()
 {
     a_run_accepts_each_script_that_record_writes();
     outputs_and_diagnostics_of_a_stream_are_read_back();
+    a_plan_left_unfinished_has_one_stream();
     a_recorded_script_without_waits_has_the_stream_of_its_run_in_terraforms_form();
 }

@@ -56,31 +56,35 @@ all_whole (note ∷ notes) whole =
 
 -- ---- those of steps
 
-next_whole : (one : Option Note) (notes : List Note) → IfSome one IsShownWhole → AllByRecursion IsShownWhole notes → AllByRecursion IsShownWhole (cons_option one notes)
-next_whole None notes one others = others
-next_whole (Some note) notes one others = (one, others)
-
-module _ (plan : SavedPlan) (script : OutcomeMap)
-    (failures : (c k : ℕ) → IsWhole (failure_diag (outcome_of script c k))) (warnings : (c k : ℕ) → IsWhole (warning_of (outcome_of script c k).result)) where
-  end_whole : (e : Event) → IfSome (told_after diagnostic_address plan script e) IsShownWhole
-  end_whole e =
-      gone_on (λ _. Unit {0}) IsShownWhole _ (slice_get plan.changes e.change)
-      (λ change u. gone_on (λ _. Unit {0}) IsShownWhole _ (slice_get change.steps e.step) (λ kind u. of_step change kind (fails outcome) (has_warning outcome.result)) (any_given (slice_get change.steps e.step)))
+module _ (P : Note → Type 0) (address : ResourceChange → StepKind → Outcome → Option (List ℕ)) (plan : SavedPlan) (script : OutcomeMap)
+    (failures : (change : ResourceChange) (kind : StepKind) (c k : ℕ)
+    → P (record { severity = Error; diag = failure_diag (outcome_of script c k); address = address change kind (outcome_of script c k) }))
+    (warnings : (change : ResourceChange) (kind : StepKind) (c k : ℕ)
+    → P (record { severity = Warning; diag = warning_of (outcome_of script c k).result; address = address change kind (outcome_of script c k) })) where
+  end_holds : (e : Event) → IfSome (told_after address plan script e) P
+  end_holds e =
+      gone_on (λ _. Unit {0}) P _ (slice_get plan.changes e.change)
+      (λ change u. gone_on (λ _. Unit {0}) P _ (slice_get change.steps e.step) (λ kind u. of_step change kind (fails outcome) (has_warning outcome.result)) (any_given (slice_get change.steps e.step)))
       (any_given (slice_get plan.changes e.change))
     where
       outcome : Outcome
       outcome = outcome_of script e.change e.step
 
       of_step : (change : ResourceChange) (kind : StepKind) (failed warns : Bool)
-          → IfSome (cond failed (Some (record { severity = Error; diag = failure_diag outcome; address = diagnostic_address change kind outcome }))
-          (cond warns (Some (record { severity = Warning; diag = warning_of outcome.result; address = diagnostic_address change kind outcome })) None)) IsShownWhole
-      of_step change kind true warns = failures e.change e.step
-      of_step change kind false true = warnings e.change e.step
+          → IfSome (cond failed (Some (record { severity = Error; diag = failure_diag outcome; address = address change kind outcome }))
+          (cond warns (Some (record { severity = Warning; diag = warning_of outcome.result; address = address change kind outcome })) None)) P
+      of_step change kind true warns = failures change kind e.change e.step
+      of_step change kind false true = warnings change kind e.change e.step
       of_step change kind false false = tt
 
-  ends_whole : (events : List Event) → AllByRecursion IsShownWhole (filter_map (told_after diagnostic_address plan script) events)
-  ends_whole [] = tt
-  ends_whole (e ∷ events) = next_whole (told_after diagnostic_address plan script e) (filter_map (told_after diagnostic_address plan script) events) (end_whole e) (ends_whole events)
+  next_holds : (one : Option Note) (notes : List Note) → IfSome one P → AllByRecursion P notes → AllByRecursion P (cons_option one notes)
+  next_holds None notes one others = others
+  next_holds (Some note) notes one others = (one, others)
+
+  -- What holds of each diagnostic that a step of the plan may have holds of those of the steps that end.
+  pub ends_hold : (events : List Event) → AllByRecursion P (filter_map (told_after address plan script) events)
+  ends_hold [] = tt
+  ends_hold (e ∷ events) = next_holds (told_after address plan script e) (filter_map (told_after address plan script) events) (end_holds e) (ends_hold events)
 
 -- ---- those of no step
 
@@ -123,9 +127,9 @@ pub shown_whole : (plan : List ℕ) (script : Option (List ℕ)) (stated : State
     → notes_read_by_ends_in_form stated.plan stated.script (extras_of stated) events ≡ notes_by_ends diagnostic_address stated.plan stated.script events ++ (extras_of stated).notes
 shown_whole plan script stated events is shallow =
     let objects : (c k : ℕ) → _ = outcome_has stated.plan script stated.script is.script_is in
-    let failures : (c k : ℕ) → IsWhole (failure_diag (outcome_of stated.script c k)) = λ c k. is_whole _ (objects c k).0 (shallow.failures c k) in
-    let warnings : (c k : ℕ) → IsWhole (warning_of (outcome_of stated.script c k).result) = λ c k. is_whole _ (objects c k).1 (shallow.warnings c k) in
+    let failures : (change : ResourceChange) (kind : StepKind) (c k : ℕ) → IsWhole (failure_diag (outcome_of stated.script c k)) = λ change kind c k. is_whole _ (objects c k).0 (shallow.failures c k) in
+    let warnings : (change : ResourceChange) (kind : StepKind) (c k : ℕ) → IsWhole (warning_of (outcome_of stated.script c k).result) = λ change kind c k. is_whole _ (objects c k).1 (shallow.warnings c k) in
     let loose_objects = written_hold NoteHasObjects note_objects (record { range = tt; snippet = tt }) (record { range = tt; snippet = tt }) script stated is.extras_are in
     ap₂ (λ (a b : List Note). a ++ b)
-    (all_whole _ (ends_whole stated.plan stated.script failures warnings (ends_of (hook_messages_of events))))
+    (all_whole _ (ends_hold IsShownWhole diagnostic_address stated.plan stated.script failures warnings (ends_of (hook_messages_of events))))
     (all_whole (extras_of stated).notes (both_whole (extras_of stated).notes loose_objects shallow.loose))

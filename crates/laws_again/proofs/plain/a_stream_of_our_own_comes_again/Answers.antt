@@ -11,7 +11,7 @@ use Rattle.laws_again.proofs.ComesAgain.{HasStream, HasWholeStream, as_it_is, gr
 use Rattle.laws_again.proofs.plain.a_stream_of_our_own_comes_again.Goals as goal
 
 pub returns-clause-stream : goal.returns-clause-stream
-returns-clause-stream c plan script graph choice lanes start operation stream text warnings again own soon whole told as_is is anew =
+returns-clause-stream c plan script graph choice lanes start operation stream text warnings again own soon told as_is is anew =
     let of_plan : PlanRead = record { plan = is.saved; note = is.is.note; outputs = is.is.outputs } in
     let read = is.is.read in
     let here : own.saved ≡ is.saved = (let both = sym own.run.read.plan_is ∙ is.read in cc) in
@@ -29,13 +29,13 @@ returns-clause-stream c plan script graph choice lanes start operation stream te
     second.stream_is
     ∙ c.a_recorded_script_has_the_stream_of_its_run.ensures plan script is.saved first.has.steps second.steps lanes start operation first.has.events second.events
     graph waits.0 is.is.is.after is.is.is.early of_plan read choice.wishes first.has.run soon first.told
-    (is.is.parts.details.note_is ∙ whole is.is.parts.details.details is.is.parts.details.read) as_is.pins_nothing reads waits.1.1
+    as_is.pins_nothing reads waits.1.1
     (subst (λ (o : Option (List (List ℕ))). AreRecordedWaits (steps_of_plan read.begun (steps_in of_plan read)) o (choices_of of_plan choice.wishes read) is.is.is.after is.is.is.early) waits.1.0 is.is.is.waits)
     other_is second.run.time_line
     ∙ sym first.has.stream_is
 
 pub returns-clause-applied : goal.returns-clause-applied
-returns-clause-applied c plan script graph choice lanes start operation stream text warnings again report other_report before after other_before other_after applied none all soon whole told as_is is anew other_none other_all =
+returns-clause-applied c plan script graph choice lanes start operation stream text warnings again report other_report before after other_before other_after applied none all soon told as_is is anew other_none other_all =
     returns-clause-stream c plan script graph choice lanes start operation stream text warnings again
     (record {
       saved = applied.plan;
@@ -44,7 +44,7 @@ returns-clause-applied c plan script graph choice lanes start operation stream t
       run = record { read = applied.read; sizes = applied.sizes; time_line = applied.streamed.time_line };
       stream_is = written_by plan script lanes start operation report before after stream applied none all;
     })
-    soon whole told as_is is
+    soon told as_is is
     (record {
       saved = anew.plan;
       steps = anew.script;

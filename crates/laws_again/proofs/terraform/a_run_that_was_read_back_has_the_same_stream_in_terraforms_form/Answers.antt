@@ -1,4 +1,5 @@
-use Rattle.std.proofs.Common.{◌∙◌, ◌++◌, List, refl, ap}
+use Rattle.std.proofs.Common.{◌∙◌, ◌++◌, List, refl, sym, ap}
+use Rattle.std.proofs.lemmas.List.{append_assoc}
 use Rattle.apply_model.specs.declared.details.note.Note.{Note}
 use Rattle.apply_text.specs.Order.{hook_messages_of}
 use Rattle.apply_text_terraform.specs.Message.{diagnostic_address}
@@ -34,7 +35,8 @@ returns c saved steps other extras other_extras lanes start operation events oth
             (id_is saved steps extras.details d k is.change kind is.change_at is.kind_at));
       };
       notes = ap (λ (l : List Note). notes_by_ends diagnostic_address saved other events ++ l) beyond.left_are
-          ∙ c.recorded_diagnostics_come_again.ensures.again work lanes events reading begun loose notes recorded left other back has
+          ∙ sym (append_assoc (notes_by_ends diagnostic_address saved other events) left beyond.of_plan)
+          ∙ ap (λ (l : List Note). l ++ beyond.of_plan) (c.recorded_diagnostics_come_again.ensures.again work lanes events reading begun loose notes recorded left other back has)
           ∙ beyond.notes_are;
     })
     ∙ same_outputs saved steps extras start events operation extras.outputs other_extras.outputs

@@ -14,7 +14,7 @@ use Rattle.laws_again.proofs.WithoutGraph.{HasStreamWithoutWaits, no_waits_state
 use Rattle.laws_again.proofs.unwaited.a_stream_without_waits_comes_again.Goals as goal
 
 pub returns-clause-stream : goal.returns-clause-stream
-returns-clause-stream c plan script choice lanes start operation stream text warnings again own soon whole told as_is is anew =
+returns-clause-stream c plan script choice lanes start operation stream text warnings again own soon told as_is is anew =
     let of_plan : PlanRead = record { plan = is.saved; note = is.is.note; outputs = is.is.outputs } in
     let read = is.is.read in
     let recorded = steps_in of_plan read in
@@ -31,21 +31,20 @@ returns-clause-stream c plan script choice lanes start operation stream text war
     (whole_as_it_is is.saved choice lanes stream read as_is is.is.parts.was_read) in
     let same = c.a_run_accepts_each_script_that_record_writes.ensures.same plan None choice stream text warnings is in
     let other_is : second.steps ≡ written is.saved.changes (recorded_script is.saved read.begun recorded is.is.is.after) = (let both = sym second.run.read.script_is ∙ same in cc) in
-    let note_is = is.is.parts.details.note_is ∙ whole is.is.parts.details.details is.is.parts.details.read in
     let are = subst (λ (o : Option (List (List ℕ))). AreRecordedWaits (steps_of_plan read.begun recorded) o choices is.is.is.after is.is.is.early)
     (no_waits_stated is.saved.changes is.waits is.stated) is.is.is.waits in
     let back = c.a_run_is_read_back.ensures plan script is.saved first.has.steps lanes start operation first.has.events of_plan read
-    first.has.run soon first.told.addresses first.told.ends note_is reads in
+    first.has.run soon first.told.addresses first.told.ends reads in
     let none = c.a_stream_without_waits_gets_none.ensures (without_hooks is.saved first.has.steps) lanes first.has.events (plain_reading is.saved first.has.steps start)
     read.begun [] read.notes recorded (notes_in of_plan read) choices is.is.is.after is.is.is.early back first.told.none as_is.in_lanes are in
     second.stream_is
     ∙ c.a_recorded_script_without_waits_has_the_stream_of_its_run.ensures plan script is.saved first.has.steps second.steps lanes start operation first.has.events second.events
-    is.is.is.after is.is.is.early of_plan read choice.wishes first.has.run soon first.told note_is reads are is.is.is.sound none
+    is.is.is.after is.is.is.early of_plan read choice.wishes first.has.run soon first.told reads are is.is.is.sound none
     other_is second.run.time_line
     ∙ sym first.has.stream_is
 
 pub returns-clause-applied : goal.returns-clause-applied
-returns-clause-applied c plan script choice lanes start operation stream text warnings again report other_report before after other_before other_after applied none all soon whole told as_is is anew other_none other_all =
+returns-clause-applied c plan script choice lanes start operation stream text warnings again report other_report before after other_before other_after applied none all soon told as_is is anew other_none other_all =
     returns-clause-stream c plan script choice lanes start operation stream text warnings again
     (record {
       saved = applied.plan;
@@ -54,7 +53,7 @@ returns-clause-applied c plan script choice lanes start operation stream text wa
       run = record { read = applied.read; sizes = applied.sizes; time_line = applied.streamed.time_line };
       stream_is = written_by plan script lanes start operation report before after stream applied none all;
     })
-    soon whole told as_is is
+    soon told as_is is
     (record {
       saved = anew.plan;
       steps = anew.script;
