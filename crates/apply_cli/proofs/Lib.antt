@@ -1,10 +1,7 @@
-mod AsTerraform
 mod Ending
 mod Followed
 mod Front
 mod Fronts
-mod InForm
-mod InLanes
 mod Prefixes
 mod Reports
 mod ScriptFile

@@ -1,18 +1,23 @@
 -- From the bytes that were read of a script's file to all of the file.
-use Rattle.std.proofs.Common.{◌≡◌, ℕ, ◌+◌, ◌<◌, ◌≤◌, ⊎_elim, List, length, take, true, nat_lt, Option, None, Some, IfSome, Ok, Err, refl, subst}
+use Rattle.std.proofs.Common.{◌≡◌, ℕ, ◌+◌, ◌<◌, ◌≤◌, inl, inr, ⊎_elim, List, length, take, true, nat_lt, Option, None, Some, IfSome, Ok, Err, ap, ◌∙◌, refl, subst, sym, take_all}
+use Rattle.std.specs.Io.KnownBytes.{Keeps}
 use Rattle.std.proofs.lemmas.Bool.{cases_lt, lt-ltb}
 use Rattle.apply_plan.specs.declared.script.script_error.ScriptError.TheVariants.{TooLarge}
 use Rattle.apply_plan.specs.Bytes.{max_bytes}
 use Rattle.apply_plan.specs.Plan.SavedPlan.{SavedPlan}
 use Rattle.apply_plan.specs.Script.OutcomeMap.{OutcomeMap, script_of}
+use Rattle.apply_hooks.specs.declared.rule.Rule.{Rule}
 use Rattle.apply_text_terraform.specs.declared.form.Form.{Form}
 use Rattle.apply_text_terraform.specs.declared.form.Form.TheVariants.{Applystream, Terraform}
-use Rattle.apply_run.specs.Bytes.{Inputs, IsRead, given_script}
-use Rattle.apply_run.specs.Read.{IsStated, StatedInputs}
+use Rattle.apply_run.specs.Bytes.{Inputs, given_script}
+use Rattle.apply_run.specs.FromBytes.{IsReadFor, ReadFor}
 use Rattle.apply_run.specs.Run.{SinkState}
+use Rattle.apply_cli_args.specs.Halt.{hooks_of_halts}
+use Rattle.apply_cli_args.specs.declared.invocation.Invocation.{Invocation}
 use Rattle.apply_cli_args.specs.declared.settings.Settings.{Settings}
-use Rattle.apply_cli.specs.Command.{AreOfName, IsFrontOfFile, OfFile}
-use Rattle.apply_cli.specs.Invocation.{HasAppliedAsAsked, HasBegunAsAsked}
+use Rattle.apply_cli.specs.Command.{AreOfName, IsFrontOfFile, OfFile, OfInput}
+use Rattle.apply_cli.specs.Ended.{HasEndedOn}
+use Rattle.apply_cli.specs.Invocation.{HasAppliedAsAsked, HasBegunAsAsked, WasFollowed, WasFollowedInPart, given_of}
 use Rattle.apply_cli.proofs.Front.{whole_by}
 
 too_large : (plan : SavedPlan) (bytes : List ℕ) → max_bytes < length bytes → script_of plan bytes ≡ Err TooLarge
@@ -23,28 +28,20 @@ small : (plan : SavedPlan) (script : OutcomeMap) (bytes : List ℕ) → script_o
 small plan script bytes is =
     ⊎_elim (λ (long : max_bytes < length bytes). let refused = too_large plan bytes long in absurd cc) (λ (short : length bytes ≤ max_bytes). short) (cases_lt max_bytes (length bytes))
 
-read_fits : (given : Inputs) (bytes : List ℕ) (plan : SavedPlan) (script : OutcomeMap) → given.script ≡ Some bytes → IsRead given plan script → length bytes ≤ max_bytes
-read_fits given bytes plan script is read = small plan script bytes (subst (λ s. given_script plan s ≡ Ok script) is read.script_is)
-
-stated_fits : (given : Inputs) (bytes : List ℕ) (stated : StatedInputs) → given.script ≡ Some bytes → IsStated given.plan given.script stated → length bytes ≤ max_bytes
-stated_fits given bytes stated is read = small stated.plan stated.script bytes (subst (λ s. given_script stated.plan s ≡ Ok stated.script) is read.script_is)
+read_fits : (form : Form) (given : Inputs) (bytes : List ℕ) (read : ReadFor form) → given.script ≡ Some bytes → IsReadFor form given read → length bytes ≤ max_bytes
+read_fits Applystream given bytes read is h = small read.plan read.script bytes (subst (λ s. given_script read.plan s ≡ Ok read.script) is h.script_is)
+read_fits Terraform given bytes read is h = small read.plan read.script bytes (subst (λ s. given_script read.plan s ≡ Ok read.script) is h.script_is)
 
 -- where a script was applied, or a part of it, there are not too many bytes
-pub applied_fits : (given : Inputs) (bytes : List ℕ) (settings : Settings) (parallelism : Option ℕ) (form : Form) (before after : SinkState) (status : ℕ)
+applied_fits : (given : Inputs) (bytes : List ℕ) (settings : Settings) (parallelism : Option ℕ) (form : Form) (before after : SinkState) (status : ℕ)
     → given.script ≡ Some bytes → HasAppliedAsAsked given settings parallelism form before after status → length bytes ≤ max_bytes
 unfolding HasAppliedAsAsked
-applied_fits given bytes settings None Applystream before after status is h = read_fits given bytes h.applied.plan h.applied.script is h.applied.read
-applied_fits given bytes settings (Some lanes) Applystream before after status is h = read_fits given bytes h.applied.plan h.applied.script is h.applied.read
-applied_fits given bytes settings None Terraform before after status is h = stated_fits given bytes h.applied.stated is h.applied.read
-applied_fits given bytes settings (Some lanes) Terraform before after status is h = stated_fits given bytes h.applied.stated is h.applied.read
+applied_fits given bytes settings parallelism form before after status is h = read_fits form given bytes h.applied.read is h.applied.is_read
 
-pub begun_fits : (given : Inputs) (bytes : List ℕ) (settings : Settings) (parallelism : Option ℕ) (form : Form) (before after : SinkState)
+begun_fits : (given : Inputs) (bytes : List ℕ) (settings : Settings) (parallelism : Option ℕ) (form : Form) (before after : SinkState)
     → given.script ≡ Some bytes → HasBegunAsAsked given settings parallelism form before after → length bytes ≤ max_bytes
 unfolding HasBegunAsAsked
-begun_fits given bytes settings None Applystream before after is h = read_fits given bytes h.plan h.script is h.read
-begun_fits given bytes settings (Some lanes) Applystream before after is h = read_fits given bytes h.plan h.script is h.read
-begun_fits given bytes settings None Terraform before after is h = stated_fits given bytes h.stated is h.read
-begun_fits given bytes settings (Some lanes) Terraform before after is h = stated_fits given bytes h.stated is h.read
+begun_fits given bytes settings parallelism form before after is h = read_fits form given bytes h.read is h.is_read
 
 -- so nothing of the file was left
 whole_file : (known : Option (List ℕ)) (bytes : List ℕ) → length bytes ≤ max_bytes
@@ -53,10 +50,54 @@ whole_file None bytes short front = tt
 whole_file (Some all) bytes short front = whole_by max_bytes all bytes front short
 
 -- and what is so of the bytes that were read is so of the file
-pub of_file : {File : Type 0} (remaining : File → Option (List ℕ)) (name script : Option (List ℕ)) (P : Option (List ℕ) → Type 0)
+of_file : {File : Type 0} (remaining : File → Option (List ℕ)) (name script : Option (List ℕ)) (P : Option (List ℕ) → Type 0)
     → ((bytes : List ℕ) → P (Some bytes) → length bytes ≤ max_bytes)
     → AreOfName (IsFrontOfFile remaining) name script → P script → OfFile remaining name P
 of_file remaining None None P fits are h = (None, h, tt)
 of_file remaining None (Some bytes) P fits are h = absurd are
 of_file remaining (Some name) None P fits are h = absurd are
 of_file remaining (Some name) (Some bytes) P fits are h = (Some bytes, h, (are.0, whole_file (remaining are.0) bytes (fits bytes h) are.1))
+
+-- a job of the invocation was done, with the script that was read and a hook for each halt: so the
+-- invocation was followed
+pub ended_as_asked : {File : Type 0} (remaining : File → Option (List ℕ)) (invocation : Invocation) (input script read : Option (List ℕ)) (hooks : List (List Rule)) (n : ℕ)
+    (parallelism : Option ℕ) (before after : SinkState) (faults silent faults' : Option (List ℕ)) (status : ℕ)
+    → AreOfName (IsFrontOfFile remaining) invocation.settings.script read → script ≡ read
+    → hooks ≡ hooks_of_halts (take n invocation.settings.halts.items) → length invocation.settings.halts.items ≤ n → invocation.parallelism ≡ parallelism → silent ≡ faults
+    → HasEndedOn input (λ plan. HasAppliedAsAsked (record { plan = plan; script = script; hooks = hooks }) invocation.settings parallelism invocation.form before after status)
+    (λ plan. HasBegunAsAsked (record { plan = plan; script = script; hooks = hooks }) invocation.settings parallelism invocation.form before after)
+    invocation.settings.halts.items before after silent faults' status
+    → HasEndedOn input (WasFollowed remaining invocation before after status) (WasFollowedInPart remaining invocation before after)
+    invocation.settings.halts.items before after faults faults' status
+ended_as_asked remaining invocation input script read hooks n parallelism before after faults silent faults' status are script_is hooks_are all parallelism_is silent_is h =
+    let settings = invocation.settings in let form = invocation.form in
+    let done : List (List Rule) → Option ℕ → Option (List ℕ) → List ℕ → Type 0 =
+    λ hooks lanes bytes plan. HasAppliedAsAsked (record { plan = plan; script = bytes; hooks = hooks }) settings lanes form before after status in
+    let begun : List (List Rule) → Option ℕ → Option (List ℕ) → List ℕ → Type 0 =
+    λ hooks lanes bytes plan. HasBegunAsAsked (record { plan = plan; script = bytes; hooks = hooks }) settings lanes form before after in
+    let halts = hooks_of_halts settings.halts.items in let asked = invocation.parallelism in
+    let ended : List (List Rule) → Option ℕ → Option (List ℕ) → Option (List ℕ) → Type 0 =
+    λ hooks lanes bytes start. HasEndedOn input (done hooks lanes bytes) (begun hooks lanes bytes) settings.halts.items before after start faults' status in
+    let ended : ended halts asked read faults =
+    subst (ended halts asked read) silent_is (subst (λ bytes. ended halts asked bytes silent) script_is (subst (λ lanes. ended halts lanes script silent) (sym parallelism_is)
+    (subst (λ hooks. ended hooks parallelism script silent) (hooks_are ∙ ap hooks_of_halts (take_all n settings.halts.items all)) h))) in
+    record {
+      applied = λ good. let run = ended.applied good in (
+        run.0,
+        of_file remaining settings.script read (λ bytes. done halts asked bytes run.0)
+            (λ bytes whole. applied_fits (given_of settings run.0 (Some bytes)) bytes settings asked form before after status refl whole) are run.1,
+        run.2,
+      );
+      refused = ended.refused;
+      cut_off = λ bad. ⊎_elim
+          (λ (unchanged : Keeps before.bytes after.bytes). inl unchanged)
+          (λ (run : OfInput input (begun halts asked read)). inr (
+            run.0,
+            of_file remaining settings.script read (λ bytes. begun halts asked bytes run.0)
+                (λ bytes part. begun_fits (given_of settings run.0 (Some bytes)) bytes settings asked form before after refl part) are run.1,
+            run.2,
+          ))
+          (ended.cut_off bad);
+      reported = ended.reported;
+      statuses = ended.statuses;
+    }

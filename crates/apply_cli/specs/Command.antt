@@ -1,27 +1,87 @@
 -- How the main command ends.
-use Rattle.std.specs.Prelude.{◌≡◌, ◌<◌, ◌+◌, ◌↔◌, ◌⊎◌, ℕ, List, Option, None, Some, IfSome, length, take, ⊤}
+use Rattle.std.specs.Prelude.{◌≡◌, ◌<◌, ◌+◌, ◌↔◌, ◌⊎◌, ℕ, IsTrue, List, Option, None, Some, IfSome, length, take, ⊤}
 use Rattle.std.specs.List.{range_with_len}
 use Rattle.std.specs.Io.KnownBytes.{Appends}
 use mathlib.Core.List.{IsPrefix}
 use Rattle.apply_plan.specs.Bytes.{max_bytes}
-use Rattle.apply_plan.specs.Plan.SavedPlan.{SavedPlan}
-use Rattle.apply_plan.specs.Script.OutcomeMap.{OutcomeMap}
+use Rattle.apply_events.specs.declared.counts.Counts.{Counts}
 use Rattle.apply_events.specs.declared.event.Event.{Event}
 use Rattle.apply_events.specs.Step.{Work}
 use Rattle.apply_events.specs.WorkerEvents.{worker_events}
-use Rattle.apply_run.specs.Applied.{IsApplied, IsAppliedInPart}
+use Rattle.apply_text.specs.declared.operation.Operation.{Operation}
 use Rattle.apply_text.specs.Order.{as_written, hook_messages_of}
-use Rattle.apply_run.specs.Bytes.{Inputs, IsRead, WasApplied}
+use Rattle.apply_text_terraform.specs.declared.form.Form.{Form}
+use Rattle.apply_text_terraform.specs.declared.form.Form.TheVariants.{Applystream, Terraform}
 use Rattle.apply_run.specs.declared.options.Options.{Options}
+use Rattle.apply_run.specs.declared.refusal.Refusal.{Refusal}
+use Rattle.apply_run.specs.Bytes.{Inputs}
+use Rattle.apply_run.specs.FromBytes.{IsReadFor, ReadFor, WasAppliedBy, WasRefusedBy, form_for, work_for}
+use Rattle.apply_run.specs.InForm.{WasApplied}
+use Rattle.apply_run.specs.Read.{extras_of}
+use Rattle.apply_run.specs.Run.{SinkState, by_workers}
+use Rattle.apply_run.specs.Schedule.{ByWorkers, InLanes, IsPartOf, IsRunOf, Schedule}
 use Rattle.apply_writer.specs.declared.report.Report.{Report}
-use Rattle.apply_run.specs.Run.{SinkState}
 use Rattle.apply_writer.specs.Sinks.{OverWriter}
-use Rattle.apply_writer.specs.Stream.Form.{StreamForm, lines_in, plain_form, stream_in}
-use Rattle.apply_cli.specs.Status.{unfinished}
+use Rattle.apply_writer.specs.Stream.Form.{StreamForm, lines_in, stream_in}
+use Rattle.apply_writer.specs.Stream.Terraform.{contains_error}
+use Rattle.apply_cli.specs.Status.{refusal_status_of, unfinished}
 
 -- the output as the run sees it, from what the writer reveals
 abbrev pub sink_state : {W : Type 0} → (contents : W → Option (List ℕ)) → OverWriter W → SinkState
 sink_state contents output = record { bytes = contents output.writer; failed = output.failures }
+
+-- ---- in each form, with each schedule
+
+-- one worker applies all changes in the plan's order, so its events are known
+abbrev pub IsAlone : Schedule → Type 0
+IsAlone (ByWorkers workers capacity) = workers ≡ 1
+IsAlone (InLanes lanes) = ⊥
+
+-- the stream reports an error: a step failed or was halted; in Terraform's form, also a diagnostic
+-- of no step
+abbrev pub ReportsError : (form : Form) → ReadFor form → Counts → Type 0
+ReportsError Applystream read counts = 0 < unfinished counts
+ReportsError Terraform read counts = IsTrue (contains_error (extras_of read).notes counts)
+
+-- the inputs were applied, the whole stream was written after the bytes that the output had, and
+-- the status is 1 if and only if the stream reports an error
+pub record HasAppliedBy (schedule : Schedule) (form : Form) (given : Inputs) (start : ℕ) (operation : Operation)
+    (before after : SinkState) (status : ℕ) : Type 0 where
+  pub report : Report
+  pub applied : WasAppliedBy schedule form given start operation report before after
+  pub alone : IsAlone schedule
+      → applied.streamed.events ≡ worker_events (work_for form given applied.read) 0
+      (range_with_len 0 (length (work_for form given applied.read).plan.changes))
+  pub status_is : (status ≡ 1) ↔ ReportsError form applied.read report.counts
+
+-- these bytes are a prefix of the stream of all events; they include the tail only if a write or a
+-- flush has failed since. Or they are a prefix of the lines of the hook messages of a part of them
+abbrev pub IsFrontBy : Schedule → StreamForm → Work → (before after : SinkState) → List Event → (part : List ℕ) → Type 0
+IsFrontBy schedule form work before after events part =
+    (IsRunOf schedule work events
+    × (((before.failed < after.failed) × IsPrefix part (stream_in form events)) ⊎ IsPrefix part (lines_in form (as_written events))))
+    ⊎ (IsPartOf schedule work events × IsPrefix part (lines_in form (hook_messages_of events)))
+
+-- the inputs were applied, wholly or in part, and a prefix of the stream was written after the
+-- bytes that the output had. A summary may stand in that prefix only if everything was applied and
+-- a write or a flush has failed since; then it is the summary of everything. If memory was refused,
+-- there is no summary. A refused thread is no such beginning: then the output is unchanged
+pub record HasBegunBy (schedule : Schedule) (form : Form) (given : Inputs) (start : ℕ) (operation : Operation)
+    (before after : SinkState) : Type 0 where
+  pub read : ReadFor form
+  pub is_read : IsReadFor form given read
+  pub events : List Event
+  pub part : List ℕ
+  pub front : IsFrontBy schedule (form_for form read start operation) (work_for form given read) before after events part
+  pub appended : Appends before.bytes after.bytes part
+
+-- the inputs were refused, with status 2: the plan, the script, what it states for the form or the
+-- schedule, or the sizes
+abbrev pub HasRefusedBy : Schedule → Form → Inputs → (start : ℕ) → Operation → (before after : SinkState) → Type 0
+HasRefusedBy schedule form given start operation before after =
+    (refusal : Refusal) × (refusal_status_of refusal ≡ 2) × WasRefusedBy schedule form given start operation refusal before after
+
+-- ---- with workers, in the default form
 
 -- the inputs were applied, the whole stream was written after the bytes that the output had, and
 -- the status is 1 if and only if a step failed or was halted. One worker applies all changes in the
@@ -31,51 +91,14 @@ pub record HasApplied (given : Inputs) (options : Options) (before after : SinkS
   pub applied : WasApplied given options report before after
   pub alone : options.workers ≡ 1
       → applied.streamed.events ≡ worker_events
-      (record { plan = applied.plan; script = applied.script; hooks = given.hooks }) 0
-      (range_with_len 0 (length applied.plan.changes))
+      (record { plan = applied.read.plan; script = applied.read.script; hooks = given.hooks }) 0
+      (range_with_len 0 (length applied.read.plan.changes))
   pub status_is : (status ≡ 1) ↔ (0 < unfinished report.counts)
 
--- all of the events, and a prefix of their stream
-pub record IsFrontOfStream (form : StreamForm) (work : Work) (workers : ℕ) (lists : List (List ℕ)) (events : List Event)
-    (part : List ℕ) : Type 0 where
-  pub applied : IsApplied work workers lists events
-  pub is_prefix : IsPrefix part (stream_in form events)
+abbrev pub HasBegun : Inputs → Options → (before after : SinkState) → Type 0
+HasBegun given options before after = HasBegunBy (by_workers options) Applystream given options.start options.operation before after
 
--- all of the events, and a prefix of their lines, without the tail
-pub record IsFrontOfAllLines (form : StreamForm) (work : Work) (workers : ℕ) (lists : List (List ℕ)) (events : List Event)
-    (part : List ℕ) : Type 0 where
-  pub applied : IsApplied work workers lists events
-  pub is_prefix : IsPrefix part (lines_in form (as_written events))
-
--- prefixes of the workers' events, and a prefix of the lines of their hook messages, without
--- diagnostics and tail
-pub record IsFrontOfLines (form : StreamForm) (work : Work) (workers : ℕ) (lists : List (List ℕ)) (events : List Event)
-    (part : List ℕ) : Type 0 where
-  pub applied : IsAppliedInPart work workers lists events
-  pub is_prefix : IsPrefix part (lines_in form (hook_messages_of events))
-
--- these bytes are a prefix of a stream in this form; they include the tail only if a write or a
--- flush has failed since
-abbrev pub IsFrontInForm : StreamForm → Work → (workers : ℕ) → (before after : SinkState) → (lists : List (List ℕ)) → List Event
-    → (part : List ℕ) → Type 0
-IsFrontInForm form work workers before after lists events part =
-    ((before.failed < after.failed) × IsFrontOfStream form work workers lists events part)
-    ⊎ (IsFrontOfAllLines form work workers lists events part ⊎ IsFrontOfLines form work workers lists events part)
-
--- the inputs were applied, wholly or in part, and a prefix of the stream was written after the
--- bytes that the output had. A summary may stand in that prefix only if everything was applied and
--- a write or a flush has failed since; then it is the summary of everything. If memory was refused,
--- there is no summary. A refused thread is no such beginning: then the output is unchanged
-pub record HasBegun (given : Inputs) (options : Options) (before after : SinkState) : Type 0 where
-  pub plan : SavedPlan
-  pub script : OutcomeMap
-  pub read : IsRead given plan script
-  pub lists : List (List ℕ)
-  pub events : List Event
-  pub part : List ℕ
-  pub front : IsFrontInForm (plain_form plan script options.start options.operation)
-      (record { plan = plan; script = script; hooks = given.hooks }) options.workers before after lists events part
-  pub appended : Appends before.bytes after.bytes part
+-- ---- of what is read
 
 -- the fact holds of some bytes; they are those of the input, if the input reveals them
 abbrev pub OfInput : (known : Option (List ℕ)) → (List ℕ → Type 0) → Type 0

@@ -1,7 +1,5 @@
 pub mod Command
-pub mod CommandAsTerraform
-pub mod CommandInForm
-pub mod CommandInLanes
+pub mod Ended
 pub mod Invocation
 pub mod Options
 pub mod Status

@@ -57,7 +57,8 @@ pub fn answer_usage<W: Write, E: Write>(usage: &Usage, out: &mut W, faults: &mut
 
 /// Reports why a hook was not added, and returns the exit status.
 pub fn report_hook<E: Write>(faults: &mut E, refused: HookError) -> u8
-    ensures { result ≡ hook_status_of refused }
+    ensures status { result ≡ hook_status_of refused }
+    ensures bad { (2 ≤ result) × (result ≤ 3) }
 {
     report(faults, refused);
     match refused {

@@ -1,14 +1,15 @@
 //! Reads the bytes of an input.
 
 ghost use Rattle.std.specs.Prelude.{◌≡◌, ◌<◌, ◌≤◌, ◌+◌, List, ℕ, ◌++◌, IfOk, IfSome, length, take, true};
-ghost use Rattle.std.specs.Io.KnownBytes.{Consumes, IsAtEnd};
+ghost use Rattle.std.specs.Io.KnownBytes.{Consumes, IsAtEnd, Keeps};
 ghost use Rattle.apply_plan.specs.Bytes.{max_bytes};
 
 use crate::input_fault::InputFault;
 use crate::read_fault::ReadFault;
 use apply_plan::MAX_BYTES;
 use std::alloc::{AllocError, Global};
-use std::io::Read;
+use std::io::{Read, Write};
+use stream_lines::drain;
 
 /// One byte more than a plan may have, so that a longer plan is known to be too long.
 const MAX_READ: usize = MAX_BYTES + 1;
@@ -116,4 +117,23 @@ fn read_some<R: Read>(
         }
         Err(error) => Err(ReadFault::Failed(error)),
     }
+}
+
+/// Reads the rest of an input that was not read to its end, and drops it. What was reported on
+/// `faults` is flushed before. Returns whether the end was reached: `false` only after a failed
+/// read.
+pub(crate) fn finish_reading<R: Read, E: Write>(
+    is_whole: bool,
+    input: &mut R,
+    faults: &mut E,
+) -> bool
+    requires { is_whole ≡ true → IsAtEnd (R.remaining input.old) }
+    ensures end { result ≡ true → IsAtEnd (R.remaining input.new) }
+    ensures quiet { Keeps (E.contents faults.old) (E.contents faults.new) }
+{
+    if is_whole {
+        return true;
+    }
+    let _ = faults.flush();
+    drain(input).is_ok()
 }

@@ -2,15 +2,13 @@
 #![tactic(auto)]
 
 mod answer;
-mod in_lanes;
 mod input;
 mod input_fault;
-mod options;
+mod job;
 mod program;
 mod prompting_reader;
 mod read_fault;
 mod reporting;
-mod run;
 mod script_file;
 mod shared_options;
 mod standard;
@@ -20,13 +18,14 @@ mod version;
 
 pub use answer::answer_usage;
 pub use apply_cli_args::{Halt, Invocation, Settings, Usage, VERSION, read_invocation, read_words};
-pub use in_lanes::{run_in_form_and_lanes, run_in_lanes};
 pub use input::read_all;
 pub use input_fault::InputFault;
-pub use options::run_options;
-pub use program::{follow, follow_invocation, given_words};
+pub use job::Job;
+pub use program::{
+    follow, follow_invocation, given_words, run_command, run_in_lanes, run_input, run_job,
+    run_job_in_lanes,
+};
 pub use prompting_reader::PromptingReader;
-pub use run::{run_bytes, run_command, run_command_in_form, run_input};
 pub use script_file::{ScriptFault, read_file, report_script};
 pub use standard::{follow_standard, refuse_standard};
 pub use status::{input_status, refusal_status, run_status};

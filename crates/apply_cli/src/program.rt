@@ -1,26 +1,39 @@
 //! Runs the main command, from its arguments to its exit status.
 
-ghost use Rattle.std.specs.Prelude.{◌≡◌, ◌<◌, ◌≤◌, ◌-◌, ◌^◌, ◌⊎◌, false, map, option_map, string_bytes, true, IfOk};
+ghost use Rattle.std.specs.Prelude.{◌≡◌, ◌<◌, ◌≤◌, ◌-◌, ◌^◌, ◌⊎◌, false, map, None, option_map, Some, string_bytes, true, IfErr, IfOk, OnOk};
 ghost use Rattle.std.specs.Io.KnownBytes.{Keeps};
 ghost use Rattle.std.specs.Option.{option_copied};
 ghost use Rattle.apply_hooks.specs.Registry.{rules_of};
-ghost use Rattle.apply_cli.specs.Command.{AreOfName, IsFrontOfFile, OfFile, OfInput, sink_state};
-ghost use Rattle.apply_cli_args.specs.CommandLine.{AskForHelp, AskForHelpAlone};
-ghost use Rattle.apply_cli_args.specs.Halt.{hooks_of_halts, rules_of_halt};
-ghost use Rattle.apply_cli.specs.Invocation.{HasAppliedAsAsked, HasBegunAsAsked, WereApplied, WereBegun, unfailed};
-ghost use Rattle.apply_cli.specs.Status.{usage_status_of};
-ghost use Rattle.apply_cli.specs.Unmatched.{AreAllMatched, AreReported, WereReported, unmatched_of};
+ghost use Rattle.apply_run.specs.Bytes.{Inputs};
+ghost use Rattle.apply_run.specs.FromBytes.{WasRefusedBy, WasReportedBy};
+ghost use Rattle.apply_run.specs.Run.{SinkState};
+ghost use Rattle.apply_run.specs.Schedule.{InLanes};
+ghost use Rattle.apply_cli.specs.Command.{AreOfName, HasApplied, HasAppliedBy, HasBegun, HasBegunBy, IsFrontOfFile, OfInput, sink_state};
+ghost use Rattle.apply_cli.specs.Ended.{HasEnded, HasEndedOn};
+ghost use Rattle.apply_cli.specs.Invocation.{HasAppliedAsAsked, HasBegunAsAsked, schedule_of, unfailed, WasFollowed, WasFollowedInPart, WereApplied, WereBegun};
+ghost use Rattle.apply_cli.specs.Options.{options_of};
+ghost use Rattle.apply_cli.specs.Status.{input_status_of, usage_status_of};
+ghost use Rattle.apply_cli.specs.Unmatched.{AreAllMatched, AreReported, unmatched_of, WereReported};
 ghost use Rattle.apply_cli.specs.Version.{AskForVersion, AskForVersionAlone, WasAnswered, WereAnsweredVersion};
+ghost use Rattle.apply_cli_args.specs.CommandLine.{AskForHelp, AskForHelpAlone};
+ghost use Rattle.apply_cli_args.specs.Halt.{rules_of_halt};
 
 use crate::answer::{answer_usage, report_hook};
-use crate::in_lanes::run_in_form_and_lanes;
-use crate::run::run_command_in_form;
-use crate::script_file::{ScriptFault, read_file, report_script};
+use crate::input::{finish_reading, read_input};
+use crate::input_fault::InputFault;
+use crate::job::Job;
+use crate::reporting::{report_refusal, report_unless_gone};
+use crate::script_file::{read_file, report_script};
+use crate::status::{FAILED, input_status, refusal_status, run_status};
+use crate::unmatched::report_unmatched;
 use crate::version::{answer_version, ask_for_version};
-use apply_cli_args::{Halt, Settings, Usage, read_invocation};
+use apply_cli_args::{Halt, Invocation, Settings, Usage, read_invocation};
 use apply_hooks::{FnHook, Hook, HookCall, HookClosure, HookError, Registry, Rules};
 use apply_plan::Text;
-use apply_run::StdSink;
+use apply_run::{
+    FormReport, NoGate, Options, Refusal, Sink, StdSink, Why, apply_bytes_in_form,
+    apply_bytes_in_form_and_lanes, one_worker_applies_all_changes_in_order,
+};
 use apply_text_terraform::Form;
 use std::alloc::{AllocError, Global};
 use std::env::Env;
@@ -100,9 +113,7 @@ pub fn follow<
             rt,
             files,
             alloc,
-            &invocation.settings,
-            invocation.parallelism,
-            invocation.form,
+            &invocation,
             input,
             StdSink::new(output),
             faults,
@@ -138,13 +149,12 @@ fn answer_unfollowed<W: Write + Drop, E: Write>(
     }
 }
 
-/// Reads the script's file, if the settings name one, and runs the command with a hook for each
-/// halt, in their order. If a parallelism is given, so many changes run at once in the stream's own
-/// time; else workers apply them. The stream has that form.
+/// Makes a hook for each halt of the invocation, in their order, and reads the script's file, if the
+/// settings name one. Then runs the job: in lanes if a parallelism is given, else with workers.
 ///
-/// The exit status is that of `run_command_in_form` or `run_in_form_and_lanes`. Before these run,
-/// it is 2 if there are more than 32 halts or the script's file could not be read, and 3 if memory
-/// was refused. Then nothing was written.
+/// The exit status is that of `run_job` or `run_job_in_lanes`. Before these run, it is 2 if there are
+/// more than 32 halts or the script's file could not be read, and 3 if memory was refused. Then
+/// nothing was written.
 pub fn follow_invocation<
     F: Files,
     R: Read + Drop,
@@ -155,28 +165,21 @@ pub fn follow_invocation<
     rt: &T,
     files: &F,
     alloc: Global,
-    settings: &Settings,
-    parallelism: Option<u8>,
-    form: Form,
+    invocation: &Invocation,
     input: R,
     output: StdSink<W>,
     faults: &mut E,
 ) -> (StdSink<W>, u8)
     requires { output.failures < 2 ^ 64 - 1 }
-    ensures applied { result.1 ≤ 1 → OfInput (R.remaining input) (λ plan. OfFile F.File.remaining settings.now.script (λ script.
-        HasAppliedAsAsked (record { plan = plan; script = script; hooks = hooks_of_halts settings.now.halts.items })
-        settings.now parallelism form (sink_state W.contents output) (sink_state W.contents result.0) result.1)) }
-    ensures refused { result.1 ≡ 2 → Keeps (W.contents output.writer) (W.contents result.0.writer) }
-    ensures cut_off { result.1 ≡ 3 → Keeps (W.contents output.writer) (W.contents result.0.writer)
-        ⊎ OfInput (R.remaining input) (λ plan. OfFile F.File.remaining settings.now.script (λ script.
-        HasBegunAsAsked (record { plan = plan; script = script; hooks = hooks_of_halts settings.now.halts.items })
-        settings.now parallelism form (sink_state W.contents output) (sink_state W.contents result.0))) }
-    ensures reported { result.1 ≤ 1 → OfInput (R.remaining input) (λ plan.
-        AreReported (unmatched_of plan settings.now.halts.items) (E.contents faults.old) (E.contents faults.new)) }
+    ensures ended { HasEndedOn (R.remaining input)
+        (WasFollowed F.File.remaining invocation.now (sink_state W.contents output) (sink_state W.contents result.0) result.1)
+        (WasFollowedInPart F.File.remaining invocation.now (sink_state W.contents output) (sink_state W.contents result.0))
+        invocation.now.settings.halts.items (sink_state W.contents output) (sink_state W.contents result.0)
+        (E.contents faults.old) (E.contents faults.new) result.1 }
     ensures gone { output.is_reader_gone ≡ false → result.0.is_reader_gone ≡ true
         → Keeps (E.contents faults.old) (E.contents faults.new) }
-    ensures statuses { result.1 ≤ 3 }
 {
+    let settings = &invocation.settings;
     // The closures are boxed here, where the registry is owned: a function that returned them would
     // hide their answers.
     let mut registry = Registry::new(alloc);
@@ -192,18 +195,22 @@ pub fn follow_invocation<
             return (output, report_hook(faults, refused));
         }
     }
-    run_with_hooks(
-        rt,
-        files,
-        alloc,
+    let script = match script_of(files, alloc, settings, faults) {
+        Ok(script) => script,
+        Err(status) => return (output, status),
+    };
+    let script = script.as_deref();
+    let (form, registry) = (invocation.form, &registry);
+    let job = Job {
         settings,
-        parallelism,
         form,
-        &registry,
-        input,
-        output,
-        faults,
-    )
+        registry,
+        script,
+    };
+    match invocation.parallelism {
+        Some(lanes) => run_job_in_lanes(alloc, &job, lanes, input, output, faults),
+        None => run_job(rt, alloc, &job, input, output, faults),
+    }
 }
 
 /// Returns the rules of the halt twice: for its hook, and for its closure. `Err` if memory is
@@ -216,64 +223,49 @@ fn rules_twice(alloc: Global, halt: &Halt) -> Result<(Rules, Rules), AllocError>
     Ok((rules, own))
 }
 
-/// Reads the script's file, if the settings name one, and runs the command. The hooks must be those
-/// of the halts.
-fn run_with_hooks<F: Files, R: Read + Drop, W: Write + Drop, E: Write, T: Threads + Wait + Sync>(
-    rt: &T,
+/// Returns the bytes of the script's file, if the settings name one. `Err` with the exit status, 2 or
+/// 3, if `read_file` fails; then its error was reported.
+fn script_of<F: Files, E: Write>(
     files: &F,
     alloc: Global,
     settings: &Settings,
-    parallelism: Option<u8>,
-    form: Form,
-    registry: &Registry,
-    input: R,
-    output: StdSink<W>,
     faults: &mut E,
-) -> (StdSink<W>, u8)
-    requires failures { output.failures < 2 ^ 64 - 1 }
-    requires hooks { rules_of registry.now ≡ hooks_of_halts settings.now.halts.items }
-    ensures applied { result.1 ≤ 1 → OfInput (R.remaining input) (λ plan. OfFile F.File.remaining settings.now.script (λ script.
-        HasAppliedAsAsked (record { plan = plan; script = script; hooks = hooks_of_halts settings.now.halts.items })
-        settings.now parallelism form (sink_state W.contents output) (sink_state W.contents result.0) result.1)) }
-    ensures refused { result.1 ≡ 2 → Keeps (W.contents output.writer) (W.contents result.0.writer) }
-    ensures cut_off { result.1 ≡ 3 → Keeps (W.contents output.writer) (W.contents result.0.writer)
-        ⊎ OfInput (R.remaining input) (λ plan. OfFile F.File.remaining settings.now.script (λ script.
-        HasBegunAsAsked (record { plan = plan; script = script; hooks = hooks_of_halts settings.now.halts.items })
-        settings.now parallelism form (sink_state W.contents output) (sink_state W.contents result.0))) }
-    ensures reported { result.1 ≤ 1 → OfInput (R.remaining input) (λ plan.
-        AreReported (unmatched_of plan settings.now.halts.items) (E.contents faults.old) (E.contents faults.new)) }
-    ensures gone { output.is_reader_gone ≡ false → result.0.is_reader_gone ≡ true
-        → Keeps (E.contents faults.old) (E.contents faults.new) }
-    ensures statuses { result.1 ≤ 3 }
+) -> Result<Option<Vec<u8>>, u8>
+    ensures ok { IfOk result (λ bytes.
+        AreOfName (IsFrontOfFile F.File.remaining) settings.now.script (option_map (λ b. b.items) bytes)) }
+    ensures err { IfErr result (λ status. (2 ≤ status) × (status ≤ 3)) }
+    ensures quiet { OnOk result (faults.new ≡ faults.old) }
 {
-    let script = match script_of(files, alloc, settings) {
-        Ok(script) => script,
-        Err(fault) => {
-            let status = report_script(alloc, faults, script_name(settings), fault);
-            return (output, status);
-        }
-    };
-    run_script(
-        rt,
-        alloc,
-        settings,
-        parallelism,
-        form,
-        registry,
-        script.as_deref(),
-        input,
-        output,
-        faults,
-    )
+    match &settings.script {
+        Some(file) => match read_file(files, alloc, file.as_str()) {
+            Ok(bytes) => Ok(Some(bytes)),
+            Err(fault) => Err(report_script(alloc, faults, file.as_str(), fault)),
+        },
+        None => Ok(None),
+    }
 }
 
-/// Runs the command in lanes if a parallelism is given, and with workers otherwise.
-fn run_script<R: Read + Drop, W: Write + Drop, E: Write, T: Threads + Wait + Sync>(
+/// Reads a plan, and writes the stream of its apply with the settings, the hooks and the script.
+/// Without a script each step succeeds after 0 seconds. Returns the output and the exit status:
+///
+/// - 0: the whole stream was written, and no step failed or was halted.
+/// - 1: the whole stream was written, and a step failed or was halted.
+/// - 2: the input could not be read or is not a plan, the script does not fit, or the settings are
+///   out of range. Nothing was written.
+/// - 3: memory or a thread was refused, or the output could not be written. A prefix of the stream
+///   may have been written. It has a summary only if the whole plan was applied.
+///
+/// Errors are reported on `faults`. After a whole stream, so is each prefix of the settings' halts
+/// that no address of the plan begins with, unless memory is refused for that. Nothing is reported
+/// if `faults` fails too, or if the output's reader is gone.
+///
+/// If the plan is too large, a read failed, or memory was refused for it, the rest of the input is
+/// read and dropped after the report. So whoever writes into the pipe is not stopped. A read that
+/// fails then changes nothing.
+pub fn run_command<R: Read + Drop, W: Write + Drop, E: Write, T: Threads + Wait + Sync>(
     rt: &T,
     alloc: Global,
     settings: &Settings,
-    parallelism: Option<u8>,
-    form: Form,
     registry: &Registry,
     script: Option<&[u8]>,
     input: R,
@@ -281,52 +273,260 @@ fn run_script<R: Read + Drop, W: Write + Drop, E: Write, T: Threads + Wait + Syn
     faults: &mut E,
 ) -> (StdSink<W>, u8)
     requires { output.failures < 2 ^ 64 - 1 }
-    ensures applied { result.1 ≤ 1 → OfInput (R.remaining input) (λ plan.
-        HasAppliedAsAsked (record { plan = plan; script = option_copied script.entry; hooks = rules_of registry.now })
-        settings.now parallelism form (sink_state W.contents output) (sink_state W.contents result.0) result.1) }
+
+    // The plan's bytes are all bytes of the input, if the reader reveals them. The bytes of the
+    // output are known if one worker applies the changes.
+    ensures applied { result.1 ≤ 1 → OfInput (R.remaining input) (λ bytes.
+        HasApplied (record { plan = bytes; script = option_copied script.entry; hooks = rules_of registry.now })
+        (options_of settings.now) (sink_state W.contents output) (sink_state W.contents result.0) result.1) }
     ensures refused { result.1 ≡ 2 → Keeps (W.contents output.writer) (W.contents result.0.writer) }
     ensures cut_off { result.1 ≡ 3 → Keeps (W.contents output.writer) (W.contents result.0.writer)
-        ⊎ OfInput (R.remaining input) (λ plan.
-        HasBegunAsAsked (record { plan = plan; script = option_copied script.entry; hooks = rules_of registry.now })
-        settings.now parallelism form (sink_state W.contents output) (sink_state W.contents result.0)) }
-    ensures reported { result.1 ≤ 1 → OfInput (R.remaining input) (λ plan.
-        AreReported (unmatched_of plan settings.now.halts.items) (E.contents faults.old) (E.contents faults.new)) }
-    ensures gone { output.is_reader_gone ≡ false → result.0.is_reader_gone ≡ true
-        → Keeps (E.contents faults.old) (E.contents faults.new) }
+        ⊎ OfInput (R.remaining input) (λ bytes.
+        HasBegun (record { plan = bytes; script = option_copied script.entry; hooks = rules_of registry.now })
+        (options_of settings.now) (sink_state W.contents output) (sink_state W.contents result.0)) }
+    ensures reported { result.1 ≤ 1 → OfInput (R.remaining input) (λ bytes.
+        AreReported (unmatched_of bytes settings.now.halts.items) (E.contents faults.old) (E.contents faults.new)) }
+    ensures gone { result.0.is_reader_gone ≡ true → Keeps (E.contents faults.old) (E.contents faults.new) }
     ensures statuses { result.1 ≤ 3 }
 {
-    match parallelism {
-        Some(lanes) => run_in_form_and_lanes(
-            alloc, settings, lanes, form, registry, script, input, output, faults,
-        ),
-        None => run_command_in_form(
-            rt, alloc, settings, form, registry, script, input, output, faults,
-        ),
-    }
+    let job = Job {
+        settings,
+        form: Form::Applystream,
+        registry,
+        script,
+    };
+    run_job(rt, alloc, &job, input, output, faults)
 }
 
-/// Returns the bytes of the script's file, if the settings name one. `Err` as in `read_file`.
-fn script_of<F: Files>(
-    files: &F,
+/// Does what `run_command` does, with `lanes` changes at once in the stream's own time. The
+/// settings' workers and queue are ignored. The same input, script, hooks, settings and lanes give
+/// the same bytes.
+///
+/// The exit status is that of `run_command`; it is 2 also unless there are 1 to 64 lanes. With
+/// status 3 a prefix of the stream may have been written.
+pub fn run_in_lanes<R: Read + Drop, W: Write + Drop, E: Write>(
     alloc: Global,
     settings: &Settings,
-) -> Result<Option<Vec<u8>>, ScriptFault>
-    ensures { IfOk result (λ bytes.
-        AreOfName (IsFrontOfFile F.File.remaining) settings.now.script (option_map (λ b. b.items) bytes)) }
+    lanes: u8,
+    registry: &Registry,
+    script: Option<&[u8]>,
+    input: R,
+    output: StdSink<W>,
+    faults: &mut E,
+) -> (StdSink<W>, u8)
+    requires { output.failures < 2 ^ 64 - 1 }
+    ensures applied { result.1 ≤ 1 → OfInput (R.remaining input) (λ bytes.
+        HasAppliedBy (InLanes lanes) Form.Applystream
+        (record { plan = bytes; script = option_copied script.entry; hooks = rules_of registry.now })
+        settings.now.at settings.now.operation (sink_state W.contents output) (sink_state W.contents result.0) result.1) }
+    ensures refused { result.1 ≡ 2 → Keeps (W.contents output.writer) (W.contents result.0.writer) }
+    ensures cut_off { result.1 ≡ 3 → Keeps (W.contents output.writer) (W.contents result.0.writer)
+        ⊎ OfInput (R.remaining input) (λ bytes.
+        HasBegunBy (InLanes lanes) Form.Applystream
+        (record { plan = bytes; script = option_copied script.entry; hooks = rules_of registry.now })
+        settings.now.at settings.now.operation (sink_state W.contents output) (sink_state W.contents result.0)) }
+    ensures reported { result.1 ≤ 1 → OfInput (R.remaining input) (λ bytes.
+        AreReported (unmatched_of bytes settings.now.halts.items) (E.contents faults.old) (E.contents faults.new)) }
+    ensures gone { result.0.is_reader_gone ≡ true → Keeps (E.contents faults.old) (E.contents faults.new) }
+    ensures statuses { result.1 ≤ 3 }
 {
-    match &settings.script {
-        Some(file) => match read_file(files, alloc, file.as_str()) {
-            Ok(bytes) => Ok(Some(bytes)),
-            Err(fault) => Err(fault),
-        },
-        None => Ok(None),
+    let job = Job {
+        settings,
+        form: Form::Applystream,
+        registry,
+        script,
+    };
+    run_job_in_lanes(alloc, &job, lanes, input, output, faults)
+}
+
+/// Reads a plan, and applies the job to it with workers, as `run_command` does. Terraform's form also
+/// prints the extras of plan and script.
+///
+/// The exit status is that of `run_command`. It is 1 if and only if the whole stream was written
+/// and reports an error. In Terraform's form, that includes the error of a plan whose planning
+/// failed. There, status 2 also comes if the script's outputs are not those of the plan, or its
+/// diagnostics are malformed.
+pub fn run_job<R: Read + Drop, W: Write + Drop, E: Write, T: Threads + Wait + Sync>(
+    rt: &T,
+    alloc: Global,
+    job: &Job<'_, '_>,
+    mut input: R,
+    output: StdSink<W>,
+    faults: &mut E,
+) -> (StdSink<W>, u8)
+    requires { output.failures < 2 ^ 64 - 1 }
+    ensures ended { HasEndedOn (R.remaining input)
+        (λ plan. HasAppliedAsAsked (record { plan = plan; script = option_copied job.now.script; hooks = rules_of job.now.registry.now })
+        job.now.settings.now None job.now.form (sink_state W.contents output) (sink_state W.contents result.0) result.1)
+        (λ plan. HasBegunAsAsked (record { plan = plan; script = option_copied job.now.script; hooks = rules_of job.now.registry.now })
+        job.now.settings.now None job.now.form (sink_state W.contents output) (sink_state W.contents result.0))
+        job.now.settings.now.halts.items (sink_state W.contents output) (sink_state W.contents result.0)
+        (E.contents faults.old) (E.contents faults.new) result.1 }
+    ensures gone { result.0.is_reader_gone ≡ true → Keeps (E.contents faults.old) (E.contents faults.new) }
+{
+    let (plan, is_whole) = read_input(alloc, &mut input);
+    let (output, status) = run_input(rt, alloc, job, plan, output, faults);
+    finish_reading(is_whole, &mut input, faults);
+    (output, status)
+}
+
+/// Does what `run_job` does, in 1 to 64 lanes as `run_in_lanes`. The exit status is 2 also unless
+/// there are so many.
+pub fn run_job_in_lanes<R: Read + Drop, W: Write + Drop, E: Write>(
+    alloc: Global,
+    job: &Job<'_, '_>,
+    lanes: u8,
+    mut input: R,
+    output: StdSink<W>,
+    faults: &mut E,
+) -> (StdSink<W>, u8)
+    requires { output.failures < 2 ^ 64 - 1 }
+    ensures ended { HasEndedOn (R.remaining input)
+        (λ plan. HasAppliedAsAsked (record { plan = plan; script = option_copied job.now.script; hooks = rules_of job.now.registry.now })
+        job.now.settings.now (Some lanes) job.now.form (sink_state W.contents output) (sink_state W.contents result.0) result.1)
+        (λ plan. HasBegunAsAsked (record { plan = plan; script = option_copied job.now.script; hooks = rules_of job.now.registry.now })
+        job.now.settings.now (Some lanes) job.now.form (sink_state W.contents output) (sink_state W.contents result.0))
+        job.now.settings.now.halts.items (sink_state W.contents output) (sink_state W.contents result.0)
+        (E.contents faults.old) (E.contents faults.new) result.1 }
+    ensures gone { result.0.is_reader_gone ≡ true → Keeps (E.contents faults.old) (E.contents faults.new) }
+{
+    let (plan, is_whole) = read_input(alloc, &mut input);
+    let (output, status) = run_input_in_lanes(alloc, job, lanes, plan, output, faults);
+    finish_reading(is_whole, &mut input, faults);
+    (output, status)
+}
+
+/// Does what `run_job` does, with an input that was already read, or with the error of reading it.
+///
+/// After a successful read, status 2 comes only if the bytes are not a plan, the script does not
+/// fit, or the settings are out of range, and always if the bytes are too many. After an error, the
+/// status is that of the error.
+pub fn run_input<W: Write + Drop, E: Write, T: Threads + Wait + Sync>(
+    rt: &T,
+    alloc: Global,
+    job: &Job<'_, '_>,
+    input: Result<Vec<u8>, InputFault>,
+    output: StdSink<W>,
+    faults: &mut E,
+) -> (StdSink<W>, u8)
+    requires { output.failures < 2 ^ 64 - 1 }
+    ensures ended { IfOk input (λ plan.
+        HasEnded (record { plan = plan.items; script = option_copied job.now.script; hooks = rules_of job.now.registry.now })
+        job.now.settings.now None job.now.form (sink_state W.contents output) (sink_state W.contents result.0)
+        (E.contents faults.old) (E.contents faults.new) result.1) }
+    ensures unread { IfErr input (λ fault. (result.1 ≡ input_status_of fault)
+        × Keeps (W.contents output.writer) (W.contents result.0.writer)) }
+    ensures gone { result.0.is_reader_gone ≡ true → Keeps (E.contents faults.old) (E.contents faults.new) }
+{
+    let plan = match input {
+        Ok(plan) => plan,
+        Err(fault) => {
+            report_unless_gone(&output, faults, fault);
+            return (output, input_status(fault));
+        }
+    };
+    let settings = job.settings;
+    let options = Options {
+        workers: settings.workers,
+        capacity: settings.queue,
+        start: settings.at,
+        operation: settings.operation,
+    };
+    let (script, registry, form) = (job.script, job.registry, job.form);
+    let failures = output.failures();
+    let ended = apply_bytes_in_form(
+        rt, alloc, &plan, script, registry, options, form, output, &NoGate,
+    );
+    end_run(alloc, job, None, &plan, failures, ended, faults)
+}
+
+/// Does what `run_input` does, in lanes.
+fn run_input_in_lanes<W: Write + Drop, E: Write>(
+    alloc: Global,
+    job: &Job<'_, '_>,
+    lanes: u8,
+    input: Result<Vec<u8>, InputFault>,
+    output: StdSink<W>,
+    faults: &mut E,
+) -> (StdSink<W>, u8)
+    requires { output.failures < 2 ^ 64 - 1 }
+    ensures ended { IfOk input (λ plan.
+        HasEnded (record { plan = plan.items; script = option_copied job.now.script; hooks = rules_of job.now.registry.now })
+        job.now.settings.now (Some lanes) job.now.form (sink_state W.contents output) (sink_state W.contents result.0)
+        (E.contents faults.old) (E.contents faults.new) result.1) }
+    ensures unread { IfErr input (λ fault. (result.1 ≡ input_status_of fault)
+        × Keeps (W.contents output.writer) (W.contents result.0.writer)) }
+    ensures gone { result.0.is_reader_gone ≡ true → Keeps (E.contents faults.old) (E.contents faults.new) }
+{
+    let plan = match input {
+        Ok(plan) => plan,
+        Err(fault) => {
+            report_unless_gone(&output, faults, fault);
+            return (output, input_status(fault));
+        }
+    };
+    let (start, operation) = (job.settings.at, job.settings.operation);
+    let (script, registry, form) = (job.script, job.registry, job.form);
+    let failures = output.failures();
+    let ended = apply_bytes_in_form_and_lanes(
+        alloc, &plan, script, registry, lanes, start, operation, form, output,
+    );
+    end_run(alloc, job, Some(lanes), &plan, failures, ended, faults)
+}
+
+/// Ends a run whose output counted `failures` failed writes before: flushes the output, reports what
+/// is to be reported, and returns the exit status.
+fn end_run<W: Write + Drop, E: Write>(
+    alloc: Global,
+    job: &Job<'_, '_>,
+    parallelism: Option<u8>,
+    plan: &[u8],
+    failures: u64,
+    ended: (StdSink<W>, Result<FormReport, Refusal>),
+    faults: &mut E,
+) -> (StdSink<W>, u8)
+    requires { failures < 2 ^ 64 - 1 }
+    ensures ended { (given : Inputs) (before : SinkState) → given.plan ≡ plan.now → before.failed ≡ failures
+        → IfOk ended.1 (λ report. WasReportedBy (schedule_of job.now.settings.now parallelism) job.now.form given
+        job.now.settings.now.at job.now.settings.now.operation report before (sink_state W.contents ended.0))
+        → IfErr ended.1 (λ refusal. WasRefusedBy (schedule_of job.now.settings.now parallelism) job.now.form given
+        job.now.settings.now.at job.now.settings.now.operation refusal before (sink_state W.contents ended.0))
+        → HasEnded given job.now.settings.now parallelism job.now.form before (sink_state W.contents result.0)
+        (E.contents faults.old) (E.contents faults.new) result.1 }
+    ensures gone { result.0.is_reader_gone ≡ true → Keeps (E.contents faults.old) (E.contents faults.new) }
+{
+    let (mut output, result) = ended;
+    match result {
+        Ok(report) => {
+            flush_unless_failed(&mut output, failures);
+            if output.failures() > failures {
+                report_unless_gone(&output, faults, Why::Write);
+                return (output, FAILED);
+            }
+            report_unmatched(alloc, &output, faults, &job.settings.halts, plan);
+            one_worker_applies_all_changes_in_order();
+            (output, run_status(report.contains_error))
+        }
+        Err(Refusal::Fault(fault)) => {
+            flush_unless_failed(&mut output, failures);
+            report_unless_gone(&output, faults, fault);
+            (output, FAILED)
+        }
+        Err(refusal) => {
+            report_refusal(alloc, &output, faults, plan, job, parallelism, refusal);
+            (output, refusal_status(refusal))
+        }
     }
 }
 
-/// Returns the name of the script's file, or no text if the settings name none.
-fn script_name(settings: &Settings) -> &str {
-    match &settings.script {
-        Some(name) => name.as_str(),
-        None => "",
+/// Flushes the output if no write has failed since it counted `failures` failed writes. A failed
+/// flush is ignored.
+fn flush_unless_failed<W: Write + Drop>(output: &mut StdSink<W>, failures: u64)
+    requires { failures < 2 ^ 64 - 1 }
+    ensures bytes { Keeps (W.contents output.old.writer) (W.contents output.new.writer) }
+    ensures failed { output.old.failures ≤ output.new.failures }
+{
+    if output.failures() == failures {
+        let _ = output.flush();
     }
 }

@@ -3,7 +3,8 @@
 ghost use Rattle.std.specs.Prelude.{◌≡◌, true};
 ghost use Rattle.std.specs.Io.KnownBytes.{Keeps};
 
-use crate::shared_options::{SharedOptions, shared_words};
+use crate::job::Job;
+use crate::shared_options::shared_words;
 use crate::status::{REFUSED, refusal_status};
 use apply_run::{Refusal, StdSink};
 use std::alloc::Global;
@@ -49,7 +50,8 @@ pub(crate) fn report_refusal<W: Write + Drop, E: Write>(
     output: &StdSink<W>,
     faults: &mut E,
     plan: &[u8],
-    options: SharedOptions<'_>,
+    job: &Job<'_, '_>,
+    parallelism: Option<u8>,
     refusal: Refusal,
 )
     ensures { output.now.is_reader_gone ≡ true → Keeps (E.contents faults.old) (E.contents faults.new) }
@@ -59,7 +61,7 @@ pub(crate) fn report_refusal<W: Write + Drop, E: Write>(
     } else if is_saved_plan(refusal, plan) {
         report_unless_gone(output, faults, SAVED_PLAN);
     } else {
-        report_cause(alloc, output, faults, options, refusal);
+        report_cause(alloc, output, faults, job, parallelism, refusal);
     }
 }
 
@@ -76,12 +78,13 @@ fn report_cause<W: Write + Drop, E: Write>(
     alloc: Global,
     output: &StdSink<W>,
     faults: &mut E,
-    options: SharedOptions<'_>,
+    job: &Job<'_, '_>,
+    parallelism: Option<u8>,
     refusal: Refusal,
 )
     ensures { output.now.is_reader_gone ≡ true → Keeps (E.contents faults.old) (E.contents faults.new) }
 {
-    match shared_words(alloc, options) {
+    match shared_words(alloc, job, parallelism) {
         Ok(words) => {
             let words = words.as_str();
             report_unless_gone(output, faults, RefusalCause { refusal, words });

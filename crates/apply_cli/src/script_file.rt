@@ -46,7 +46,8 @@ pub fn read_file<R: Files>(rt: &R, alloc: Global, file: &str) -> Result<Vec<u8>,
 /// Reports why the script's file of that name gave no bytes, and returns the exit status. It is 3
 /// also if memory is refused for the message.
 pub fn report_script<E: Write>(alloc: Global, faults: &mut E, name: &str, fault: ScriptFault) -> u8
-    ensures { (result ≡ script_fault_status_of fault) ⊎ (result ≡ 3) }
+    ensures status { (result ≡ script_fault_status_of fault) ⊎ (result ≡ 3) }
+    ensures bad { (2 ≤ result) × (result ≤ 3) }
 {
     match fault {
         ScriptFault::Unopened(error) => report_named(alloc, faults, name, "opened", &error),

@@ -1,56 +1,26 @@
 //! The options of a run that `validate` takes too, as words to type.
 
-ghost use Rattle.std.specs.Prelude.{◌≡◌, None};
-ghost use Rattle.std.specs.Option.{option_copied};
-
-use apply_cli_args::Settings;
+use crate::job::Job;
 use apply_text_terraform::Form;
 use std::alloc::{AllocError, Global};
 use term_text::escape_controls;
 
-/// The options of a run that `validate` takes too.
-#[derive(Clone, Copy)]
-pub(crate) struct SharedOptions<'a> {
-    /// The name of the script's file, if one is given.
-    pub script: Option<&'a str>,
-    /// How many changes run at once, if that is given.
-    pub parallelism: Option<u8>,
-    /// The form of the stream.
-    pub form: Form,
-}
-
-/// Returns the options of a run with these settings that `validate` takes too.
-pub(crate) fn shared_options<'a>(
-    settings: &'a Settings,
-    parallelism: Option<u8>,
-    form: Form,
-) -> SharedOptions<'a> {
-    let script = match &settings.script {
-        Some(name) => Some(name.as_str()),
-        None => None,
-    };
-    SharedOptions {
-        script,
-        parallelism,
-        form,
-    }
-}
-
-/// Returns the words of the options, with a blank before each. The default form has none. `Err` if
-/// memory is refused.
+/// Returns the options of a run that `validate` takes too, as words with a blank before each. The
+/// default form has none. `Err` if memory is refused.
 pub(crate) fn shared_words(
     alloc: Global,
-    options: SharedOptions<'_>,
+    job: &Job<'_, '_>,
+    parallelism: Option<u8>,
 ) -> Result<String, AllocError> {
     let mut words = String::new(alloc);
-    if let Some(script) = options.script {
+    if let Some(script) = &job.settings.script {
         words.push_str(" --script ")?;
-        push_shell_word(alloc, &mut words, script)?;
+        push_shell_word(alloc, &mut words, script.as_str())?;
     }
-    if let Some(lanes) = options.parallelism {
+    if let Some(lanes) = parallelism {
         write!(words, " --parallelism {lanes}")?;
     }
-    if options.form == Form::Terraform {
+    if job.form == Form::Terraform {
         words.push_str(" --form terraform")?;
     }
     Ok(words)

@@ -14,8 +14,8 @@ mod unwritten_errors;
 mod words;
 
 use apply_cli::{
-    Halt, InputFault, Invocation, PromptingReader, Settings, Usage, VERSION, answer_usage, follow,
-    follow_invocation, read_all, read_invocation, read_words, refusal_status, run_command,
+    Halt, InputFault, Invocation, Job, PromptingReader, Settings, Usage, VERSION, answer_usage,
+    follow, follow_invocation, read_all, read_invocation, read_words, refusal_status, run_command,
     run_input,
 };
 use apply_hooks::Registry;

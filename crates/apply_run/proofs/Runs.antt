@@ -1,6 +1,5 @@
 -- Runs: their workers, and how they end.
 pub mod Headline
-pub mod InLanes
 pub mod Joined
 pub mod Places
 pub mod Ready

@@ -1,8 +1,10 @@
 pub mod Applied
 pub mod Bytes
+pub mod FromBytes
 pub mod InForm
 pub mod Lanes
 pub mod Options
 pub mod Read
 pub mod Run
+pub mod Schedule
 pub mod Worker

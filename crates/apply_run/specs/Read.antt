@@ -7,14 +7,12 @@ use Rattle.apply_plan.specs.declared.script.script_error.ScriptError.TheVariants
 use Rattle.apply_plan.specs.Bytes.{max_bytes}
 use Rattle.apply_plan.specs.Plan.SavedPlan.{SavedPlan, plan_of}
 use Rattle.apply_plan.specs.Script.OutcomeMap.{OutcomeMap}
-use Rattle.apply_plan.specs.Script.Waits.{has_waits}
 use Rattle.apply_plan_terraform.specs.declared.plan_notes.PlanNote.{PlanNote}
 use Rattle.apply_plan_terraform.specs.declared.plan_notes.PlanNote.TheVariants.{Partial, Unfinished}
 use Rattle.apply_plan_terraform.specs.Extras.{ExtrasOfScript, extras_of_bytes}
 use Rattle.apply_plan_terraform.specs.Notes.{written_notes}
 use Rattle.apply_plan_terraform.specs.Outputs.{OutputsOfPlan, written_outputs}
 use Rattle.apply_plan_terraform.specs.ReadDetails.{DetailsOfPlan, details_of}
-use Rattle.apply_run.specs.declared.read_with_extras.ReadWithExtras.{ReadWithExtras}
 use Rattle.apply_run.specs.declared.refusal.Refusal.{Refusal}
 use Rattle.apply_run.specs.declared.refusal.Refusal.TheVariants.{Plan, Script, Waits, Size, Fault}
 use Rattle.apply_run.specs.Bytes.{MayBeRead, given_script}
@@ -60,22 +58,6 @@ extras_of stated = record {
   notes = written_notes stated.details.note stated.extras.notes;
   outputs = written_outputs stated.details.outputs stated.extras.outputs;
 }
-
--- these values were read, as they are applied
-pub record IsReadAsStated (stated : StatedInputs) (read : ReadWithExtras) : Type 0 where
-  pub plan : read.plan ≡ applied_plan stated
-  pub script : read.script ≡ applied_script stated
-  pub changes : read.changes.items ≡ stated.details.changes
-  pub notes : read.notes.items ≡ written_notes stated.details.note stated.extras.notes
-  pub outputs : read.outputs.items ≡ written_outputs stated.details.outputs stated.extras.outputs
-  -- of the script that was stated, whatever is applied
-  pub waits : read.has_waits ≡ has_waits stated.script
-
--- the bytes state some inputs, and these were read
-pub record WasRead (plan_bytes : List ℕ) (script_bytes : Option (List ℕ)) (read : ReadWithExtras) : Type 0 where
-  pub stated : StatedInputs
-  pub is_stated : IsStated plan_bytes script_bytes stated
-  pub as_stated : IsReadAsStated stated read
 
 -- the extras of the script are refused with this error
 pub record AreRefused (plan_bytes : List ℕ) (script_bytes : Option (List ℕ)) (plan : SavedPlan) (refusal : ScriptError) : Type 0 where

@@ -1,4 +1,4 @@
--- How a run with workers ends: the events of its workers, and the bytes in its sink.
+-- How a run ends: its events, and the bytes in its sink.
 pub mod Endpoints
 pub mod Finished
 pub mod NotBegun
@@ -8,10 +8,10 @@ pub mod Threads
 use Rattle.std.specs.Prelude.{◌≡◌, ℕ, ◌+◌, ◌≤◌, ◌⊎◌, List, Option}
 use Rattle.apply_events.specs.declared.event.Event.{Event}
 use Rattle.apply_events.specs.Step.{Work}
-use Rattle.apply_text.specs.Lines.{lines_of, stream_of}
+use Rattle.apply_text.specs.Lines.{stream_of}
 use Rattle.apply_text.specs.Order.{as_written, hook_messages_of}
-use Rattle.apply_run.specs.Applied.{IsApplied, IsAppliedInPart}
 use Rattle.apply_run.specs.declared.options.Options.{Options}
+use Rattle.apply_run.specs.Schedule.{Schedule, ByWorkers, IsPartOf, IsRunOf, StartsThreads}
 use Rattle.apply_writer.specs.declared.report.Report.{Report}
 use Rattle.apply_writer.specs.declared.why.Why.{Why}
 use Rattle.apply_writer.specs.declared.why.Why.TheVariants.{Bus, Workers, Memory, Write}
@@ -32,57 +32,29 @@ sink_state bytes failed sink = record { bytes = bytes sink; failed = failed sink
 abbrev pub stream_for : Work → Options → List Event → List ℕ
 stream_for work options events = stream_of work.plan work.script options.start options.operation events
 
--- the lines of events that are written in this order, without a summary
-abbrev pub lines_for : Work → Options → List Event → List ℕ
-lines_for work options events = lines_of work.plan work.script options.start events
+-- ---- over any events
 
--- ---- in any form
-
--- the changes were dealt to the workers in some way; all events of each worker were taken, in its
--- order, and their whole stream was written in this form
-pub record HasStreamedInForm (form : StreamForm) (work : Work) (workers : ℕ) (report : Report)
-    (before after : SinkState) : Type 0 where
-  pub lists : List (List ℕ)
+-- the whole stream of such events was written in this form
+pub record HasStreamedOf (IsRun : List Event → Type 0) (form : StreamForm) (report : Report) (before after : SinkState) : Type 0 where
   pub events : List Event
-  pub applied : IsApplied work workers lists events
+  pub run : IsRun events
   pub whole : IsWhole form.plan events (stream_in form events) report
       before.bytes after.bytes before.failed after.failed
 
--- all events were taken as above, but a write failed, and a prefix of the stream was written
-pub record WasNotWrittenInForm (form : StreamForm) (work : Work) (workers : ℕ) (report : Report)
-    (before after : SinkState) : Type 0 where
-  pub lists : List (List ℕ)
+-- such events were counted; a prefix of these bytes was written, and `failed` writes have failed
+pub record IsCutOffOf (IsRun : List Event → Type 0) (form : StreamForm) (bytes_of : List Event → List ℕ) (failed : ℕ)
+    (report : Report) (before after : SinkState) : Type 0 where
   pub events : List Event
-  pub applied : IsApplied work workers lists events
-  pub part : IsCutOff form.plan events (stream_in form events) report
-      before.bytes after.bytes (before.failed + 1) after.failed
+  pub run : IsRun events
+  pub part : IsCutOff form.plan events (bytes_of events) report before.bytes after.bytes failed after.failed
 
--- all events were taken as above, but memory was refused for a line or to store a diagnostic. A
--- prefix of the lines was written, and nothing of the tail; no write failed
-pub record RanOutOfMemoryInForm (form : StreamForm) (work : Work) (workers : ℕ) (report : Report)
-    (before after : SinkState) : Type 0 where
-  pub lists : List (List ℕ)
-  pub events : List Event
-  pub applied : IsApplied work workers lists events
-  pub part : IsCutOff form.plan events (lines_in form (as_written events)) report
-      before.bytes after.bytes before.failed after.failed
-
--- a prefix of the events of each worker was taken. A prefix of the lines of their hook messages was
--- written, and neither diagnostics nor tail; `failed` writes failed
-pub record WasCutOffInForm (failed : ℕ) (form : StreamForm) (work : Work) (workers : ℕ) (report : Report)
-    (before after : SinkState) : Type 0 where
-  pub lists : List (List ℕ)
-  pub events : List Event
-  pub applied : IsAppliedInPart work workers lists events
-  pub part : IsCutOff form.plan events (lines_in form (hook_messages_of events)) report
-      before.bytes after.bytes (before.failed + failed) after.failed
-
--- a run that was cut off, with or without a failed write
-pub record WasCutOffLateInForm (form : StreamForm) (work : Work) (workers : ℕ) (report : Report)
-    (before after : SinkState) : Type 0 where
+-- such events were counted; a prefix of the lines of their hook messages was written, and neither
+-- diagnostics nor tail, with or without a failed write
+pub record IsLostOf (IsPart : List Event → Type 0) (form : StreamForm) (report : Report) (before after : SinkState) : Type 0 where
   pub failed : ℕ
   pub few : failed ≤ 1
-  pub cut_off : WasCutOffInForm failed form work workers report before after
+  pub cut_off : IsCutOffOf IsPart form (λ events. lines_in form (hook_messages_of events)) (before.failed + failed)
+      report before after
 
 -- no event was taken, and the sink is unchanged
 pub record DidNothing (report : Report) (before after : SinkState) : Type 0 where
@@ -93,16 +65,27 @@ pub record DidNothing (report : Report) (before after : SinkState) : Type 0 wher
   }
   pub same : after ≡ before
 
--- what holds after an error of each cause. Memory was refused before the threads started, for a
--- line, or to store a diagnostic
-abbrev pub HasFailedInForm : Why → StreamForm → Work → (workers : ℕ) → Report → (before after : SinkState) → Type 0
-HasFailedInForm Write form work workers report before after = WasNotWrittenInForm form work workers report before after
-HasFailedInForm Workers form work workers report before after = DidNothing report before after
-HasFailedInForm Memory form work workers report before after =
-    DidNothing report before after ⊎ RanOutOfMemoryInForm form work workers report before after
-HasFailedInForm Bus form work workers report before after = WasCutOffLateInForm form work workers report before after
+-- ---- with a schedule
 
--- ---- in the default form
+-- all events of the work were taken, and their whole stream was written in this form
+abbrev pub HasStreamedBy : Schedule → StreamForm → Work → Report → (before after : SinkState) → Type 0
+HasStreamedBy schedule form work report before after = HasStreamedOf (IsRunOf schedule work) form report before after
+
+-- what holds after an error of each cause: a write failed; a thread was refused; memory was refused
+-- before any event, for a line, or to store a diagnostic; or an event was lost between threads
+abbrev pub HasFailedBy : Why → Schedule → StreamForm → Work → Report → (before after : SinkState) → Type 0
+HasFailedBy Write schedule form work report before after =
+    IsCutOffOf (IsRunOf schedule work) form (stream_in form) (before.failed + 1) report before after
+HasFailedBy Workers schedule form work report before after = DidNothing report before after × StartsThreads schedule
+HasFailedBy Memory schedule form work report before after =
+    DidNothing report before after
+    ⊎ IsCutOffOf (IsRunOf schedule work) form (λ events. lines_in form (as_written events)) before.failed report before after
+HasFailedBy Bus schedule form work report before after = IsLostOf (IsPartOf schedule work) form report before after
+
+-- ---- with workers, in the default form
+
+abbrev pub by_workers : Options → Schedule
+by_workers options = ByWorkers options.workers options.capacity
 
 -- the default form of the stream of this work, with the start and the operation of the options
 abbrev pub plain_for : Work → Options → StreamForm
@@ -110,20 +93,8 @@ plain_for work options = plain_form work.plan work.script options.start options.
 
 abbrev pub HasStreamed : Work → Options → Report → (before after : SinkState) → Type 0
 HasStreamed work options report before after =
-    HasStreamedInForm (plain_for work options) work options.workers report before after
-
-abbrev pub WasNotWritten : Work → Options → Report → (before after : SinkState) → Type 0
-WasNotWritten work options report before after =
-    WasNotWrittenInForm (plain_for work options) work options.workers report before after
-
-abbrev pub RanOutOfMemory : Work → Options → Report → (before after : SinkState) → Type 0
-RanOutOfMemory work options report before after =
-    RanOutOfMemoryInForm (plain_for work options) work options.workers report before after
-
-abbrev pub WasCutOff : (failed : ℕ) → Work → Options → Report → (before after : SinkState) → Type 0
-WasCutOff failed work options report before after =
-    WasCutOffInForm failed (plain_for work options) work options.workers report before after
+    HasStreamedBy (by_workers options) (plain_for work options) work report before after
 
 abbrev pub HasFailed : Why → Work → Options → Report → (before after : SinkState) → Type 0
 HasFailed why work options report before after =
-    HasFailedInForm why (plain_for work options) work options.workers report before after
+    HasFailedBy why (by_workers options) (plain_for work options) work report before after

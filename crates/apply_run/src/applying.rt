@@ -4,7 +4,7 @@ ghost use Rattle.std.specs.Prelude.{◌≡◌, ◌<◌, ◌≤◌, ◌-◌, ◌^
 ghost use Rattle.apply_hooks.specs.Registry.{rules_of};
 ghost use Rattle.apply_plan.specs.Plan.SavedPlan.{max_changes};
 ghost use Rattle.apply_run.specs.Options.{IsInRange};
-ghost use Rattle.apply_run.specs.Run.{HasFailed, HasFailedInForm, HasStreamed, HasStreamedInForm, sink_state};
+ghost use Rattle.apply_run.specs.Run.{by_workers, HasFailed, HasFailedBy, HasStreamed, HasStreamedBy, sink_state};
 ghost use Rattle.apply_run.specs.Run.Endpoints.{AreReady};
 ghost use Rattle.apply_run.specs.Run.Finished.{IsFinishedRun};
 ghost use Rattle.apply_run.specs.Run.NotBegun.{GivesBack};
@@ -90,12 +90,12 @@ pub(crate) fn apply_in_form<S: Sink + Drop, F: FormLines, G: Gate, R: Threads + 
     requires failures { S.failed sink < 2 ^ 64 - 1 }
     requires plan { (F.form lines).plan ≡ plan.now }
 
-    ensures ok { IfOk result.1 (λ report. HasStreamedInForm (F.form lines)
-        (record { plan = plan.now; script = script.now; hooks = rules_of registry.now }) options.workers report
+    ensures ok { IfOk result.1 (λ report. HasStreamedBy (by_workers options) (F.form lines)
+        (record { plan = plan.now; script = script.now; hooks = rules_of registry.now }) report
         (sink_state S.bytes S.failed sink) (sink_state S.bytes S.failed result.0)) }
 
-    ensures err { IfErr result.1 (λ fault. HasFailedInForm fault.why (F.form lines)
-        (record { plan = plan.now; script = script.now; hooks = rules_of registry.now }) options.workers fault.report
+    ensures err { IfErr result.1 (λ fault. HasFailedBy fault.why (by_workers options) (F.form lines)
+        (record { plan = plan.now; script = script.now; hooks = rules_of registry.now }) fault.report
         (sink_state S.bytes S.failed sink) (sink_state S.bytes S.failed result.0)) }
 {
     let Ok(prepared) = Prepared::new(alloc, options, plan.len()) else {

@@ -1,18 +1,15 @@
 //! Applies a plan in lanes: changes run at once in the stream's own time, and no thread is started.
 
-ghost use Rattle.std.specs.Prelude.{◌≡◌, ◌<◌, ◌-◌, ◌^◌, ◌↔◌, ℕ, List, Option, IfErr, IfOk, IsTrue};
-ghost use Rattle.std.specs.Option.{option_copied};
+ghost use Rattle.std.specs.Prelude.{◌≡◌, ◌<◌, ◌-◌, ◌^◌, ◌↔◌, IfErr, IfOk, IsTrue};
 ghost use Rattle.apply_hooks.specs.Registry.{rules_of};
 ghost use Rattle.apply_events.specs.Lanes.{AreLanes};
 ghost use Rattle.apply_events.specs.Lanes.ToCome.{to_come, emitted_count, work_of};
-ghost use Rattle.apply_run.specs.Bytes.{IsRead};
-ghost use Rattle.apply_run.specs.Lanes.{HasFailedInFormAndLanes, HasFailedInLanes, HasStreamedInFormAndLanes, HasStreamedInLanes, WasAppliedInLanes, WasRefusedInLanes};
-ghost use Rattle.apply_run.specs.Run.{sink_state};
+ghost use Rattle.apply_run.specs.Lanes.{HasFailedInLanes, HasStreamedInLanes};
+ghost use Rattle.apply_run.specs.Run.{HasFailedBy, HasStreamedBy, sink_state};
+ghost use Rattle.apply_run.specs.Schedule.{InLanes};
 ghost use Rattle.apply_writer.specs.Stream.Counting.{CountsFit, IsNew};
 ghost use Rattle.apply_writer.specs.Stream.WriterState.{IsSameStream, HasAcceptedSince, writer_state};
 
-use crate::read_bytes::{ReadBytes, read_bytes};
-use crate::refusal::Refusal;
 use apply_events::{Lanes, MAX_LANES, there_is_a_time_line};
 use apply_hooks::Registry;
 use apply_plan::{Plan, Script};
@@ -86,12 +83,12 @@ pub(crate) fn apply_lanes_in_form<S: Sink + Drop, F: FormLines>(
     requires failures { S.failed sink < 2 ^ 64 - 1 }
     requires plan { (F.form lines).plan ≡ plan.now }
 
-    ensures ok { IfOk result.1 (λ report. HasStreamedInFormAndLanes (F.form lines)
-        (record { plan = plan.now; script = script.now; hooks = rules_of registry.now }) lanes report
+    ensures ok { IfOk result.1 (λ report. HasStreamedBy (InLanes lanes) (F.form lines)
+        (record { plan = plan.now; script = script.now; hooks = rules_of registry.now }) report
         (sink_state S.bytes S.failed sink) (sink_state S.bytes S.failed result.0)) }
 
-    ensures err { IfErr result.1 (λ fault. HasFailedInFormAndLanes fault.why (F.form lines)
-        (record { plan = plan.now; script = script.now; hooks = rules_of registry.now }) lanes fault.report
+    ensures err { IfErr result.1 (λ fault. HasFailedBy fault.why (InLanes lanes) (F.form lines)
+        (record { plan = plan.now; script = script.now; hooks = rules_of registry.now }) fault.report
         (sink_state S.bytes S.failed sink) (sink_state S.bytes S.failed result.0)) }
 {
     there_is_a_time_line();
@@ -126,79 +123,4 @@ pub(crate) fn are_lanes(lanes: u8) -> bool
     ensures { IsTrue result ↔ AreLanes lanes }
 {
     1 <= lanes && lanes <= MAX_LANES
-}
-
-/// Reads a plan (JSON Output Format, "Plan Representation") and an optional script, and applies
-/// both as [`apply_in_lanes`](crate::apply_in_lanes) does. Every answer returns the sink.
-///
-/// `Err` with `Refusal::Plan` if the bytes are not a plan. Else `Err` with `Refusal::Script` if
-/// there is a script and it does not fit the plan. Else `Err` with `Refusal::Size` unless there are
-/// 1 to 64 lanes. Then nothing was written.
-///
-/// `Err` with `Refusal::Fault` if the run failed.
-pub fn apply_bytes_in_lanes<S: Sink + Drop>(
-    alloc: Global,
-    plan: &[u8],
-    script: Option<&[u8]>,
-    registry: &Registry,
-    lanes: u8,
-    start: Start,
-    operation: Operation,
-    sink: S,
-) -> (S, Result<Report, Refusal>)
-    requires { S.failed sink < 2 ^ 64 - 1 }
-
-    ensures ok { IfOk result.1 (λ report. WasAppliedInLanes
-        (record { plan = plan.now; script = option_copied script.entry; hooks = rules_of registry.now }) lanes start operation report
-        (sink_state S.bytes S.failed sink) (sink_state S.bytes S.failed result.0)) }
-
-    ensures err { IfErr result.1 (λ refusal. WasRefusedInLanes
-        (record { plan = plan.now; script = option_copied script.entry; hooks = rules_of registry.now }) lanes start operation refusal
-        (sink_state S.bytes S.failed sink) (sink_state S.bytes S.failed result.0)) }
-{
-    match read_bytes(alloc, plan, script) {
-        Ok(read) => apply_read(alloc, &read, registry, lanes, start, operation, sink),
-        Err(refusal) => (sink, Err(refusal)),
-    }
-}
-
-/// Applies the plan and the script that were read.
-fn apply_read<S: Sink + Drop>(
-    alloc: Global,
-    read: &ReadBytes,
-    registry: &Registry,
-    lanes: u8,
-    start: Start,
-    operation: Operation,
-    sink: S,
-) -> (S, Result<Report, Refusal>)
-    requires { S.failed sink < 2 ^ 64 - 1 }
-
-    ensures ok { (plan : List ℕ) (script : Option (List ℕ))
-        → IsRead (record { plan = plan; script = script; hooks = rules_of registry.now }) read.now.plan read.now.script
-        → IfOk result.1 (λ report. WasAppliedInLanes (record { plan = plan; script = script; hooks = rules_of registry.now })
-        lanes start operation report (sink_state S.bytes S.failed sink) (sink_state S.bytes S.failed result.0)) }
-
-    ensures err { (plan : List ℕ) (script : Option (List ℕ))
-        → IsRead (record { plan = plan; script = script; hooks = rules_of registry.now }) read.now.plan read.now.script
-        → IfErr result.1 (λ refusal. WasRefusedInLanes (record { plan = plan; script = script; hooks = rules_of registry.now })
-        lanes start operation refusal (sink_state S.bytes S.failed sink) (sink_state S.bytes S.failed result.0)) }
-{
-    if !are_lanes(lanes) {
-        return (sink, Err(Refusal::Size));
-    }
-    let (sink, result) = apply_in_lanes(
-        alloc,
-        &read.plan,
-        &read.script,
-        registry,
-        lanes,
-        start,
-        operation,
-        sink,
-    );
-    match result {
-        Ok(report) => (sink, Ok(report)),
-        Err(fault) => (sink, Err(Refusal::Fault(fault))),
-    }
 }

@@ -5,7 +5,7 @@ use Rattle.apply_model.specs.Plan.ResourceChange.{ResourceChange}
 use Rattle.apply_model.specs.Plan.SavedPlan.{SavedPlan}
 use Rattle.apply_model.specs.Script.OutcomeMap.{OutcomeMap}
 use Rattle.apply_events.specs.declared.event.Event.{Event}
-use Rattle.apply_run.specs.Lanes.{WasAppliedInLanes}
+use Rattle.apply_run.specs.InForm.{WasAppliedInLanes}
 use Rattle.apply_run.specs.Run.{SinkState}
 use Rattle.apply_text.specs.declared.operation.Operation.{Operation}
 use Rattle.apply_writer.specs.declared.report.Report.{Report}
@@ -17,7 +17,7 @@ use Rattle.stream_record_stream.specs.Answers.{IsReadOf}
 use Rattle.stream_record_stream.specs.Streams.{StreamRead}
 use Rattle.stream_runs.specs.declared.choice.RunChoice.{RunChoice}
 use Rattle.std.specs.Prelude.{Ok}
-use Rattle.laws_again.specs.Streams.{IsRunInLanes, IsToldWhole, ReadsAsItIs, inputs_of}
+use Rattle.laws_again.specs.Streams.{IsRunInLanes, IsStreamInLanes, IsToldWhole, ReadsAsItIs, inputs_of}
 
 -- ---- what is read
 
@@ -54,10 +54,13 @@ appended before after bytes stream none all appends =
     subst (λ (o : Option (List ℕ)). Appends (Some []) o bytes) all (subst (λ (o : Option (List ℕ)). Appends o after bytes) none appends)
 
 -- What a run in lanes wrote is its stream.
-pub written_by : (plan : List ℕ) (script : Option (List ℕ)) (lanes start : ℕ) (operation : Operation) (report : Report) (before after : SinkState)
-    (stream : List ℕ) (applied : WasAppliedInLanes (inputs_of plan script) lanes start operation report before after)
-    → before.bytes ≡ Some [] → after.bytes ≡ Some stream
-    → stream ≡ stream_in (plain_form applied.plan applied.script start operation) applied.streamed.events
-written_by plan script lanes start operation report before after stream applied none all =
-    appended before.bytes after.bytes (stream_in (plain_form applied.plan applied.script start operation) applied.streamed.events) stream none all
-    applied.streamed.whole.delivered.appended
+abbrev pub stream_written : (plan : List ℕ) (script : Option (List ℕ)) (lanes start : ℕ) (operation : Operation) (report : Report) (before after : SinkState)
+    (stream : List ℕ) → WasAppliedInLanes (inputs_of plan script) lanes start operation report before after
+    → before.bytes ≡ Some [] → after.bytes ≡ Some stream → IsStreamInLanes plan script lanes start operation stream
+stream_written plan script lanes start operation report before after stream applied none all = record {
+  saved = applied.read.plan;
+  steps = applied.read.script;
+  events = applied.streamed.events;
+  run = record { read = applied.is_read; sizes = applied.sizes; time_line = applied.streamed.run };
+  stream_is = appended before.bytes after.bytes _ stream none all applied.streamed.whole.delivered.appended;
+}

@@ -14,9 +14,10 @@ use Rattle.apply_plan_terraform.specs.declared.plan_notes.PlanNote.{PlanNote}
 use Rattle.apply_plan_terraform.specs.declared.plan_notes.PlanNote.TheVariants.{Partial, Unfinished}
 use Rattle.apply_plan_terraform.specs.Notes.{note_of_plan, written_notes}
 use Rattle.apply_plan_terraform.specs.ReadDetails.{DetailsOfPlan, details_of}
-use Rattle.apply_run.specs.InForm.{WasAppliedAsTerraformInLanes}
+use Rattle.apply_run.specs.InForm.{WasAppliedInFormAndLanes}
 use Rattle.apply_run.specs.Read.{StatedInputs, extras_of, is_unfinished}
 use Rattle.apply_run.specs.Run.{SinkState}
+use Rattle.apply_text_terraform.specs.declared.form.Form.TheVariants.{Terraform}
 use Rattle.apply_run.specs.declared.form_report.FormReport.{FormReport}
 use Rattle.apply_text.specs.declared.operation.Operation.{Operation}
 use Rattle.apply_writer.specs.Stream.Form.{stream_in}
@@ -193,13 +194,13 @@ told_again IsTold plan script graph choice lanes start operation stream text war
 
 -- What a run in lanes wrote is its stream.
 abbrev pub stream_written : (plan : List ℕ) (script : Option (List ℕ)) (lanes start : ℕ) (operation : Operation) (report : FormReport) (before after : SinkState)
-    (stream : List ℕ) → WasAppliedAsTerraformInLanes (inputs_of plan script) lanes start operation report before after
+    (stream : List ℕ) → WasAppliedInFormAndLanes Terraform (inputs_of plan script) lanes start operation report before after
     → before.bytes ≡ Some [] → after.bytes ≡ Some stream → IsStreamInLanesInForm plan script lanes start operation stream
-stream_written plan script lanes start operation report before after stream applied none all = record {
-  stated = applied.stated;
-  read = applied.read;
+stream_written plan script lanes start operation report before after stream reported none all = let applied = reported.applied in record {
+  stated = applied.read;
+  read = applied.is_read;
   sizes = applied.sizes;
   events = applied.streamed.events;
-  time_line = applied.streamed.time_line;
+  time_line = applied.streamed.run;
   stream_is = appended before.bytes after.bytes _ stream none all applied.streamed.whole.delivered.appended;
 }

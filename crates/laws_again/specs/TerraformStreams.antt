@@ -14,7 +14,8 @@ use Rattle.apply_events.specs.Waits.TimeLine.{IsTimeLine}
 use Rattle.apply_text.specs.declared.operation.Operation.{Operation}
 use Rattle.apply_text.specs.declared.operation.Operation.TheVariants.{Apply}
 use Rattle.apply_text_terraform.specs.Message.{diagnostic_address}
-use Rattle.apply_run.specs.InForm.{form_of, work_of}
+use Rattle.apply_text_terraform.specs.declared.form.Form.TheVariants.{Terraform}
+use Rattle.apply_run.specs.FromBytes.{form_for, work_for}
 use Rattle.apply_run.specs.Read.{IsStated, StatedInputs, extras_of}
 use Rattle.apply_writer.specs.Stream.Form.{stream_in}
 use Rattle.apply_writer.specs.Stream.Terraform.{StreamExtras, contains_error}
@@ -41,8 +42,8 @@ pub record IsStreamInLanesInForm (plan : List ℕ) (script : Option (List ℕ)) 
   pub read : IsStated plan script stated
   pub sizes : AreLanes lanes
   pub events : List Event
-  pub time_line : IsTimeLine (work_of (inputs_of plan script) stated) lanes events
-  pub stream_is : stream ≡ stream_in (form_of stated start operation) events
+  pub time_line : IsTimeLine (work_for Terraform (inputs_of plan script) stated) lanes events
+  pub stream_is : stream ≡ stream_in (form_for Terraform stated start operation) events
 
 -- ---- what `record` has to find
 

@@ -7,7 +7,7 @@ ghost use Rattle.apply_events.specs.declared.event.Event.{Event};
 ghost use Rattle.apply_model.specs.Plan.SavedPlan.{SavedPlan};
 ghost use Rattle.apply_model.specs.Script.OutcomeMap.{OutcomeMap};
 ghost use Rattle.apply_model.specs.declared.details.note.Note.{Note};
-ghost use Rattle.apply_run.specs.Lanes.{WasAppliedInLanes};
+ghost use Rattle.apply_run.specs.InForm.{WasAppliedInLanes};
 ghost use Rattle.apply_run.specs.Run.{SinkState};
 ghost use Rattle.apply_text.specs.Start.{end_of_starts};
 ghost use Rattle.apply_text.specs.declared.operation.Operation.{Operation};
@@ -142,7 +142,7 @@ pub fn a_stream_without_waits_comes_again()
         (operation : Operation) (stream text warnings again : List ℕ) (report other_report : Report) (before after other_before other_after : SinkState)
         → (applied : WasAppliedInLanes (inputs_of plan script) lanes start operation report before after)
         → before.bytes ≡ Some [] → after.bytes ≡ Some stream → start < end_of_starts
-        → IsToldWithoutWaits applied.plan applied.script → ReadsInLanes choice lanes
+        → IsToldWithoutWaits applied.read.plan applied.read.script → ReadsInLanes choice lanes
         → IsScriptOfBytes plan None choice stream text warnings
         → WasAppliedInLanes (inputs_of plan (Some text)) lanes start operation other_report other_before other_after
         → other_before.bytes ≡ Some [] → other_after.bytes ≡ Some again

@@ -6,9 +6,10 @@ ghost use Rattle.apply_events.specs.Waits.TimeLine.{IsTimeLine};
 ghost use Rattle.apply_events.specs.declared.event.Event.{Event};
 ghost use Rattle.apply_model.specs.Script.OutcomeMap.{OutcomeMap};
 ghost use Rattle.apply_plan_terraform.specs.Extras.{with_notes};
-ghost use Rattle.apply_run.specs.InForm.{WasAppliedAsTerraformInLanes};
+ghost use Rattle.apply_run.specs.InForm.{WasAppliedInFormAndLanes};
 ghost use Rattle.apply_run.specs.Read.{StatedInputs, extras_of, is_unfinished};
 ghost use Rattle.apply_run.specs.Run.{SinkState};
+ghost use Rattle.apply_text_terraform.specs.declared.form.Form.TheVariants.{Terraform};
 ghost use Rattle.apply_run.specs.declared.form_report.FormReport.{FormReport};
 ghost use Rattle.apply_text.specs.Start.{end_of_starts};
 ghost use Rattle.apply_text.specs.declared.operation.Operation.{Operation};
@@ -86,11 +87,11 @@ pub fn a_stream_without_waits_comes_again_in_terraforms_form()
         → again ≡ stream }
     ensures applied { (plan : List ℕ) (script : Option (List ℕ)) (choice : StreamChoice) (lanes start : ℕ)
         (operation : Operation) (stream text warnings again : List ℕ) (report other_report : FormReport) (before after other_before other_after : SinkState)
-        → (applied : WasAppliedAsTerraformInLanes (inputs_of plan script) lanes start operation report before after)
+        → (applied : WasAppliedInFormAndLanes Terraform (inputs_of plan script) lanes start operation report before after)
         → before.bytes ≡ Some [] → after.bytes ≡ Some stream → start < end_of_starts
-        → IsToldWithoutWaitsInForm applied.stated → ReadsInLanes choice lanes
+        → IsToldWithoutWaitsInForm applied.applied.read → ReadsInLanes choice lanes
         → IsScriptOfBytes plan None choice stream text warnings
-        → WasAppliedAsTerraformInLanes (inputs_of plan (Some text)) lanes start operation other_report other_before other_after
+        → WasAppliedInFormAndLanes Terraform (inputs_of plan (Some text)) lanes start operation other_report other_before other_after
         → other_before.bytes ≡ Some [] → other_after.bytes ≡ Some again
         → again ≡ stream }
 {

@@ -20,7 +20,8 @@ use Rattle.apply_text_terraform.specs.Verbatim.{verbatim_members}
 use Rattle.apply_text_terraform.specs.Lines.{event_line, message_line, note_text, planned_text, line_with_verbatim, version_members, version_text}
 use Rattle.apply_text_terraform.specs.Message.{event_message, is_silent, verbatim_of, note_message, planned_message}
 use Rattle.apply_text_terraform.specs.UtcTimestamp.{precise_timestamp_text}
-use Rattle.apply_run.specs.InForm.{form_of}
+use Rattle.apply_text_terraform.specs.declared.form.Form.TheVariants.{Terraform}
+use Rattle.apply_run.specs.FromBytes.{form_for}
 use Rattle.apply_run.specs.Read.{StatedInputs, applied_plan, applied_script, extras_of}
 use Rattle.apply_writer.specs.Stream.Terraform.{terraform_head_chunks, planned_at, planned_id_of}
 use Rattle.laws_check.specs.Levels.{IsLineOrNothing, event_lines, lines_before_end}
@@ -82,10 +83,10 @@ all_lines stated start operation written =
     let plan = applied_plan stated in
     let notes = (extras_of stated).notes in
     let latest = latest_of written (length written) in
-    all_both (terraform_head_chunks plan stated.details.changes start) (event_lines (form_of stated start operation) written ++ map (note_text start latest) notes)
+    all_both (terraform_head_chunks plan stated.details.changes start) (event_lines (form_for Terraform stated start operation) written ++ map (note_text start latest) notes)
     (of_version plan start, all_mapped (planned_at start stated.details.changes) (λ p. of_planned start p.1 (slice_get stated.details.changes p.0)) (enumerate_from 0 plan.changes))
-    (all_both (event_lines (form_of stated start operation) written) (map (note_text start latest) notes)
-    (all_mapped (λ (p : ℕ × Event). (form_of stated start operation).line (latest_of written (p.0 + 1)) p.1)
+    (all_both (event_lines (form_for Terraform stated start operation) written) (map (note_text start latest) notes)
+    (all_mapped (λ (p : ℕ × Event). (form_for Terraform stated start operation).line (latest_of written (p.0 + 1)) p.1)
     (λ p. of_change (start + latest_of written (p.0 + 1)) (outcome_of (applied_script stated) p.1.change p.1.step) (planned_id_of stated.details.changes p.1.change) p.1.what p.1.step (slice_get plan.changes p.1.change))
     (enumerate_from 0 written))
     (all_mapped (note_text start latest) (of_note start latest) notes))

@@ -36,7 +36,8 @@ use Rattle.apply_text_terraform.specs.Verbatim.{verbatim_members, diagnostic_wit
 use Rattle.apply_text_terraform.specs.Lines.{event_line, event_text, line_of_text, message_line, note_text, outputs_text, planned_text, summary_text, line_with_verbatim, version_text}
 use Rattle.apply_text_terraform.specs.Message.{event_message, is_silent, verbatim_of, note_message, planned_message}
 use Rattle.apply_text_terraform.specs.UtcTimestamp.{precise_timestamp_text}
-use Rattle.apply_run.specs.InForm.{form_of}
+use Rattle.apply_text_terraform.specs.declared.form.Form.TheVariants.{Terraform}
+use Rattle.apply_run.specs.FromBytes.{form_for}
 use Rattle.apply_run.specs.Read.{StatedInputs, applied_plan, applied_script, extras_of}
 use Rattle.apply_writer.specs.Stream.Form.{lines_in}
 use Rattle.apply_writer.specs.Stream.Terraform.{terraform_head_chunks, is_error, is_severe, planned_at, planned_id_of, contains_error}
@@ -154,7 +155,7 @@ of_event plan script start latest planned e is =
 
 module _ (stated : StatedInputs) (start : ℕ) (operation : Operation) where
   of_events : (latest : ℕ → ℕ) (n : ℕ) (es : List Event) → Each (IsPlanned (applied_plan stated)) es
-      → list_any is_error_line (map (λ p. (form_of stated start operation).line (latest (p.0 + 1)) p.1) (enumerate_from n es)) ≡ list_any tells es
+      → list_any is_error_line (map (λ p. (form_for Terraform stated start operation).line (latest (p.0 + 1)) p.1) (enumerate_from n es)) ≡ list_any tells es
   of_events latest n [] planned = refl
   of_events latest n (e ∷ es) planned =
       ap₂ (λ (a b : Bool). a || b)
@@ -173,7 +174,7 @@ module _ (stated : StatedInputs) (start : ℕ) (operation : Operation) where
         let limit = length plan.changes in
         let written = as_written events in
         let head = terraform_head_chunks plan stated.details.changes start in
-        let lines = event_lines (form_of stated start operation) written in
+        let lines = event_lines (form_for Terraform stated start operation) written in
         let last = map (note_text start (latest_of written (length written))) (extras_of stated).notes in
         let planned : Each (IsPlanned plan) events = are_planned plan events steps.planned in
         let counted = errors_counted work limit events (each_weaker (IsPlanned plan) (λ e. e.change < limit) (is_within plan) events planned) steps.whole in
@@ -191,9 +192,9 @@ joined f (x ∷ xs) = ap (λ (l : List ℕ). f x ++ l) (joined f xs)
 
 -- the lines, joined
 all_joined : (stated : StatedInputs) (start : ℕ) (operation : Operation) (written : List Event)
-    → concat (lines_before_end stated start operation written) ≡ lines_in (form_of stated start operation) written ++ flat_map (note_text start (latest_of written (length written))) (extras_of stated).notes
+    → concat (lines_before_end stated start operation written) ≡ lines_in (form_for Terraform stated start operation) written ++ flat_map (note_text start (latest_of written (length written))) (extras_of stated).notes
 all_joined stated start operation written =
-    let form = form_of stated start operation in
+    let form = form_for Terraform stated start operation in
     let head = terraform_head_chunks (applied_plan stated) stated.details.changes start in
     let lines = event_lines form written in
     let latest = latest_of written (length written) in
@@ -215,7 +216,7 @@ an_end_or_an_error stated start operation hooks events counts reported_error ste
     let notes = flat_map (note_text start latest) (extras_of stated).notes in
     record {
       lines = all_lines stated start operation written;
-      stream = sym (append_assoc (lines_in (form_of stated start operation) written) notes (cond (contains_error (extras_of stated).notes (totals_of (applied_plan stated) events)) [] (end_of stated start operation events)))
+      stream = sym (append_assoc (lines_in (form_for Terraform stated start operation) written) notes (cond (contains_error (extras_of stated).notes (totals_of (applied_plan stated) events)) [] (end_of stated start operation events)))
           ∙ ap₂ (λ (a : List ℕ) (b : Bool). a ++ cond b [] (end_of stated start operation events)) (sym (all_joined stated start operation written)) (sym same);
       error = reported ∙ ap (contains_error (extras_of stated).notes) counted ∙ sym same;
     }

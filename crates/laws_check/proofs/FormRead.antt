@@ -29,7 +29,8 @@ use Rattle.apply_plan_terraform.specs.Outputs.{OutputsOfPlan, outputs_in_script,
 use Rattle.apply_plan_terraform.specs.Texts.{json_of, json_of_text, with_texts}
 use Rattle.apply_plan_terraform.specs.ReadDetails.{DetailsOfPlan, details_of}
 use Rattle.apply_run.specs.Bytes.{Inputs, IsRead, given_script}
-use Rattle.apply_run.specs.InForm.{work_of}
+use Rattle.apply_text_terraform.specs.declared.form.Form.TheVariants.{Terraform}
+use Rattle.apply_run.specs.FromBytes.{work_for}
 use Rattle.apply_run.specs.Read.{IsStated, StatedInputs, applied_plan, applied_script, extras_of, given_extras, is_unfinished}
 use Rattle.apply_writer.specs.Stream.Terraform.{imported_in}
 use Rattle.laws_check.specs.AcceptedInForm.{MayBeApplied}
@@ -163,7 +164,7 @@ module _ (given : Inputs) (stated : StatedInputs) (is : IsStated given.plan give
 
   pub may_be_applied : MayBeApplied given stated
   may_be_applied = record {
-    limits = limits_of (work_of given stated) applied.readable applied.readable_script;
+    limits = limits_of (work_for Terraform given stated) applied.readable applied.readable_script;
     whole = λ c change place.
         (is_given IsReadable (slice_get (applied_plan stated).changes c) change (held_at IsReadable (applied_plan stated).changes c applied.readable.changes) place).of_one;
     ordinary = λ deleted. record { few = applied.readable.few; once = applied.once; deleted = deleted };

@@ -1,5 +1,4 @@
 pub mod AppliedKinds
-mod AppliedSteps
 mod BareTexts
 pub mod BetweenSteps
 pub mod Bytes
@@ -71,6 +70,7 @@ pub mod ReadNumbers
 mod ReadOutputs
 pub mod ReadTexts
 pub mod RunEvents
+mod Schedules
 pub mod ScriptTexts
 pub mod Scripts
 pub mod SmallNumbers

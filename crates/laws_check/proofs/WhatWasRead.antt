@@ -57,6 +57,3 @@ limits_of work readable stated = record {
   few_steps = λ c. few_kinds (slice_get work.plan.changes c) (held_at IsReadable work.plan.changes c readable.changes);
   short_steps = λ c k. bounded (stated_outcome work.script c k) (stated c k);
 }
-
-pub within_limits : (given : Inputs) (work : Work) → IsRead given work.plan work.script → IsWithinLimits work
-within_limits given work read = limits_of work (the_plan given work.plan work.script read) (the_script given work.plan work.script read)

@@ -13,7 +13,8 @@ use Rattle.apply_events.specs.declared.event.Event.{Event}
 use Rattle.apply_events.specs.Laws.{IsWithinLimits}
 use Rattle.apply_text.specs.declared.operation.Operation.{Operation}
 use Rattle.apply_run.specs.Bytes.{Inputs}
-use Rattle.apply_run.specs.InForm.{work_of}
+use Rattle.apply_text_terraform.specs.declared.form.Form.TheVariants.{Terraform}
+use Rattle.apply_run.specs.FromBytes.{work_for}
 use Rattle.apply_run.specs.Read.{StatedInputs, applied_plan, applied_script, extras_of}
 use Rattle.laws_check.specs.Applied.{HasShortLines}
 use Rattle.laws_check.specs.Passing.{plain, with_all}
@@ -25,7 +26,7 @@ use Rattle.laws_check.specs.Unstarted.{FindsUnstarted, IsAnswered, IsJudged}
 -- replaces the object, and no object is changed twice. Only steps that may have provisioners have
 -- some, and only reads only warn.
 pub record MayBeApplied (given : Inputs) (stated : StatedInputs) : Type 0 where
-  pub limits : IsWithinLimits (work_of given stated)
+  pub limits : IsWithinLimits (work_for Terraform given stated)
   pub whole : ChangesAreWhole (applied_plan stated)
   pub ordinary : DeletesDeposed (applied_plan stated) → IsOrdinary (applied_plan stated)
   pub provisions : ProvisionsCreates (applied_plan stated) (applied_script stated)

@@ -9,7 +9,8 @@ use Rattle.apply_text.specs.Latest.{latest_of}
 use Rattle.apply_text.specs.Message.{Message}
 use Rattle.apply_text.specs.Order.{as_written}
 use Rattle.apply_text_terraform.specs.Lines.{line_of, note_text, summary_text, line_with_verbatim}
-use Rattle.apply_run.specs.InForm.{form_of}
+use Rattle.apply_text_terraform.specs.declared.form.Form.TheVariants.{Terraform}
+use Rattle.apply_run.specs.FromBytes.{form_for}
 use Rattle.apply_run.specs.Read.{StatedInputs, applied_plan, extras_of}
 use Rattle.apply_writer.specs.Stream.Form.{StreamForm, stream_in}
 use Rattle.apply_writer.specs.Stream.Terraform.{terraform_head_chunks, imported_in, outputs_of_apply}
@@ -36,7 +37,7 @@ event_lines form written =
 abbrev pub lines_before_end : StatedInputs → (start : ℕ) → Operation → (written : List Event) → List (List ℕ)
 lines_before_end stated start operation written =
     terraform_head_chunks (applied_plan stated) stated.details.changes start
-    ++ (event_lines (form_of stated start operation) written
+    ++ (event_lines (form_for Terraform stated start operation) written
     ++ map (note_text start (latest_of written (length written))) (extras_of stated).notes)
 
 -- one of the lines before the end has the level `error`
@@ -55,7 +56,7 @@ end_of stated start operation taken =
 -- level `error`. The report has an error if and only if one of them has that level.
 pub record HasAnEndOrAnError (stated : StatedInputs) (start : ℕ) (operation : Operation) (taken : List Event) (contains_error : Bool) : Type 0 where
   pub lines : AllByRecursion IsLineOrNothing (lines_before_end stated start operation (as_written taken))
-  pub stream : stream_in (form_of stated start operation) taken
+  pub stream : stream_in (form_for Terraform stated start operation) taken
       ≡ concat (lines_before_end stated start operation (as_written taken))
       ++ (if has_error_line stated start operation (as_written taken) then [] else end_of stated start operation taken)
   pub error : contains_error ≡ has_error_line stated start operation (as_written taken)

@@ -1,11 +1,13 @@
 -- Events of a run, change by change: those of the change's steps, one after another, each step
 -- whole.
-use Rattle.std.specs.Prelude.{◌≡◌, ◌<◌, ◌==◌, ◌++◌, ◌⊎◌, ℕ, All, List, [], ◌∷◌, false, length, true}
+use Rattle.std.specs.Prelude.{◌≡◌, ◌<◌, ◌==◌, ◌++◌, ◌⊎◌, ℕ, All, List, [], ◌∷◌, false, length, true, ⊤}
 use Rattle.std.specs.List.{filter}
 use Rattle.apply_events.specs.declared.event.Event.{Event}
 use Rattle.apply_events.specs.Fits.{HasStep}
 use Rattle.apply_events.specs.Step.{Step, Work, steps_of}
 use Rattle.apply_events.specs.StepEvents.{goes_on, step_events}
+use Rattle.apply_run.specs.Schedule.{ByWorkers, InLanes, Schedule}
+use Rattle.laws_run.specs.WaitingSteps.{HasFewSteps}
 
 -- the events of change c
 abbrev pub events_of_change : (c : ℕ) → List Event → List Event
@@ -25,3 +27,8 @@ AreOfSteps (step ∷ steps) events =
 pub record IsOfWholeSteps (work : Work) (events : List Event) : Type 0 where
   pub planned : All (λ event. HasStep work.plan event.change event.step) events
   pub whole : (c : ℕ) → c < length work.plan.changes → AreOfSteps (steps_of work c) (events_of_change c events)
+
+-- in lanes there is at least one, and no change has more than two steps
+abbrev pub CanRun : Schedule → Work → Type 0
+CanRun (ByWorkers workers capacity) work = ⊤
+CanRun (InLanes lanes) work = (0 < lanes) × HasFewSteps work

@@ -5,42 +5,41 @@
 //! the checker takes each line for a message. `plans` states whether the checker also takes the
 //! stream of a plan for whole.
 
-ghost use Rattle.std.specs.Prelude.{◌≡◌, ◌≤◌, ℕ, Bool, List, [], Some, length, slice_index_or, Ok};
+ghost use Rattle.std.specs.Prelude.{◌≡◌, ◌≤◌, ℕ, Bool, List, [], Some, length, Ok};
 ghost use Rattle.apply_plan.specs.Plan.SavedPlan.{SavedPlan};
 ghost use Rattle.apply_plan.specs.Script.OutcomeMap.{OutcomeMap};
 ghost use Rattle.apply_hooks.specs.Hooks.{max_hooks};
 ghost use Rattle.stream_lines.specs.Cut.{cut_lines};
 ghost use Rattle.stream_check.specs.Lines.{verdict_of};
 ghost use Rattle.apply_events.specs.declared.event.Event.{Event};
-ghost use Rattle.apply_events.specs.Interleaving.{IsInterleaving};
 ghost use Rattle.apply_events.specs.Lanes.ToCome.{max_events};
 ghost use Rattle.apply_events.specs.Laws.{AllFit, IsWithinLimits};
-ghost use Rattle.apply_events.specs.Partition.{IsPartition};
 ghost use Rattle.apply_events.specs.Step.{Work};
-ghost use Rattle.apply_events.specs.WorkerEvents.{worker_events};
 ghost use Rattle.apply_text.specs.declared.operation.Operation.{Operation};
 ghost use Rattle.apply_text.specs.Lines.{stream_of};
-ghost use Rattle.apply_run.specs.declared.options.Options.{Options};
+ghost use Rattle.apply_text_terraform.specs.declared.form.Form.TheVariants.{Applystream};
 ghost use Rattle.apply_writer.specs.declared.report.Report.{Report};
-ghost use Rattle.apply_run.specs.Bytes.{Inputs, IsRead, WasApplied};
-ghost use Rattle.apply_run.specs.Lanes.{WasAppliedInLanes};
+ghost use Rattle.apply_run.specs.Bytes.{Inputs, IsRead};
+ghost use Rattle.apply_run.specs.FromBytes.{WasAppliedBy};
+ghost use Rattle.apply_run.specs.InForm.{WasAppliedInLanes};
 ghost use Rattle.apply_run.specs.Run.{SinkState};
+ghost use Rattle.apply_run.specs.Schedule.{IsRunOf, Schedule};
 ghost use Rattle.laws_check.specs.Accepted.{whole_stream};
 ghost use Rattle.laws_check.specs.Applied.{HasShortLines, whole_reported};
 ghost use Rattle.laws_check.specs.Passing.{plain};
 ghost use Rattle.laws_check.specs.Plans.{DeletesDeposed, IsOrdinary, ProvisionsCreates, WarnsOfReads};
 ghost use Rattle.laws_check.specs.Texts.{HasTexts};
-ghost use Rattle.laws_check.specs.WholeSteps.{IsOfWholeSteps};
+ghost use Rattle.laws_check.specs.WholeSteps.{CanRun, IsOfWholeSteps};
 
 use crate::laws::{
-    a_run_is_of_whole_steps, a_stream_of_texts_can_be_read, a_time_line_is_of_whole_steps,
-    events_that_can_happen_fit_bits, every_stream_of_whole_steps_is_accepted,
+    a_run_is_of_whole_steps, a_stream_of_texts_can_be_read, events_that_can_happen_fit_bits,
+    every_stream_of_whole_steps_is_accepted,
 };
 use laws_run::{
     a_line_has_one_line_feed, a_list_of_a_partition_names_each_number_once,
     a_time_line_has_few_events, changes_that_are_dealt_out_have_few_events,
     each_object_is_named_once, every_event_can_happen, every_event_of_a_time_line_can_happen,
-    relative_addresses_join_their_module,
+    relative_addresses_join_their_module, what_was_read_is_within_limits,
 };
 
 /// Each text of a plan and a script that a message contains is UTF-8, if both were read. An
@@ -50,12 +49,6 @@ pub fn texts_that_were_read_are_utf8()
 {
     relative_addresses_join_their_module();
 }
-
-/// A plan that was read has at most 10,000 changes of at most two steps each. Each step of a script
-/// that was read takes at most a day, with few provisioners and little output.
-pub fn what_was_read_is_within_limits()
-    ensures { (given : Inputs) (work : Work) → IsRead given work.plan work.script → IsWithinLimits work }
-{}
 
 /// A plan and a script that were read meet what `check` asks of a stream, if the plan only deletes
 /// deposed objects.
@@ -73,27 +66,20 @@ pub fn a_plan_that_was_read_is_ordinary()
     each_object_is_named_once();
 }
 
-/// A run of a plan and a script within the limits has at most 189,180,000 events. The hooks and the
-/// number of workers do not matter.
-pub fn a_run_has_few_events()
-    ensures { (work : Work) (workers : ℕ) (lists : List (List ℕ)) (events : List Event) → IsWithinLimits work
-        → IsPartition workers (length work.plan.changes) lists
-        → IsInterleaving workers (λ worker. worker_events work worker (slice_index_or lists worker [])) events
-        → length events ≤ max_events }
+/// A run of a plan and a script within the limits, by any number of workers or in lanes.
+///
+/// `few`: it has at most 189,180,000 events. `fit`: with at most 32 hooks, each event can happen.
+pub fn every_event_of_a_run_can_happen()
+    ensures few { (schedule : Schedule) (work : Work) (events : List Event) → CanRun schedule work → IsWithinLimits work
+        → IsRunOf schedule work events → length events ≤ max_events }
+    ensures fit { (schedule : Schedule) (work : Work) (events : List Event) → CanRun schedule work → IsWithinLimits work
+        → length work.hooks ≤ max_hooks → IsRunOf schedule work events → AllFit work events }
 {
     changes_that_are_dealt_out_have_few_events();
-}
-
-/// With at most 32 hooks, each event of a run can happen.
-pub fn every_event_of_a_run_can_happen()
-    ensures { (work : Work) (workers : ℕ) (lists : List (List ℕ)) (events : List Event) → IsWithinLimits work
-        → length work.hooks ≤ max_hooks
-        → IsPartition workers (length work.plan.changes) lists
-        → IsInterleaving workers (λ worker. worker_events work worker (slice_index_or lists worker [])) events
-        → AllFit work events }
-{
     a_list_of_a_partition_names_each_number_once();
     every_event_can_happen();
+    a_time_line_has_few_events();
+    every_event_of_a_time_line_can_happen();
 }
 
 /// `check` accepts the stream of whole steps of a plan and a script that were read.
@@ -117,70 +103,64 @@ pub fn every_stream_of_whole_steps_that_were_read_is_accepted()
     every_stream_of_whole_steps_is_accepted();
 }
 
-/// `check` accepts the stream of a run of a plan and a script that were read.
+/// `check` accepts the stream of a run of a plan and a script that were read, by workers and in
+/// lanes.
 ///
-/// There are at most 64 workers and at most 32 hooks, and the hooks may be any. The plan only
-/// deletes deposed objects, and no line is longer than 64 MiB.
+/// There are at most 32 hooks, and the hooks may be any. The plan only deletes deposed objects, and
+/// no line is longer than 64 MiB.
 pub fn every_stream_of_what_was_read_is_accepted()
-    ensures { (plans : Bool) (given : Inputs) (work : Work) (workers start : ℕ) (lists : List (List ℕ))
-        (events : List Event) (operation : Operation) → IsRead given work.plan work.script → DeletesDeposed work.plan
-        → workers ≤ 64 → length work.hooks ≤ max_hooks
-        → IsPartition workers (length work.plan.changes) lists
-        → IsInterleaving workers (λ worker. worker_events work worker (slice_index_or lists worker [])) events
+    ensures { (plans : Bool) (schedule : Schedule) (given : Inputs) (work : Work) (start : ℕ) (events : List Event) (operation : Operation)
+        → CanRun schedule work → IsRead given work.plan work.script → DeletesDeposed work.plan
+        → length work.hooks ≤ max_hooks → IsRunOf schedule work events
         → HasShortLines (stream_of work.plan work.script start operation events)
         → verdict_of (plain plans) (cut_lines (stream_of work.plan work.script start operation events))
         ≡ Ok (whole_stream work.plan events) }
 {
     what_was_read_is_within_limits();
-    a_run_has_few_events();
     every_event_of_a_run_can_happen();
     a_run_is_of_whole_steps();
     every_stream_of_whole_steps_that_were_read_is_accepted();
 }
 
-/// `check` accepts what `apply_bytes` of `apply_run` writes, and its verdict agrees with the
-/// report.
+/// `check` accepts what `apply_bytes` and `apply_bytes_in_lanes` of `apply_run` write, and its
+/// verdict agrees with the report.
 ///
 /// The verdict has the same totals, and a line for each event that was taken. It has an error if
 /// and only if a step failed or was halted. The plan only deletes deposed objects, there are at
 /// most as many hooks as a registry holds, and no line is longer than 64 MiB. `bytes`: the sink
 /// knows its bytes and had none before; `check` accepts these bytes.
 pub fn every_applied_stream_is_accepted()
-    ensures stream { (plans : Bool) (given : Inputs) (options : Options) (report : Report) (before after : SinkState)
-        (applied : WasApplied given options report before after)
-        → DeletesDeposed applied.plan → length given.hooks ≤ max_hooks
-        → HasShortLines (stream_of applied.plan applied.script options.start options.operation applied.streamed.events)
-        → verdict_of (plain plans) (cut_lines (stream_of applied.plan applied.script options.start options.operation
+    ensures stream { (plans : Bool) (schedule : Schedule) (given : Inputs) (start : ℕ) (operation : Operation) (report : Report)
+        (before after : SinkState) (applied : WasAppliedBy schedule Applystream given start operation report before after)
+        → DeletesDeposed applied.read.plan → length given.hooks ≤ max_hooks
+        → HasShortLines (stream_of applied.read.plan applied.read.script start operation applied.streamed.events)
+        → verdict_of (plain plans) (cut_lines (stream_of applied.read.plan applied.read.script start operation
         applied.streamed.events)) ≡ Ok (whole_reported report) }
-    ensures bytes { (plans : Bool) (given : Inputs) (options : Options) (report : Report) (before after : SinkState)
-        (bytes : List ℕ) (applied : WasApplied given options report before after)
-        → DeletesDeposed applied.plan → length given.hooks ≤ max_hooks
-        → before.bytes ≡ Some [] → after.bytes ≡ Some bytes → HasShortLines bytes
-        → verdict_of (plain plans) (cut_lines bytes) ≡ Ok (whole_reported report) }
-{
-    every_stream_of_what_was_read_is_accepted();
-}
-
-/// `check` accepts what `apply_bytes_in_lanes` of `apply_run` writes, and its verdict agrees with
-/// the report.
-///
-/// The three conditions are those of `every_applied_stream_is_accepted`.
-pub fn every_stream_applied_in_lanes_is_accepted()
-    ensures stream { (plans : Bool) (given : Inputs) (lanes start : ℕ) (operation : Operation) (report : Report)
-        (before after : SinkState) (applied : WasAppliedInLanes given lanes start operation report before after)
-        → DeletesDeposed applied.plan → length given.hooks ≤ max_hooks
-        → HasShortLines (stream_of applied.plan applied.script start operation applied.streamed.events)
-        → verdict_of (plain plans) (cut_lines (stream_of applied.plan applied.script start operation
-        applied.streamed.events)) ≡ Ok (whole_reported report) }
-    ensures bytes { (plans : Bool) (given : Inputs) (lanes start : ℕ) (operation : Operation) (report : Report)
-        (before after : SinkState) (bytes : List ℕ) (applied : WasAppliedInLanes given lanes start operation report before after)
-        → DeletesDeposed applied.plan → length given.hooks ≤ max_hooks
+    ensures bytes { (plans : Bool) (schedule : Schedule) (given : Inputs) (start : ℕ) (operation : Operation) (report : Report)
+        (before after : SinkState) (bytes : List ℕ) (applied : WasAppliedBy schedule Applystream given start operation report before after)
+        → DeletesDeposed applied.read.plan → length given.hooks ≤ max_hooks
         → before.bytes ≡ Some [] → after.bytes ≡ Some bytes → HasShortLines bytes
         → verdict_of (plain plans) (cut_lines bytes) ≡ Ok (whole_reported report) }
 {
     what_was_read_is_within_limits();
-    a_time_line_has_few_events();
-    every_event_of_a_time_line_can_happen();
-    a_time_line_is_of_whole_steps();
-    every_stream_of_whole_steps_that_were_read_is_accepted();
+    every_stream_of_what_was_read_is_accepted();
+}
+
+/// So `check` accepts what `apply_bytes_in_lanes` of `apply_run` writes.
+///
+/// The conditions are those of `every_applied_stream_is_accepted`.
+pub fn every_stream_applied_in_lanes_is_accepted()
+    ensures stream { (plans : Bool) (given : Inputs) (lanes start : ℕ) (operation : Operation) (report : Report)
+        (before after : SinkState) (applied : WasAppliedInLanes given lanes start operation report before after)
+        → DeletesDeposed applied.read.plan → length given.hooks ≤ max_hooks
+        → HasShortLines (stream_of applied.read.plan applied.read.script start operation applied.streamed.events)
+        → verdict_of (plain plans) (cut_lines (stream_of applied.read.plan applied.read.script start operation
+        applied.streamed.events)) ≡ Ok (whole_reported report) }
+    ensures bytes { (plans : Bool) (given : Inputs) (lanes start : ℕ) (operation : Operation) (report : Report)
+        (before after : SinkState) (bytes : List ℕ) (applied : WasAppliedInLanes given lanes start operation report before after)
+        → DeletesDeposed applied.read.plan → length given.hooks ≤ max_hooks
+        → before.bytes ≡ Some [] → after.bytes ≡ Some bytes → HasShortLines bytes
+        → verdict_of (plain plans) (cut_lines bytes) ≡ Ok (whole_reported report) }
+{
+    every_applied_stream_is_accepted();
 }

@@ -4,7 +4,7 @@
 //! law. `plain`: the checker takes each line for a message. `plans` states whether the checker also
 //! takes the stream of a plan for whole.
 
-ghost use Rattle.std.specs.Prelude.{◌≡◌, ◌<◌, ◌^◌, ℕ, All, Bool, List, [], length, slice_index_or, Ok};
+ghost use Rattle.std.specs.Prelude.{◌≡◌, ◌<◌, ◌^◌, ℕ, All, Bool, List, [], length, Ok};
 ghost use Rattle.std.specs.List.{AllByRecursion};
 ghost use Rattle.apply_model.specs.declared.plan.step_kind.StepKind.{StepKind};
 ghost use Rattle.apply_model.specs.declared.script.outcome.Outcome.{Outcome};
@@ -16,15 +16,12 @@ ghost use Rattle.stream_check.specs.Lines.{tree_message, verdict_of};
 ghost use Rattle.apply_events.specs.declared.event.Event.{Event};
 ghost use Rattle.apply_events.specs.declared.what.What.{What};
 ghost use Rattle.apply_events.specs.Fits.{Fits};
-ghost use Rattle.apply_events.specs.Interleaving.{IsInterleaving};
 ghost use Rattle.apply_events.specs.Lanes.TimeLine.{IsTimeLine};
-ghost use Rattle.apply_events.specs.Partition.{IsPartition};
-ghost use Rattle.apply_events.specs.Waits.TimeLine as waiting;
 ghost use Rattle.apply_events.specs.Step.{Work};
-ghost use Rattle.apply_events.specs.WorkerEvents.{worker_events};
 ghost use Rattle.apply_text.specs.declared.operation.Operation.{Operation};
 ghost use Rattle.apply_text.specs.Lines.{stream_of};
 ghost use Rattle.apply_text.specs.Message.{event_message};
+ghost use Rattle.apply_run.specs.Schedule.{IsRunOf, Schedule};
 ghost use Rattle.laws_check.specs.Accepted.{stream_read_back, whole_stream};
 ghost use Rattle.laws_check.specs.Objects.{object_of, stream_objects};
 ghost use Rattle.laws_check.specs.Passing.{plain, verdict_on, verdict_on_objects};
@@ -32,8 +29,7 @@ ghost use Rattle.laws_check.specs.Plans.{IsOrdinary, ProvisionsCreates, ReadsCom
 ghost use Rattle.laws_check.specs.Sound.{CanBeRead, IsShort};
 ghost use Rattle.laws_check.specs.Texts.{FitBits, HasTexts};
 ghost use Rattle.laws_check.specs.ReadBack.{action_of, read_back};
-ghost use Rattle.laws_check.specs.WholeSteps.{IsOfWholeSteps};
-ghost use Rattle.laws_run.specs.WaitingSteps.{HasFewSteps};
+ghost use Rattle.laws_check.specs.WholeSteps.{CanRun, IsOfWholeSteps};
 
 use laws_run::{
     a_line_has_one_line_feed, a_step_begins_exactly_where_its_waits_are_done,
@@ -68,19 +64,12 @@ pub fn a_script_warns_of_reads()
     ensures empty { (plan : SavedPlan) → WarnsOfReads plan [] }
 {}
 
-/// The events of a run by workers are those of whole steps, of each change one after another. The
-/// order of the workers' events does not matter.
+/// The events of a run are those of whole steps, of each change one after another.
+///
+/// By workers, the order of the workers' events does not matter. In lanes, steps may wait for
+/// others.
 pub fn a_run_is_of_whole_steps()
-    ensures { (work : Work) (workers : ℕ) (lists : List (List ℕ)) (events : List Event)
-        → IsPartition workers (length work.plan.changes) lists
-        → IsInterleaving workers (λ worker. worker_events work worker (slice_index_or lists worker [])) events
-        → IsOfWholeSteps work events }
-{}
-
-/// The events of a time line are those of whole steps, where steps wait for others. No change has
-/// more than two steps.
-pub fn a_time_line_is_of_whole_steps()
-    ensures { (work : Work) (n : ℕ) (events : List Event) → 0 < n → HasFewSteps work → waiting.IsTimeLine work n events
+    ensures { (schedule : Schedule) (work : Work) (events : List Event) → CanRun schedule work → IsRunOf schedule work events
         → IsOfWholeSteps work events }
 {
     steps_are_whole();
@@ -105,15 +94,14 @@ pub fn whole_steps_are_accepted()
         → verdict_on (plain plans) (stream_read_back work.plan events) ≡ Ok (whole_stream work.plan events) }
 {}
 
-/// The checker accepts the messages of a run by workers. The partition of the changes and the order
+/// The checker accepts the messages of a run. By workers, the partition of the changes and the order
 /// of the workers' events do not matter.
 pub fn every_run_is_accepted()
-    ensures { (plans : Bool) (work : Work) (workers : ℕ) (lists : List (List ℕ)) (events : List Event)
+    ensures { (plans : Bool) (schedule : Schedule) (work : Work) (events : List Event)
         → IsOrdinary work.plan
         → ProvisionsCreates work.plan work.script
         → WarnsOfReads work.plan work.script
-        → IsPartition workers (length work.plan.changes) lists
-        → IsInterleaving workers (λ worker. worker_events work worker (slice_index_or lists worker [])) events
+        → CanRun schedule work → IsRunOf schedule work events
         → verdict_on (plain plans) (stream_read_back work.plan events) ≡ Ok (whole_stream work.plan events) }
 {
     a_run_is_of_whole_steps();
@@ -123,11 +111,9 @@ pub fn every_run_is_accepted()
 /// The checker accepts the objects of the stream of a run, of an apply and of a destroy. The start
 /// does not matter.
 pub fn every_stream_of_objects_is_accepted()
-    ensures { (plans : Bool) (work : Work) (workers start : ℕ) (lists : List (List ℕ)) (events : List Event)
-        (operation : Operation) → IsOrdinary work.plan → ProvisionsCreates work.plan work.script
-        → WarnsOfReads work.plan work.script
-        → IsPartition workers (length work.plan.changes) lists
-        → IsInterleaving workers (λ worker. worker_events work worker (slice_index_or lists worker [])) events
+    ensures { (plans : Bool) (schedule : Schedule) (work : Work) (start : ℕ) (events : List Event) (operation : Operation)
+        → IsOrdinary work.plan → ProvisionsCreates work.plan work.script
+        → WarnsOfReads work.plan work.script → CanRun schedule work → IsRunOf schedule work events
         → verdict_on_objects (plain plans) (stream_objects work.plan work.script start operation events)
         ≡ Ok (whole_stream work.plan events) }
 {
@@ -168,13 +154,11 @@ pub fn every_stream_of_whole_steps_is_accepted()
     whole_steps_are_accepted();
 }
 
-/// The checker accepts the bytes of the stream of a run by workers.
+/// The checker accepts the bytes of the stream of a run.
 pub fn every_stream_is_accepted()
-    ensures { (plans : Bool) (work : Work) (workers start : ℕ) (lists : List (List ℕ)) (events : List Event)
-        (operation : Operation) → IsOrdinary work.plan → ProvisionsCreates work.plan work.script
-        → WarnsOfReads work.plan work.script
-        → IsPartition workers (length work.plan.changes) lists
-        → IsInterleaving workers (λ worker. worker_events work worker (slice_index_or lists worker [])) events
+    ensures { (plans : Bool) (schedule : Schedule) (work : Work) (start : ℕ) (events : List Event) (operation : Operation)
+        → IsOrdinary work.plan → ProvisionsCreates work.plan work.script
+        → WarnsOfReads work.plan work.script → CanRun schedule work → IsRunOf schedule work events
         → CanBeRead (stream_objects work.plan work.script start operation events)
         → verdict_of (plain plans) (cut_lines (stream_of work.plan work.script start operation events))
         ≡ Ok (whole_stream work.plan events) }
@@ -183,27 +167,16 @@ pub fn every_stream_is_accepted()
     every_stream_of_whole_steps_is_accepted();
 }
 
-/// The checker accepts the bytes of the stream of a time line.
-///
-/// `of_changes`: no step waits for another. `of_steps`: steps may wait for others, and each change
-/// has at most two steps.
+/// So the checker accepts the bytes of the stream of a time line of changes that do not wait, with
+/// any number of steps.
 pub fn every_stream_in_lanes_is_accepted()
-    ensures of_changes { (plans : Bool) (work : Work) (n start : ℕ) (events : List Event) (operation : Operation)
+    ensures { (plans : Bool) (work : Work) (n start : ℕ) (events : List Event) (operation : Operation)
         → IsOrdinary work.plan → ProvisionsCreates work.plan work.script
         → WarnsOfReads work.plan work.script → 0 < n → IsTimeLine work n events
-        → CanBeRead (stream_objects work.plan work.script start operation events)
-        → verdict_of (plain plans) (cut_lines (stream_of work.plan work.script start operation events))
-        ≡ Ok (whole_stream work.plan events) }
-    ensures of_steps { (plans : Bool) (work : Work) (n start : ℕ) (events : List Event) (operation : Operation)
-        → IsOrdinary work.plan → ProvisionsCreates work.plan work.script
-        → WarnsOfReads work.plan work.script → HasFewSteps work → 0 < n
-        → waiting.IsTimeLine work n events
         → CanBeRead (stream_objects work.plan work.script start operation events)
         → verdict_of (plain plans) (cut_lines (stream_of work.plan work.script start operation events))
         ≡ Ok (whole_stream work.plan events) }
 {
     lanes_deal_out_the_changes();
     every_stream_is_accepted();
-    a_time_line_is_of_whole_steps();
-    every_stream_of_whole_steps_is_accepted();
 }

@@ -12,15 +12,13 @@ mod in_form;
 mod laws;
 
 pub use applied::{
-    a_plan_that_was_read_is_ordinary, a_run_has_few_events, every_applied_stream_is_accepted,
+    a_plan_that_was_read_is_ordinary, every_applied_stream_is_accepted,
     every_event_of_a_run_can_happen, every_stream_applied_in_lanes_is_accepted,
     every_stream_of_what_was_read_is_accepted,
     every_stream_of_whole_steps_that_were_read_is_accepted, texts_that_were_read_are_utf8,
-    what_was_read_is_within_limits,
 };
 pub use applied_in_form::{
     creates_that_never_start_are_skipped_or_wait_in_vain, every_run_in_terraforms_form_is_accepted,
-    every_stream_in_terraforms_form_in_lanes_is_accepted,
     every_stream_in_terraforms_form_is_accepted,
     every_stream_of_whole_steps_in_terraforms_form_is_accepted,
     what_was_read_for_terraforms_form_can_be_read_back,
@@ -38,8 +36,8 @@ pub use in_form::{
 };
 pub use laws::{
     a_run_is_of_whole_steps, a_script_provisions_creates, a_script_warns_of_reads,
-    a_stream_of_texts_can_be_read, a_time_line_is_of_whole_steps, events_that_can_happen_fit_bits,
-    every_run_is_accepted, every_stream_in_lanes_is_accepted, every_stream_is_accepted,
+    a_stream_of_texts_can_be_read, events_that_can_happen_fit_bits, every_run_is_accepted,
+    every_stream_in_lanes_is_accepted, every_stream_is_accepted,
     every_stream_of_objects_is_accepted, every_stream_of_whole_steps_is_accepted,
     the_object_of_an_event_is_read_back, whole_steps_are_accepted,
 };

@@ -6,7 +6,7 @@
 //! links this crate.
 #![tactic(auto)]
 
-ghost use Rattle.std.specs.Prelude.{◌≡◌, ◌≢◌, ℕ, ◌+◌, ◌++◌, All, List, [], Bool, true, false, Ok, Option, Some};
+ghost use Rattle.std.specs.Prelude.{◌≡◌, ◌≢◌, ℕ, ◌+◌, ◌++◌, All, List, [], true, false, Ok, Option, Some};
 ghost use Rattle.std.specs.List.{AllByRecursion};
 ghost use Rattle.stream_lines.specs.Cut.{cut_lines};
 ghost use Rattle.apply_model.specs.Plan.ResourceChange.{ResourceChange};
@@ -18,7 +18,8 @@ ghost use Rattle.apply_events.specs.Totals.{totals_of};
 ghost use Rattle.apply_text.specs.declared.operation.Operation.{Operation};
 ghost use Rattle.apply_text.specs.Order.{hook_messages_of};
 ghost use Rattle.apply_run.specs.Bytes.{Inputs, IsRead};
-ghost use Rattle.apply_run.specs.InForm.{form_of, work_of};
+ghost use Rattle.apply_text_terraform.specs.declared.form.Form.TheVariants.{Terraform};
+ghost use Rattle.apply_run.specs.FromBytes.{form_for, work_for};
 ghost use Rattle.apply_run.specs.Read.{IsStated, StatedInputs, applied_plan, applied_script, extras_of, is_unfinished};
 ghost use Rattle.apply_text_terraform.specs.Message.{diagnostic_address};
 ghost use Rattle.apply_writer.specs.Stream.Form.{plain_form, stream_in};
@@ -33,14 +34,14 @@ ghost use Rattle.laws_texts.specs.Notes.{HasAnEnd};
 ghost use Rattle.laws_texts.specs.TimeLines.{notes_by_ends};
 
 use laws_check::{
-    a_time_line_is_of_whole_steps, events_that_can_happen_fit_bits, texts_that_were_read_are_utf8,
+    a_run_is_of_whole_steps, events_that_can_happen_fit_bits, texts_that_were_read_are_utf8,
     what_was_read_for_terraforms_form_can_be_read_back,
-    what_was_read_for_terraforms_form_may_be_applied, what_was_read_is_within_limits,
+    what_was_read_for_terraforms_form_may_be_applied,
 };
 use laws_lines::the_time_of_a_time_line_never_falls;
 use laws_run::{
     a_time_line_has_few_events, every_event_of_a_time_line_can_happen,
-    relative_addresses_join_their_module,
+    relative_addresses_join_their_module, what_was_read_is_within_limits,
 };
 
 /// In a plan that was read, no change has an empty address.
@@ -81,13 +82,13 @@ pub fn a_run_in_lanes_is_read()
 /// without a summary.
 pub fn an_error_is_read_if_there_is_no_summary()
     ensures { (given : Inputs) (stated : StatedInputs) (lanes start : ℕ) (events : List Event)
-        → IsStated given.plan given.script stated → IsRun (work_of given stated) lanes start events
+        → IsStated given.plan given.script stated → IsRun (work_for Terraform given stated) lanes start events
         → has_error (notes_read_in_form (applied_plan stated) (applied_script stated) (extras_of stated) events)
         ≡ contains_error (extras_of stated).notes (totals_of (applied_plan stated) events) }
 {
     what_was_read_for_terraforms_form_may_be_applied();
     every_event_of_a_time_line_can_happen();
-    a_time_line_is_of_whole_steps();
+    a_run_is_of_whole_steps();
 }
 
 /// What `record` reads of the stream of a run in Terraform's form.
@@ -98,17 +99,17 @@ pub fn an_error_is_read_if_there_is_no_summary()
 /// those of steps are in the order of the ends of their steps. No step only warns.
 pub fn a_run_in_lanes_is_read_in_terraforms_form()
     ensures as_told { (given : Inputs) (stated : StatedInputs) (lanes start : ℕ) (operation : Operation) (events : List Event) (read : StreamRead)
-        → IsStated given.plan given.script stated → IsRun (work_of given stated) lanes start events → NoReadFails (applied_plan stated) (applied_script stated)
-        → read_of (applied_plan stated) false 0 (cut_lines (stream_in (form_of stated start operation) events)) ≡ Ok read
+        → IsStated given.plan given.script stated → IsRun (work_for Terraform given stated) lanes start events → NoReadFails (applied_plan stated) (applied_script stated)
+        → read_of (applied_plan stated) false 0 (cut_lines (stream_in (form_for Terraform stated start operation) events)) ≡ Ok read
         → IsOfRun (told_in_form (applied_plan stated) (applied_script stated) stated.details.changes) start
         (2 + planned_count (applied_plan stated) stated.details.changes) (hook_messages_of events)
         (notes_read_in_form (applied_plan stated) (applied_script stated) (extras_of stated) events)
         (outputs_read (extras_of stated) operation (totals_of (applied_plan stated) events))
         (unless (contains_error (extras_of stated).notes (totals_of (applied_plan stated) events)) operation) false read }
     ensures by_ends { (given : Inputs) (stated : StatedInputs) (lanes start : ℕ) (operation : Operation) (events : List Event) (read : StreamRead)
-        → IsStated given.plan given.script stated → IsRun (work_of given stated) lanes start events → NoReadFails (applied_plan stated) (applied_script stated)
+        → IsStated given.plan given.script stated → IsRun (work_for Terraform given stated) lanes start events → NoReadFails (applied_plan stated) (applied_script stated)
         → All (HasAnEnd (applied_script stated)) (hook_messages_of events)
-        → read_of (applied_plan stated) false 0 (cut_lines (stream_in (form_of stated start operation) events)) ≡ Ok read
+        → read_of (applied_plan stated) false 0 (cut_lines (stream_in (form_for Terraform stated start operation) events)) ≡ Ok read
         → IsOfRun (told_in_form (applied_plan stated) (applied_script stated) stated.details.changes) start
         (2 + planned_count (applied_plan stated) stated.details.changes) (hook_messages_of events)
         (notes_read_by_ends_in_form (applied_plan stated) (applied_script stated) (extras_of stated) events)

@@ -10,12 +10,13 @@ use Rattle.apply_text.specs.declared.operation.Operation.TheVariants.{Apply, Des
 use Rattle.apply_model.specs.declared.details.change_details.ChangeDetails.{ChangeDetails}
 use Rattle.apply_model.specs.declared.details.note.Note.{Note}
 use Rattle.apply_model.specs.declared.details.output.Output.{Output}
+use Rattle.apply_text_terraform.specs.declared.form.Form.TheVariants.{Terraform}
 use Rattle.apply_text_terraform.specs.Laws.{without_secret}
 use Rattle.apply_text_terraform.specs.Lines.{note_text, summary_text}
 use Rattle.apply_text_terraform.proofs.Absent.{secrets}
 use Rattle.apply_plan_terraform.specs.declared.plan_notes.PlanNote.{PlanNote}
 use Rattle.apply_plan_terraform.specs.Notes.{written_notes}
-use Rattle.apply_run.specs.InForm.{form_of}
+use Rattle.apply_run.specs.FromBytes.{form_for}
 use Rattle.apply_run.specs.Read.{StatedInputs, applied_plan, applied_script, extras_of, is_unfinished}
 use Rattle.apply_writer.specs.Stream.Form.{StreamForm, lines_in, stream_in}
 use Rattle.apply_writer.specs.Stream.Terraform.{imported_in, outputs_of_apply, tail_text, contains_error, terraform_form}
@@ -59,7 +60,7 @@ module _ (one other : StatedInputs) (alike : AreReadAlike one other) where
   pub notes_same : (extras_of one).notes ≡ (extras_of other).notes
   notes_same = ap₂ written_notes alike.note alike.notes
 
-  pub forms : (start : ℕ) (operation : Operation) → form_of one start operation ≡ form_of other start operation
+  pub forms : (start : ℕ) (operation : Operation) → form_for Terraform one start operation ≡ form_for Terraform other start operation
   forms start operation =
       same_form one.details.changes (extras_of one).notes (applied_plan one) (applied_script one) (extras_of one).outputs (extras_of other).outputs start operation
       (outputs_alike one.details.outputs other.details.outputs one.extras.outputs other.extras.outputs alike.outputs alike.script_outputs)

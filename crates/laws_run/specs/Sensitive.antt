@@ -5,10 +5,11 @@ use Rattle.json.specs.Json as json
 use Rattle.serde_json.specs.Data.{Data, Members, no_members, member}
 use Rattle.apply_events.specs.declared.event.Event.{Event}
 use Rattle.apply_text.specs.declared.operation.Operation.{Operation}
+use Rattle.apply_text_terraform.specs.declared.form.Form.TheVariants.{Terraform}
 use Rattle.apply_plan_terraform.specs.Outputs.{OutputsOfPlan, change_of, is_deleted, equals_word, is_unknown, text_at}
 use Rattle.apply_plan_terraform.specs.Texts.{json_of}
 use Rattle.apply_run.specs.Bytes.{Inputs}
-use Rattle.apply_run.specs.InForm.{form_of}
+use Rattle.apply_run.specs.FromBytes.{form_for}
 use Rattle.apply_run.specs.Read.{StatedInputs, applied_plan, applied_script, extras_of}
 use Rattle.apply_writer.specs.Stream.Form.{lines_in, stream_in}
 use Rattle.laws_run.specs.LastMembers.{HaveAlike, HaveSame, is_true, last_of}
@@ -115,6 +116,6 @@ pub record HaveSameStream (one other : StatedInputs) : Type 0 where
   pub script : applied_script one ≡ applied_script other
   pub notes : (extras_of one).notes ≡ (extras_of other).notes
   pub stream : (start : ℕ) (operation : Operation) (taken : List Event)
-      → stream_in (form_of one start operation) taken ≡ stream_in (form_of other start operation) taken
+      → stream_in (form_for Terraform one start operation) taken ≡ stream_in (form_for Terraform other start operation) taken
   pub lines : (start : ℕ) (operation : Operation) (written : List Event)
-      → lines_in (form_of one start operation) written ≡ lines_in (form_of other start operation) written
+      → lines_in (form_for Terraform one start operation) written ≡ lines_in (form_for Terraform other start operation) written

@@ -8,14 +8,14 @@ ghost use Rattle.apply_events.specs.Lanes.Dealing.{lanes};
 ghost use Rattle.apply_events.specs.Lanes.TimeLine.{IsTimeLine};
 ghost use Rattle.apply_events.specs.Waits.TimeLine as waiting;
 ghost use Rattle.apply_events.specs.Step.{Work};
-ghost use Rattle.apply_text.specs.declared.operation.Operation.{Operation};
 ghost use Rattle.apply_text.specs.Order.{as_written};
 ghost use Rattle.apply_run.specs.Applied.{IsApplied};
 ghost use Rattle.apply_writer.specs.declared.report.Report.{Report};
+ghost use Rattle.apply_writer.specs.Stream.Form.{StreamForm};
 ghost use Rattle.apply_events.specs.Lanes.{AreLanes};
-ghost use Rattle.apply_run.specs.Lanes.{HasStreamedInLanes};
 ghost use Rattle.laws_run.specs.StepTimes.{LinesHaveOneBegin};
-ghost use Rattle.apply_run.specs.Run.{HasStreamed, SinkState};
+ghost use Rattle.apply_run.specs.Run.{HasStreamedBy, SinkState};
+ghost use Rattle.apply_run.specs.Schedule.{ByWorkers, InLanes};
 
 use crate::lines::a_hook_message_has_the_time_of_its_event;
 use crate::time_lines_without_waits::{
@@ -33,14 +33,13 @@ pub fn a_time_line_is_applied_by_workers()
 }
 
 /// Without waits, what lanes have streamed is what a run of workers may stream, with one worker for
-/// each lane and any capacity.
+/// each lane and any capacity, in any form.
 ///
 /// So each law of a run of workers holds of the lanes too.
 pub fn what_lanes_stream_is_a_run_of_workers()
-    ensures { (work : Work) (lanes capacity start : ℕ) (operation : Operation) (report : Report) (before after : SinkState)
-        → AreLanes lanes → has_waits work.script ≡ false → HasStreamedInLanes work lanes start operation report before after
-        → HasStreamed work (record { workers = lanes; capacity = capacity; start = start; operation = operation }) report
-        before after }
+    ensures { (work : Work) (lanes capacity : ℕ) (form : StreamForm) (report : Report) (before after : SinkState)
+        → AreLanes lanes → has_waits work.script ≡ false → HasStreamedBy (InLanes lanes) form work report before after
+        → HasStreamedBy (ByWorkers lanes capacity) form work report before after }
 {
     without_waits_changes_are_dealt_out();
     a_time_line_is_applied_by_workers();

@@ -12,12 +12,12 @@ ghost use Rattle.apply_events.specs.Laws.{IsWithinLimits};
 ghost use Rattle.apply_events.specs.Step.{Work};
 ghost use Rattle.apply_events.specs.Waits.TimeLine.{IsTimeLine};
 ghost use Rattle.laws_run.specs.WaitingSteps.{HasFewSteps, NamesSteps};
-ghost use Rattle.apply_run.specs.declared.form_report.FormReport.{FormReport};
 ghost use Rattle.apply_run.specs.Bytes.{Inputs, IsRead};
-ghost use Rattle.apply_run.specs.InForm.{WasAppliedAsTerraformInLanes, work_of};
-ghost use Rattle.apply_run.specs.Lanes.{WasAppliedInLanes};
+ghost use Rattle.apply_run.specs.FromBytes.{WasAppliedBy, work_for};
 ghost use Rattle.apply_run.specs.Run.{SinkState};
+ghost use Rattle.apply_run.specs.Schedule.{InLanes};
 ghost use Rattle.apply_text.specs.declared.operation.Operation.{Operation};
+ghost use Rattle.apply_text_terraform.specs.declared.form.Form.{Form};
 ghost use Rattle.apply_writer.specs.declared.report.Report.{Report};
 ghost use Rattle.laws_run.specs.Scripts.{CanAllBegin, LeaveOutJustWhatWaitsInVain, LeaveOutNone};
 ghost use Rattle.apply_model.specs.Script.OutcomeMap.{OutcomeMap};
@@ -67,13 +67,9 @@ pub fn a_read_script_leaves_out_what_waits_in_vain()
 /// In a stream that lanes wrote, a step has no event if and only if the step is skipped or waits in
 /// vain. The law holds in either form.
 pub fn lanes_leave_out_what_waits_in_vain()
-    ensures default_form { (given : Inputs) (lanes start : ℕ) (operation : Operation) (report : Report) (before after : SinkState)
-        (run : WasAppliedInLanes given lanes start operation report before after)
-        → LeaveOutJustWhatWaitsInVain (record { plan = run.plan; script = run.script; hooks = given.hooks })
-        run.streamed.events }
-    ensures terraforms_form { (given : Inputs) (lanes start : ℕ) (operation : Operation) (report : FormReport)
-        (before after : SinkState) (run : WasAppliedAsTerraformInLanes given lanes start operation report before after)
-        → LeaveOutJustWhatWaitsInVain (work_of given run.stated) run.streamed.events }
+    ensures { (form : Form) (given : Inputs) (lanes start : ℕ) (operation : Operation) (report : Report) (before after : SinkState)
+        (applied : WasAppliedBy (InLanes lanes) form given start operation report before after)
+        → LeaveOutJustWhatWaitsInVain (work_for form given applied.read) applied.streamed.events }
 {
     a_read_script_leaves_out_what_waits_in_vain();
 }

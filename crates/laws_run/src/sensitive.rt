@@ -12,15 +12,16 @@ ghost use Rattle.apply_text.specs.declared.operation.Operation.{Operation};
 ghost use Rattle.apply_text_terraform.specs.Laws.{without_secret};
 ghost use Rattle.apply_text_terraform.specs.declared.form.Form.TheVariants.{Terraform};
 ghost use Rattle.apply_writer.specs.Stream.Form.{stream_in};
-ghost use Rattle.apply_writer.specs.Stream.Terraform.{StreamExtras, terraform_form};
+ghost use Rattle.apply_writer.specs.Stream.Terraform.{terraform_form};
 ghost use Rattle.apply_writer.specs.declared.fault.Fault.{Fault};
 ghost use Rattle.apply_run.specs.declared.form_report.FormReport.{FormReport};
-ghost use Rattle.apply_run.specs.declared.options.Options.{Options};
 ghost use Rattle.apply_run.specs.declared.refusal.Refusal.TheVariants as refusal;
 ghost use Rattle.apply_run.specs.Bytes.{Inputs};
-ghost use Rattle.apply_run.specs.InForm.{WasAppliedInForm, WasAppliedInFormAndLanes, WasRefusedInForm, WasRefusedInFormAndLanes};
+ghost use Rattle.apply_run.specs.FromBytes.{WasRefusedBy, WasReportedBy};
+ghost use Rattle.apply_run.specs.InForm.{WasAppliedInFormAndLanes};
 ghost use Rattle.apply_run.specs.Read.{IsStated, StatedInputs};
 ghost use Rattle.apply_run.specs.Run.{SinkState};
+ghost use Rattle.apply_run.specs.Schedule.{Schedule};
 ghost use Rattle.laws_run.specs.Sensitive.{AreReadAlike, DifferInSecrets, HaveSameStream};
 
 use crate::time_lines_are_unique;
@@ -47,21 +48,14 @@ pub fn no_stream_depends_on_a_sensitive_value()
 /// The law holds with workers and in lanes, whether the run succeeds or fails. Both plans and both
 /// scripts can be read.
 pub fn no_run_depends_on_a_sensitive_value()
-    ensures workers { (one other : Inputs) (stated : StatedInputs) (options : Options) (report : FormReport) (before after : SinkState)
-        → DifferInSecrets one other → IsStated other.plan other.script stated
-        → WasAppliedInForm Terraform one options report before after → WasAppliedInForm Terraform other options report before after }
-    ensures failed_workers { (one other : Inputs) (stated : StatedInputs) (options : Options) (fault : Fault) (before after : SinkState)
-        → DifferInSecrets one other → IsStated other.plan other.script stated
-        → WasRefusedInForm Terraform one options (refusal.Fault fault) before after
-        → WasRefusedInForm Terraform other options (refusal.Fault fault) before after }
-    ensures lanes { (one other : Inputs) (stated : StatedInputs) (lanes start : ℕ) (operation : Operation) (report : FormReport) (before after : SinkState)
-        → DifferInSecrets one other → IsStated other.plan other.script stated
-        → WasAppliedInFormAndLanes Terraform one lanes start operation report before after
-        → WasAppliedInFormAndLanes Terraform other lanes start operation report before after }
-    ensures failed_lanes { (one other : Inputs) (stated : StatedInputs) (lanes start : ℕ) (operation : Operation) (fault : Fault) (before after : SinkState)
-        → DifferInSecrets one other → IsStated other.plan other.script stated
-        → WasRefusedInFormAndLanes Terraform one lanes start operation (refusal.Fault fault) before after
-        → WasRefusedInFormAndLanes Terraform other lanes start operation (refusal.Fault fault) before after }
+    ensures applied { (one other : Inputs) (stated : StatedInputs) (schedule : Schedule) (start : ℕ) (operation : Operation) (report : FormReport)
+        (before after : SinkState) → DifferInSecrets one other → IsStated other.plan other.script stated
+        → WasReportedBy schedule Terraform one start operation report before after
+        → WasReportedBy schedule Terraform other start operation report before after }
+    ensures failed { (one other : Inputs) (stated : StatedInputs) (schedule : Schedule) (start : ℕ) (operation : Operation) (fault : Fault)
+        (before after : SinkState) → DifferInSecrets one other → IsStated other.plan other.script stated
+        → WasRefusedBy schedule Terraform one start operation (refusal.Fault fault) before after
+        → WasRefusedBy schedule Terraform other start operation (refusal.Fault fault) before after }
 {}
 
 /// In lanes both runs write the same bytes, if the sink knows which bytes it has.

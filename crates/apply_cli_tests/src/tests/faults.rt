@@ -69,20 +69,14 @@ fn input_fails<T: Threads + Wait + Sync + Abort>(
     status: u8,
     fault: &str,
 ) {
-    let settings = leaked(rt, alloc, defaults(alloc));
-    let (registry, output) = (no_hooks(rt, alloc), empty(alloc));
-    let mut errors = Vec::new(alloc);
-    let (output, actual) = run_input(
-        rt,
-        alloc,
-        settings,
-        Form::Applystream,
-        registry,
-        None,
-        Err(input),
-        output,
-        &mut errors,
-    );
+    let job = Job {
+        settings: leaked(rt, alloc, defaults(alloc)),
+        form: Form::Applystream,
+        registry: no_hooks(rt, alloc),
+        script: None,
+    };
+    let (output, mut errors) = (empty(alloc), Vec::new(alloc));
+    let (output, actual) = run_input(rt, alloc, &job, Err(input), output, &mut errors);
     let outcome = outcome_of(rt, alloc, actual, output.into_inner(), errors);
     outcome_fails(rt, fault, outcome, status, fault);
 }

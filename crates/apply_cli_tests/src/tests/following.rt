@@ -91,37 +91,35 @@ fn a_report_that_cannot_be_written_is_cut(rt: HostRuntime) {
     }
 }
 
-/// Runs the command with settings, and the replacement as input.
+/// Runs the command for an invocation, with the replacement as input.
 fn invoked<T: Threads + Wait + Sync + Abort + Files>(
     rt: &T,
     alloc: Global,
-    settings: &Settings,
+    invocation: &Invocation,
 ) -> Outcome {
     let mut errors = Vec::new(alloc);
     let (input, output) = (REPLACEMENT.as_bytes(), empty(alloc));
-    let form = Form::Applystream;
-    let (output, status) = follow_invocation(
-        rt,
-        rt,
-        alloc,
-        settings,
-        None,
-        form,
-        input,
-        output,
-        &mut errors,
-    );
+    let (output, status) = follow_invocation(rt, rt, alloc, invocation, input, output, &mut errors);
     outcome_of(rt, alloc, status, output.into_inner(), errors)
 }
 
-/// Settings that no arguments state: one halt more than hooks are allowed.
-fn with_33_halts(rt: &impl Abort, alloc: Global) -> &'static Settings {
+/// An invocation that no arguments state: one halt more than hooks are allowed.
+fn with_33_halts(rt: &impl Abort, alloc: Global) -> &'static Invocation {
     let mut settings = defaults(alloc);
     for _ in 0..33 {
         let halt = Halt::Before(StepKind::Read);
         settings.halts.push(halt).expect(rt, "memory");
     }
-    leaked(rt, alloc, settings)
+    let (parallelism, form) = (None, Form::Applystream);
+    leaked(
+        rt,
+        alloc,
+        Invocation {
+            settings,
+            parallelism,
+            form,
+        },
+    )
 }
 
 #[test]

@@ -1,7 +1,7 @@
 //! Streams in Terraform's form, over outputs that fail.
 
 use super::*;
-use apply_cli::{run_command_in_form, run_in_form_and_lanes};
+use apply_cli::{run_job, run_job_in_lanes};
 
 /// A create, and an output that the plan does not know yet.
 const PLAN: &str =
@@ -21,47 +21,33 @@ const STREAM: &str =
 const SCRIPT: &str =
     r#"{"changes":[{"address":"random_pet.animal","steps":[{"seconds":4}]}],"outputs":{"pet":{"type":"string","value":"a&b"}}}"#;
 
+/// A job in Terraform's form, with that output in its script.
+fn job(rt: &impl Abort, alloc: Global) -> Job<'static, 'static> {
+    Job {
+        settings: leaked(rt, alloc, defaults(alloc)),
+        form: Form::Terraform,
+        registry: no_hooks(rt, alloc),
+        script: Some(SCRIPT.as_bytes()),
+    }
+}
+
 /// The stream of one worker in Terraform's form, with that output.
 fn streamed_by_worker<T: Threads + Wait + Sync + Abort>(
     rt: &T,
     alloc: Global,
     output: FailingWriter,
 ) -> Outcome {
-    let settings = leaked(rt, alloc, defaults(alloc));
-    let (registry, sink) = (no_hooks(rt, alloc), StdSink::new(output));
-    let (input, script) = (PLAN.as_bytes(), Some(SCRIPT.as_bytes()));
+    let (job, input, sink) = (job(rt, alloc), PLAN.as_bytes(), StdSink::new(output));
     let mut errors = Vec::new(alloc);
-    let (sink, status) = run_command_in_form(
-        rt,
-        alloc,
-        settings,
-        Form::Terraform,
-        registry,
-        script,
-        input,
-        sink,
-        &mut errors,
-    );
+    let (sink, status) = run_job(rt, alloc, &job, input, sink, &mut errors);
     outcome_of(rt, alloc, status, sink.into_inner().taken, errors)
 }
 
 /// The stream of two lanes.
 fn streamed_in_lanes(rt: &impl Abort, alloc: Global, output: FailingWriter) -> Outcome {
-    let settings = leaked(rt, alloc, defaults(alloc));
-    let (registry, sink) = (no_hooks(rt, alloc), StdSink::new(output));
-    let (input, script) = (PLAN.as_bytes(), Some(SCRIPT.as_bytes()));
+    let (job, input, sink) = (job(rt, alloc), PLAN.as_bytes(), StdSink::new(output));
     let mut errors = Vec::new(alloc);
-    let (sink, status) = run_in_form_and_lanes(
-        alloc,
-        settings,
-        2,
-        Form::Terraform,
-        registry,
-        script,
-        input,
-        sink,
-        &mut errors,
-    );
+    let (sink, status) = run_job_in_lanes(alloc, &job, 2, input, sink, &mut errors);
     outcome_of(rt, alloc, status, sink.into_inner().taken, errors)
 }
 

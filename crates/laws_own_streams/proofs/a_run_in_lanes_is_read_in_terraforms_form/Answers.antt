@@ -2,7 +2,8 @@ use Rattle.std.proofs.Common.{◌≡◌, ◌<◌, ◌≤◌, ◌^◌, ◌+◌, �
 use Rattle.apply_model.specs.declared.details.note.Note.{Note}
 use Rattle.apply_events.specs.Totals.{totals_of}
 use Rattle.apply_hooks.specs.Hooks.{max_hooks}
-use Rattle.apply_run.specs.InForm.{work_of}
+use Rattle.apply_text_terraform.specs.declared.form.Form.TheVariants.{Terraform}
+use Rattle.apply_run.specs.FromBytes.{work_for}
 use Rattle.apply_run.specs.Read.{applied_plan, applied_script, extras_of}
 use Rattle.apply_text.specs.Order.{hook_messages_of}
 use Rattle.apply_text_terraform.specs.Message.{diagnostic_address}
@@ -21,7 +22,7 @@ pub returns-clause-as_told : goal.returns-clause-as_told
 returns-clause-as_told c given stated lanes start operation events read is run succeed reads =
     let plan = applied_plan stated in
     let script = applied_script stated in
-    let work = work_of given stated in
+    let work = work_for Terraform given stated in
     let some : 0 < lanes = (let low = run.some in omega arith) in
     let few_hooks : length given.hooks ≤ max_hooks = (let none : length given.hooks ≡ 0 = ap length run.hooks in omega arith) in
     let limits = (c.what_was_read_for_terraforms_form_may_be_applied.ensures given stated is).limits in
@@ -47,5 +48,5 @@ returns-clause-by_ends c given stated lanes start operation events read is run s
     (λ (l : List Note).
     IsOfRun (told_in_form plan (applied_script stated) stated.details.changes) start (2 + planned_count plan stated.details.changes) (hook_messages_of events)
     (map shown_in_form l ++ map shown_in_form extras.notes) (outputs_read extras operation (totals_of plan events)) (unless (contains_error extras.notes (totals_of plan events)) operation) false read)
-    (told_by_ends diagnostic_address plan (work_of given stated) lanes events run.hooks run.line ends)
+    (told_by_ends diagnostic_address plan (work_for Terraform given stated) lanes events run.hooks run.line ends)
     (returns-clause-as_told c given stated lanes start operation events read is run succeed reads)

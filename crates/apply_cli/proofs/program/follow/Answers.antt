@@ -15,7 +15,7 @@ returns-in-Ok-clause-applied g c = λ good.
     let words : List Text = map string_bytes c.args.words.now in
     let is_of_words : IsOfWords words c.in-Ok.invocation = record { stated = c.in-Ok.ensures.stated; in_range = c.in-Ok.ensures.in_range } in
     inl (followed g.W.Write.contents g.F.File.Read.remaining words c.in-Ok.invocation (g.R.Read.remaining c.args.input) c.args.output
-    c.new.result c.follow_invocation.result.0 c.follow_invocation.result.1 is_of_words c.new.ensures (c.follow_invocation.ensures.applied good))
+    c.new.result c.follow_invocation.result.0 c.follow_invocation.result.1 is_of_words c.new.ensures (c.follow_invocation.ensures.ended.applied good))
 
 pub returns-in-Ok-clause-cut_off : goal.returns-in-Ok-clause-cut_off
 returns-in-Ok-clause-cut_off g c = λ bad.
@@ -23,19 +23,19 @@ returns-in-Ok-clause-cut_off g c = λ bad.
     let is_of_words : IsOfWords words c.in-Ok.invocation = record { stated = c.in-Ok.ensures.stated; in_range = c.in-Ok.ensures.in_range } in
     ⊎_elim (λ unchanged. inl unchanged) (λ begun. inr (inl begun))
     (followed_in_part g.W.Write.contents g.F.File.Read.remaining words c.in-Ok.invocation (g.R.Read.remaining c.args.input) c.args.output
-    c.new.result c.follow_invocation.result.0 is_of_words c.new.ensures (c.follow_invocation.ensures.cut_off bad))
+    c.new.result c.follow_invocation.result.0 is_of_words c.new.ensures (c.follow_invocation.ensures.ended.cut_off bad))
 
 pub returns-in-Ok-clause-reported : goal.returns-in-Ok-clause-reported
 returns-in-Ok-clause-reported g c = λ good.
     let is_of_words : IsOfWords (map string_bytes c.args.words.now) c.in-Ok.invocation = record { stated = c.in-Ok.ensures.stated; in_range = c.in-Ok.ensures.in_range } in
-    inr (record { invocation = c.in-Ok.invocation; is_of_words = is_of_words; reported = c.follow_invocation.ensures.reported good })
+    inr (record { invocation = c.in-Ok.invocation; is_of_words = is_of_words; reported = c.follow_invocation.ensures.ended.reported good })
 
 pub returns-in-Ok-clause-quiet : goal.returns-in-Ok-clause-quiet
 returns-in-Ok-clause-quiet g c = λ good.
     let words : List Text = map string_bytes c.args.words.now in
     let is_of_words : IsOfWords words c.in-Ok.invocation = record { stated = c.in-Ok.ensures.stated; in_range = c.in-Ok.ensures.in_range } in
     quiet_of_matched words (g.R.Read.remaining c.args.input) (g.E.Write.contents c.args.faults.now) (g.E.Write.contents c.follow_invocation.new.faults)
-    (inr (record { invocation = c.in-Ok.invocation; is_of_words = is_of_words; reported = c.follow_invocation.ensures.reported good }))
+    (inr (record { invocation = c.in-Ok.invocation; is_of_words = is_of_words; reported = c.follow_invocation.ensures.ended.reported good }))
 
 pub returns-in-Ok-clause-help : goal.returns-in-Ok-clause-help
 returns-in-Ok-clause-help g c = λ alone.

@@ -7,7 +7,7 @@ use Rattle.stream_record_stream.specs.Reading.{read_of}
 use Rattle.stream_record_waits.specs.Recorded.{AreRecordedWaits}
 use Rattle.laws_record.specs.Writable.{written}
 use Rattle.laws_waits.specs.Scripts.{recorded_script}
-use Rattle.laws_again.proofs.ComesAgain.{HasStream, HasWholeStream, as_it_is, graph_waits, written_by}
+use Rattle.laws_again.proofs.ComesAgain.{HasStream, HasWholeStream, as_it_is, graph_waits, stream_written}
 use Rattle.laws_again.proofs.plain.a_stream_of_our_own_comes_again.Goals as goal
 
 pub returns-clause-stream : goal.returns-clause-stream
@@ -37,18 +37,6 @@ returns-clause-stream c plan script graph choice lanes start operation stream te
 pub returns-clause-applied : goal.returns-clause-applied
 returns-clause-applied c plan script graph choice lanes start operation stream text warnings again report other_report before after other_before other_after applied none all soon told as_is is anew other_none other_all =
     returns-clause-stream c plan script graph choice lanes start operation stream text warnings again
-    (record {
-      saved = applied.plan;
-      steps = applied.script;
-      events = applied.streamed.events;
-      run = record { read = applied.read; sizes = applied.sizes; time_line = applied.streamed.time_line };
-      stream_is = written_by plan script lanes start operation report before after stream applied none all;
-    })
+    (stream_written plan script lanes start operation report before after stream applied none all)
     soon told as_is is
-    (record {
-      saved = anew.plan;
-      steps = anew.script;
-      events = anew.streamed.events;
-      run = record { read = anew.read; sizes = anew.sizes; time_line = anew.streamed.time_line };
-      stream_is = written_by plan (Some text) lanes start operation other_report other_before other_after again anew other_none other_all;
-    })
+    (stream_written plan (Some text) lanes start operation other_report other_before other_after again anew other_none other_all)

@@ -1,21 +1,22 @@
-use Rattle.std.proofs.Common.{arith}
-use Rattle.apply_events.specs.Step.{Work}
 use Rattle.apply_text.specs.Lines.{stream_of}
+use Rattle.apply_text_terraform.specs.declared.form.Form.TheVariants.{Applystream}
+use Rattle.apply_run.specs.FromBytes.{work_for}
 use Rattle.laws_check.proofs.Delivered.{bytes_reported, stream_reported}
+use Rattle.laws_check.proofs.Schedules.{can_run}
 use Rattle.laws_check.proofs.applied.every_applied_stream_is_accepted.Goals as goal
 
 pub returns-clause-stream : goal.returns-clause-stream
-returns-clause-stream c plans given options report before after applied deleted few short =
+returns-clause-stream c plans schedule given start operation report before after applied deleted hooks short =
+    let work = work_for Applystream given applied.read in
     let streamed = applied.streamed in
-    let most = applied.sizes.few_workers in
-    let work : Work = record { plan = applied.plan; script = applied.script; hooks = given.hooks } in
-    stream_reported applied.plan streamed.events (stream_of applied.plan applied.script options.start options.operation streamed.events) report before.bytes after.bytes streamed.whole.delivered plans
-    (c.every_stream_of_what_was_read_is_accepted.ensures plans given work options.workers options.start streamed.lists streamed.events options.operation applied.read deleted (omega arith) few streamed.applied.dealt_out streamed.applied.interleaved short)
+    let can = can_run schedule work applied.sizes (c.what_was_read_is_within_limits.ensures given work applied.is_read).few_steps in
+    stream_reported work.plan streamed.events (stream_of work.plan work.script start operation streamed.events) report before.bytes after.bytes streamed.whole.delivered plans
+    (c.every_stream_of_what_was_read_is_accepted.ensures plans schedule given work start streamed.events operation can applied.is_read deleted hooks streamed.run short)
 
 pub returns-clause-bytes : goal.returns-clause-bytes
-returns-clause-bytes c plans given options report before after bytes applied deleted few none all short =
+returns-clause-bytes c plans schedule given start operation report before after bytes applied deleted hooks none all short =
+    let work = work_for Applystream given applied.read in
     let streamed = applied.streamed in
-    let most = applied.sizes.few_workers in
-    let work : Work = record { plan = applied.plan; script = applied.script; hooks = given.hooks } in
-    bytes_reported applied.plan streamed.events (stream_of applied.plan applied.script options.start options.operation streamed.events) report before.bytes after.bytes streamed.whole.delivered plans bytes none all short
-    (c.every_stream_of_what_was_read_is_accepted.ensures plans given work options.workers options.start streamed.lists streamed.events options.operation applied.read deleted (omega arith) few streamed.applied.dealt_out streamed.applied.interleaved)
+    bytes_reported work.plan streamed.events (stream_of work.plan work.script start operation streamed.events) report before.bytes after.bytes streamed.whole.delivered plans bytes none all short
+    (λ short. let can = can_run schedule work applied.sizes (c.what_was_read_is_within_limits.ensures given work applied.is_read).few_steps in
+    c.every_stream_of_what_was_read_is_accepted.ensures plans schedule given work start streamed.events operation can applied.is_read deleted hooks streamed.run short)

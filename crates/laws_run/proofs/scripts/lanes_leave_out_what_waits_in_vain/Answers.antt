@@ -2,7 +2,10 @@ use Rattle.std.proofs.Common.{ℕ, zero, suc, ◌<◌, Bool, true, false, List, 
 use Rattle.apply_events.specs.declared.event.Event.{Event}
 use Rattle.apply_events.specs.Step.{Work}
 use Rattle.apply_events.specs.Waits.TimeLine.{IsTimeLine}
+use Rattle.apply_text_terraform.specs.declared.form.Form.{Form}
+use Rattle.apply_text_terraform.specs.declared.form.Form.TheVariants.{Applystream, Terraform}
 use Rattle.apply_run.specs.Bytes.{Inputs, IsRead}
+use Rattle.apply_run.specs.FromBytes.{IsReadFor, ReadFor, work_for}
 use Rattle.apply_run.specs.Read.{IsStated, StatedInputs, is_unfinished}
 use Rattle.laws_run.specs.Scripts.{LeaveOutJustWhatWaitsInVain}
 use Rattle.laws_run.proofs.scripts.lanes_leave_out_what_waits_in_vain.Goals as goal
@@ -15,20 +18,22 @@ applied given stated unfinished = record {
   hooks = given.hooks;
 }
 
-of_stated_inputs : (given : Inputs) (stated : StatedInputs) (n : ℕ) (events : List Event) (unfinished : Bool) → IsStated given.plan given.script stated
-    → ((work : Work) → IsRead given work.plan work.script → IsTimeLine work n events → LeaveOutJustWhatWaitsInVain work events)
-    → IsTimeLine (applied given stated unfinished) n events → LeaveOutJustWhatWaitsInVain (applied given stated unfinished) events
-of_stated_inputs given stated n events true is law line zero k has = absurd (omega arith)
-of_stated_inputs given stated n events true is law line (suc c) k has = absurd (omega arith)
-of_stated_inputs given stated n events false is law line c k has = law (applied given stated false) (record { plan_is = is.plan_is; script_is = is.script_is }) line c k has
+module _ (given : Inputs) (n : ℕ) (events : List Event)
+    (law : (work : Work) → IsRead given work.plan work.script → IsTimeLine work n events → LeaveOutJustWhatWaitsInVain work events) where
+  of_stated : (stated : StatedInputs) (unfinished : Bool) → IsStated given.plan given.script stated
+      → IsTimeLine (applied given stated unfinished) n events → LeaveOutJustWhatWaitsInVain (applied given stated unfinished) events
+  of_stated stated true is line zero k has = absurd (omega arith)
+  of_stated stated true is line (suc c) k has = absurd (omega arith)
+  of_stated stated false is line c k has = law (applied given stated false) (record { plan_is = is.plan_is; script_is = is.script_is }) line c k has
 
-pub returns-clause-default_form : goal.returns-clause-default_form
-returns-clause-default_form c given lanes start operation report before after run =
-    let some : 0 < lanes = (let low = run.sizes.some in omega arith) in
-    c.a_read_script_leaves_out_what_waits_in_vain.ensures.in_vain given (record { plan = run.plan; script = run.script; hooks = given.hooks }) lanes run.streamed.events some run.read run.streamed.time_line
+  of_form : (form : Form) (read : ReadFor form) → IsReadFor form given read → IsTimeLine (work_for form given read) n events
+      → LeaveOutJustWhatWaitsInVain (work_for form given read) events
+  of_form Applystream read is line = law (work_for Applystream given read) is line
+  of_form Terraform read is line = of_stated read (is_unfinished read.details.note) is line
 
-pub returns-clause-terraforms_form : goal.returns-clause-terraforms_form
-returns-clause-terraforms_form c given lanes start operation report before after run =
-    let some : 0 < lanes = (let low = run.sizes.some in omega arith) in
-    of_stated_inputs given run.stated lanes run.streamed.events (is_unfinished run.stated.details.note) run.read
-    (λ work read line. c.a_read_script_leaves_out_what_waits_in_vain.ensures.in_vain given work lanes run.streamed.events some read line) run.streamed.time_line
+pub returns : goal.returns
+returns c form given lanes start operation report before after applied =
+    let some : 0 < lanes = (let low = applied.sizes.some in omega arith) in
+    let events = applied.streamed.events in
+    of_form given lanes events (λ work read line. c.a_read_script_leaves_out_what_waits_in_vain.ensures.in_vain given work lanes events some read line)
+    form applied.read applied.is_read applied.streamed.run

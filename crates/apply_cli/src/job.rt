@@ -1,0 +1,18 @@
+//! A job of the main command.
+
+use apply_cli_args::Settings;
+use apply_hooks::Registry;
+use apply_text_terraform::Form;
+
+/// What the main command applies to a plan.
+#[derive(Clone, Copy)]
+pub struct Job<'a, 's> {
+    /// The settings of the apply.
+    pub settings: &'a Settings,
+    /// The form of the stream.
+    pub form: Form,
+    /// The hooks.
+    pub registry: &'a Registry,
+    /// The bytes of a script. Without them each step succeeds after 0 seconds.
+    pub script: Option<&'s [u8]>,
+}
