@@ -160,41 +160,33 @@ of_form severity diag (Some a) (Some r) None v w = rw v.tree_is refl
 of_form severity diag (Some a) (Some r) (Some s) v w = rw (v.tree_is, w.tree_is) refl
 
 module _ (severity : List ℕ) (diag : Diag) (so : IsUtf8 severity) (has : HasDiagTexts diag) where
+  told : (address : Option (List ℕ)) → IfSome address IsUtf8 → (range snippet : Option Json) (v : IfSome range IsCopied) (w : IfSome snippet IsCopied) (name : List ℕ)
+      → member_json name (verbatim (form_json address severity diag (others_of range snippet)))
+      ≡ ((option_map object (mixed_members each_member (onto (note_members address severity diag) (others_of range snippet)) no_members) >>= get name) >>= as_str)
+  told address is range snippet v w name =
+      let j = form_json address severity diag (others_of range snippet) in
+      member_is name (verbatim j) (onto (note_members address severity diag) (others_of range snippet)) (own_text j (inner_value severity diag so has range snippet v w address is))
+
+  both : (address : Option (List ℕ)) (range snippet : Option Json) (v : IfSome range IsCopied) (w : IfSome snippet IsCopied)
+      → let members = option_map object (mixed_members each_member (onto (note_members address severity diag) (others_of range snippet)) no_members) in
+      (((members >>= get (codes "range")) >>= as_str) ≡ option_map verbatim range)
+      × (((members >>= get (codes "snippet")) >>= as_str) ≡ option_map verbatim snippet)
+  both None None None v w = (refl, refl)
+  both None None (Some s) v w = rw w.tree_is (refl, refl)
+  both None (Some r) None v w = rw v.tree_is (refl, refl)
+  both None (Some r) (Some s) v w = rw (v.tree_is, w.tree_is) (refl, refl)
+  both (Some a) None None v w = (refl, refl)
+  both (Some a) None (Some s) v w = rw w.tree_is (refl, refl)
+  both (Some a) (Some r) None v w = rw v.tree_is (refl, refl)
+  both (Some a) (Some r) (Some s) v w = rw (v.tree_is, w.tree_is) (refl, refl)
+
   range_is : (address : Option (List ℕ)) → IfSome address IsUtf8 → (range snippet : Option Json) (v : IfSome range IsCopied) (w : IfSome snippet IsCopied)
       → member_json (codes "range") (verbatim (form_json address severity diag (others_of range snippet))) ≡ option_map verbatim range
-  range_is address is range snippet v w =
-      let j = form_json address severity diag (others_of range snippet) in
-      member_is (codes "range") (verbatim j) (onto (note_members address severity diag) (others_of range snippet)) (own_text j (inner_value severity diag so has range snippet v w address is))
-      ∙ there address range snippet v w
-    where
-      there : (address : Option (List ℕ)) (range snippet : Option Json) (v : IfSome range IsCopied) (w : IfSome snippet IsCopied)
-          → (option_map object (mixed_members each_member (onto (note_members address severity diag) (others_of range snippet)) no_members) >>= get (codes "range")) >>= as_str ≡ option_map verbatim range
-      there None None None v w = refl
-      there None None (Some s) v w = rw w.tree_is refl
-      there None (Some r) None v w = rw v.tree_is refl
-      there None (Some r) (Some s) v w = rw (v.tree_is, w.tree_is) refl
-      there (Some a) None None v w = refl
-      there (Some a) None (Some s) v w = rw w.tree_is refl
-      there (Some a) (Some r) None v w = rw v.tree_is refl
-      there (Some a) (Some r) (Some s) v w = rw (v.tree_is, w.tree_is) refl
+  range_is address is range snippet v w = told address is range snippet v w (codes "range") ∙ (both address range snippet v w).0
 
   snippet_is : (address : Option (List ℕ)) → IfSome address IsUtf8 → (range snippet : Option Json) (v : IfSome range IsCopied) (w : IfSome snippet IsCopied)
       → member_json (codes "snippet") (verbatim (form_json address severity diag (others_of range snippet))) ≡ option_map verbatim snippet
-  snippet_is address is range snippet v w =
-      let j = form_json address severity diag (others_of range snippet) in
-      member_is (codes "snippet") (verbatim j) (onto (note_members address severity diag) (others_of range snippet)) (own_text j (inner_value severity diag so has range snippet v w address is))
-      ∙ there address range snippet v w
-    where
-      there : (address : Option (List ℕ)) (range snippet : Option Json) (v : IfSome range IsCopied) (w : IfSome snippet IsCopied)
-          → (option_map object (mixed_members each_member (onto (note_members address severity diag) (others_of range snippet)) no_members) >>= get (codes "snippet")) >>= as_str ≡ option_map verbatim snippet
-      there None None None v w = refl
-      there None None (Some s) v w = rw w.tree_is refl
-      there None (Some r) None v w = rw v.tree_is refl
-      there None (Some r) (Some s) v w = rw (v.tree_is, w.tree_is) refl
-      there (Some a) None None v w = refl
-      there (Some a) None (Some s) v w = rw w.tree_is refl
-      there (Some a) (Some r) None v w = rw v.tree_is refl
-      there (Some a) (Some r) (Some s) v w = rw (v.tree_is, w.tree_is) refl
+  snippet_is address is range snippet v w = told address is range snippet v w (codes "snippet") ∙ (both address range snippet v w).1
 
 -- ---- the line
 

@@ -41,31 +41,26 @@ start_phase (ProvisionOutput i line) is = cc
 start_phase (ProvisionComplete i) is = cc
 start_phase (ProvisionErrored i) is = cc
 
+-- what holds of both ends of a step, holds of each end
+of_ends : (P : What → Type 0) → ((seconds : ℕ) → P (Complete seconds)) → ((seconds : ℕ) → P (Errored seconds))
+    → (what : What) → is_end what ≡ true → P what
+of_ends P complete errored Start is = absurd cc
+of_ends P complete errored (Complete seconds) is = complete seconds
+of_ends P complete errored (Errored seconds) is = errored seconds
+of_ends P complete errored ErrorNote is = absurd cc
+of_ends P complete errored WarnNote is = absurd cc
+of_ends P complete errored (Halted when hook) is = absurd cc
+of_ends P complete errored (Progress seconds) is = absurd cc
+of_ends P complete errored (ProvisionStart i) is = absurd cc
+of_ends P complete errored (ProvisionOutput i line) is = absurd cc
+of_ends P complete errored (ProvisionComplete i) is = absurd cc
+of_ends P complete errored (ProvisionErrored i) is = absurd cc
+
 end_phase : (what : What) → is_end what ≡ true → phase what ≡ 2
-end_phase Start is = cc
-end_phase (Complete seconds) is = refl
-end_phase (Errored seconds) is = refl
-end_phase ErrorNote is = cc
-end_phase WarnNote is = cc
-end_phase (Halted when hook) is = cc
-end_phase (Progress seconds) is = cc
-end_phase (ProvisionStart i) is = cc
-end_phase (ProvisionOutput i line) is = cc
-end_phase (ProvisionComplete i) is = cc
-end_phase (ProvisionErrored i) is = cc
+end_phase = of_ends (λ what. phase what ≡ 2) (λ seconds. refl) (λ seconds. refl)
 
 end_is_about : (what : What) → is_end what ≡ true → is_about_step what ≡ true
-end_is_about Start is = cc
-end_is_about (Complete seconds) is = refl
-end_is_about (Errored seconds) is = refl
-end_is_about ErrorNote is = cc
-end_is_about WarnNote is = cc
-end_is_about (Halted when hook) is = cc
-end_is_about (Progress seconds) is = cc
-end_is_about (ProvisionStart i) is = cc
-end_is_about (ProvisionOutput i line) is = cc
-end_is_about (ProvisionComplete i) is = cc
-end_is_about (ProvisionErrored i) is = cc
+end_is_about = of_ends (λ what. is_about_step what ≡ true) (λ seconds. refl) (λ seconds. refl)
 
 hook_phase : (what : What) → not (is_note what) ≡ true → phase what ≤ 2
 hook_phase Start is = omega arith
