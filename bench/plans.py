@@ -43,6 +43,23 @@ def script(changes, seconds):
     return compact({"changes": [{"address": it["address"], "steps": steps} for it in changes]})
 
 
+def stays(number):
+    """An object of the prior state: three of four depend on the first of these."""
+    tree = change(number, "update")
+    before = change(number - number % 4, "update")
+    return {**tree, "values": {"id": f"i-{number:08x}"}, "depends_on": [f"{before['type']}.{before['name']}"]}
+
+
+def unsaved_plan(count):
+    """A plan that changes none of so many objects."""
+    objects = [stays(number) for number in range(count)]
+    modules = {}
+    for it in objects:
+        modules.setdefault(it.pop("module_address", ""), []).append({name: part for name, part in it.items() if name != "change"})
+    children = [{"address": module, "resources": resources} for module, resources in modules.items() if module]
+    return plan([], prior_state={"values": {"root_module": {"resources": modules[""], "child_modules": children}}})
+
+
 def values(number):
     """What a provider knows of a resource, of which the program reads nothing."""
     return {

@@ -6,6 +6,8 @@ from collections import Counter, namedtuple
 
 # A step of a change: what it does, how it ends, and what the script says of it.
 Step = namedtuple("Step", "action said")
+# An object that is refreshed or read before a plan: which of both, what the script says of it, and the names that it depends on.
+Object = namedtuple("Object", "is_read said names")
 # Steps of a change that go on without a break: its number, the first of them, and the one behind them.
 Turn = namedtuple("Turn", "change first end")
 COUNTED = {"create": "add", "update": "change", "delete": "remove"}
@@ -74,6 +76,51 @@ def script_of(changes):
     """The script of the changes."""
     return json.dumps({"changes": [{"address": address(number), "steps": [step.said for step in steps]}
                                    for number, steps in enumerate(changes)]}).encode()
+
+
+def name_of(number, is_read):
+    """The name of an object. Two neighbours have one, unless one alone is read."""
+    return f"{'data.' * is_read}a_b.n{number // 2}"
+
+
+def drawn_objects(draws):
+    """Six objects. In a quarter of all orders they may wait in a circle."""
+    order, objects = draws.next(), []
+    reads = [draws.next() < 4 for _ in range(6)]
+    for number, is_read in enumerate(reads):
+        others = [it for it in (draws.next(), draws.next()) if it < 6 and (it < number or order < 4)]
+        said = {"seconds": (0, 0, 0, 1, 1, 2, 3, 5, 10, 11, 25, 0, 0, 1, 4, 20)[draws.next()], **(FAILED if draws.next() == 0 else {})}
+        objects.append(Object(is_read, said, sorted({name_of(it, reads[it]) for it in others})))
+    return objects
+
+
+def state_of(objects):
+    """A plan of no change that has these objects in its prior state."""
+    resources = [{"address": f"{name_of(number, it.is_read)}[{number}]", "mode": "data" if it.is_read else "managed", "type": "a_b",
+                  "name": f"n{number // 2}", "index": number, "depends_on": it.names} for number, it in enumerate(objects)]
+    return json.dumps({"format_version": "1.2", "prior_state": {"values": {"root_module": {"resources": resources}}}}).encode()
+
+
+def planning_of(objects):
+    """A script of the objects, the last first."""
+    said = [{"address": f"{name_of(number, it.is_read)}[{number}]", **it.said} for number, it in enumerate(objects)]
+    return json.dumps({"changes": [], "planning": said[::-1]}).encode()
+
+
+def shown_of_objects(objects, lanes):
+    """What is printed of the objects, each line with its second, and when the last of them ends: by the clock, for which each is a
+    step that waits for all of the names that it depends on, but for its own."""
+    names = [name_of(number, it.is_read) for number, it in enumerate(objects)]
+    after = [[{"address": address(other), "step": 0} for other, name in enumerate(names) if name in it.names and name != names[number]]
+             for number, it in enumerate(objects)]
+    lines, _ = Clock([[Step("read", {**it.said, "after": waits})] for it, waits in zip(objects, after)], lanes, None).run()
+    printed = []
+    for at, kind, where, _ in lines:
+        number = int(where[-1])
+        is_read = objects[number].is_read
+        if kind != "apply_errored" and (is_read or kind != "apply_progress"):
+            printed.append((at, kind if is_read else kind.replace("apply", "refresh"), f"{names[number]}[{number}]"))
+    return printed, max((at for at, *_ in lines), default=0)
 
 
 def course(step, halted):

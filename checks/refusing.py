@@ -17,6 +17,8 @@ OUTPUT = b"applystream: the output could not be written\n"
 # The types of the messages that sum up a stream. In Terraform's form outputs stand behind the summary, and neither behind an
 # error.
 SUMS = "change_summary", "outputs"
+# The types of the messages that stand before an apply, whoever applies.
+BEFORE = "version", "planned_change", "refresh_start", "refresh_complete", "resource_drift"
 # What is said for the refusal that was met first.
 SAID = {"memory": MEMORY, "memory_of_thread": THREAD, "thread": THREAD, "output": OUTPUT}
 
@@ -183,6 +185,22 @@ def change_of(line):
     return line.get("hook", {}).get("resource", {}).get("addr")
 
 
+def is_sum_of_plan(line):
+    """Whether a line sums up a plan, or tells what becomes of its outputs."""
+    outputs = line.get("outputs", {}).values()
+    return line.get("changes", {}).get("operation") == "plan" or any("action" in it for it in outputs)
+
+
+def is_sum(line):
+    """Whether a line sums up an apply, or tells its outputs."""
+    return line["type"] in SUMS and not is_sum_of_plan(line)
+
+
+def length_of_head(lines):
+    """How many lines stand before the apply: one worker makes them, however many apply."""
+    return max((number for number, line in enumerate(lines, 1) if line["type"] in BEFORE or is_sum_of_plan(line)), default=0)
+
+
 def by_change(lines):
     """Each change's lines in their order, without the moments."""
     changes = {}
@@ -212,13 +230,14 @@ def disorder(printed, wanted, plan, whole):
     moments = [line["@timestamp"] for line in found]
     if moments != sorted(moments):
         return "moments go back"
-    head = sum(line["type"] in ("version", "planned_change") for line in known)
+    head = length_of_head(known)
     if found[:head] != known[: len(found[:head])]:
         return "the first lines are others"
-    types = [line["type"] for line in found[head:]]
-    sums = [line for line in known if line["type"] in SUMS] if whole else []
+    found, known = found[head:], known[head:]
+    types = [line["type"] for line in found]
+    sums = [line for line in known if is_sum(line)] if whole else []
     last = found[len(found) - len(sums) :]
-    if "version" in types or "planned_change" in types or sum(it in SUMS for it in types) != len(sums):
+    if length_of_head(found) or sum(is_sum(line) for line in found) != len(sums):
         return "the first or the last lines stand where they must not, or are missing"
     if [{**line, "@timestamp": ""} for line in last] != [{**line, "@timestamp": ""} for line in sums]:
         return "what sums up stands where it must not, or counts otherwise"
@@ -239,17 +258,26 @@ def disorder(printed, wanted, plan, whole):
     return None
 
 
+# The options that `validate` takes too, in the order in which it is named with them, and those that say nothing new.
+OF_VALIDATE = "--script", "--parallelism", "--form", "--command", "--refresh"
+DEFAULTS = {"--form": "applystream", "--command": "saved", "--refresh": "true"}
+
+
 def validate_line(words):
     """The second line of a refusal: the command that says where and what, with the options of the run that it takes. The
     program's own names of files need no quotes."""
     values, rest = {}, iter(words)
     for word in rest:
         name, equals, value = word.partition("=")
-        if name in ("--script", "--parallelism", "--form"):
+        if name in OF_VALIDATE:
             values[name] = value if equals else next(rest)
-    if values.get("--form") == "applystream":
-        del values["--form"]
-    options = "".join(f" {name} {values[name]}" for name in ("--script", "--parallelism", "--form") if name in values)
+    for name, default in DEFAULTS.items():
+        if values.get(name) == default:
+            del values[name]
+    # (a command has its form)
+    if "--command" in values:
+        values.pop("--form", None)
+    options = "".join(f" {name} {values[name]}" for name in OF_VALIDATE if name in values)
     return f"applystream: applystream validate{options} says where and what\n"
 
 
@@ -274,7 +302,7 @@ def mistake(found, wanted, plan, in_order, own=frozenset(), unwritten=OUTPUT):
         return "something was printed though a thread was refused"
     if met != "output" and found.printed and not found.printed.endswith(b"\n"):
         return "a line is cut"
-    if met != "output" and any(b'"type":"%s"' % it.encode() in found.printed for it in SUMS):
+    if met != "output" and any(is_sum(line) for line in lines_of(found.printed)):
         return "a summary behind a refusal"
     if in_order and not wanted.printed.startswith(found.printed):
         return "no front of the stream"

@@ -65,8 +65,10 @@ _applystream() {
     --halt-in) return ;;
     --parallelism) return ;;
     --form) COMPREPLY=($(compgen -W "applystream terraform" -- "$word")); return ;;
+    --command) COMPREPLY=($(compgen -W "saved plan apply destroy" -- "$word")); return ;;
+    --refresh) COMPREPLY=($(compgen -W "true false" -- "$word")); return ;;
   esac
-  local words="--at --script --workers --queue --destroy --halt-before --halt-in --parallelism --form --help --version"
+  local words="--at --script --workers --queue --destroy --halt-before --halt-in --parallelism --form --command --refresh --help --version"
   [ "$COMP_CWORD" != 1 ] || words+=" check watch view play record validate"
   COMPREPLY=($(compgen -W "$words" -- "$word"))
 }

@@ -11,3 +11,5 @@ pub mod Steps
 pub mod WrittenAddresses
 pub mod WrittenNames
 pub mod WrittenPieces
+pub mod ModuleNames
+pub mod Relative

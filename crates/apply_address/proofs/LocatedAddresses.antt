@@ -155,7 +155,7 @@ after_located (suc most) text last resource utf8 is =
 
 -- ---- where the module ends
 
-ends_with_dot : (modules : List Named) → (flat_map written_module modules ≡ []) ⊎ ((front : List ℕ) × (flat_map written_module modules ≡ front ++ codes "."))
+pub ends_with_dot : (modules : List Named) → (flat_map written_module modules ≡ []) ⊎ ((front : List ℕ) × (flat_map written_module modules ≡ front ++ codes "."))
 ends_with_dot [] = inl refl
 ends_with_dot (named ∷ modules) =
     let front = codes "module." ++ written_named named in

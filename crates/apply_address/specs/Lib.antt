@@ -1,6 +1,8 @@
 pub mod Address
 pub mod KeyTexts
 pub mod Keys
+pub mod Modes
+pub mod Modules
 pub mod Names
 pub mod Parts
 pub mod Pieces

@@ -7,12 +7,13 @@ ghost use Rattle.std.specs.Option.{option_copied};
 ghost use Rattle.apply_model.specs.Plan.Address.{provider_of};
 ghost use Rattle.apply_address.specs.Address.{Address, IsAddress, parts_of, written};
 ghost use Rattle.apply_address.specs.KeyTexts.{last_view};
+ghost use Rattle.apply_address.specs.Modes.{mode_of};
 ghost use Rattle.apply_address.specs.Parts.{parts_view};
 ghost use Rattle.apply_address.specs.Reading.{after_module, last_after_modules, parts_in};
 
 use crate::last_part::LastPart;
 use crate::named::Named;
-use apply_model::Key;
+use apply_model::{Key, Mode};
 use std::alloc::{AllocError, Global};
 
 /// The parts of the address of a resource.
@@ -39,6 +40,16 @@ impl AddressParts<'_> {
         match self.kind_name.split_once('_') {
             Some((provider, _)) => provider,
             None => self.kind_name,
+        }
+    }
+
+    /// Whether the address is that of a managed resource or of a data source.
+    pub fn mode(&self) -> Mode
+        ensures { result ≡ mode_of self.now.resource.now }
+    {
+        match LastPart::read_typed(self.resource) {
+            Some(_) => Mode::Managed,
+            None => Mode::DataSource,
         }
     }
 }

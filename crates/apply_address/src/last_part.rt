@@ -28,7 +28,7 @@ impl<'a> LastPart<'a> {
 
     /// A type, a dot and a name with its key, if they are the whole text.
     #[tactic(auto, unfolding(crate::specs::Reading::typed_in))]
-    fn read_typed(text: &'a str) -> Option<LastPart<'a>>
+    pub fn read_typed(text: &'a str) -> Option<LastPart<'a>>
         ensures { option_map last_view result ≡ typed_in text.now }
     {
         let (kind_name, remainder) = first_name(text)?;

@@ -5,6 +5,7 @@ mod address_parts;
 mod key_text;
 mod last_part;
 mod laws;
+mod module_names;
 mod name;
 mod named;
 mod number;
@@ -13,3 +14,4 @@ mod quoted;
 
 pub use address_parts::{AddressParts, parts_of};
 pub use laws::an_address_has_one_reading;
+pub use module_names::module_prefix;

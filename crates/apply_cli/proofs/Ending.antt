@@ -1,23 +1,16 @@
 -- From how a run has ended to how the command has.
-use Rattle.std.proofs.Common.{◌≡◌, ◌≤◌, ◌<◌, ◌⊎◌, ◌↔◌, ◌||◌, inl, inr, ℕ, zero, suc, Bool, false, IsTrue, List, Option, length, nat_lt, Result, Ok, Err, IfOk, IfErr, sym, ap, ◌∙◌, subst, arith, ⊎_elim}
+use Rattle.std.proofs.Common.{◌≡◌, ◌≤◌, ◌<◌, ◌⊎◌, ◌↔◌, inl, inr, ℕ, IsTrue, List, Option, length, Result, Ok, Err, IfOk, IfErr, sym, ◌∙◌, subst, arith, ⊎_elim}
 use Rattle.std.specs.Io.KnownBytes.{Keeps}
 use Rattle.std.specs.List.{range_with_len}
 use Rattle.std.proofs.KnownBytes.{Keeps-refl}
-use Rattle.std.proofs.lemmas.Bool.{lt-ltb}
-use Rattle.apply_plan.specs.declared.plan.plan_error.PlanError.{PlanError}
-use Rattle.apply_plan.specs.declared.plan.plan_error.PlanError.TheVariants as plan_error
 use Rattle.apply_plan.specs.Bytes.{max_bytes}
-use Rattle.apply_plan.specs.Plan.SavedPlan.{SavedPlan, plan_of}
-use Rattle.apply_events.specs.declared.counts.Counts.{Counts}
 use Rattle.apply_events.specs.declared.event.Event.{Event}
 use Rattle.apply_events.specs.Step.{Work}
 use Rattle.apply_events.specs.WorkerEvents.{worker_events}
 use Rattle.apply_text.specs.declared.operation.Operation.{Operation}
-use Rattle.apply_text_terraform.specs.declared.form.Form.{Form}
-use Rattle.apply_text_terraform.specs.declared.form.Form.TheVariants.{Applystream, Terraform}
 use Rattle.apply_run.specs.Applied.{IsApplied}
 use Rattle.apply_run.specs.Bytes.{Inputs}
-use Rattle.apply_run.specs.FromBytes.{IsReadFor, IsUnreadFor, ReadFor, WasRefusedBy, WasReportedBy, applied_for, form_for, work_for}
+use Rattle.apply_run.specs.FromBytes.{Reading, WasRefusedOf, WasReportedOf}
 use Rattle.apply_run.specs.Run.{HasFailedBy, SinkState}
 use Rattle.apply_run.specs.Schedule.{ByWorkers, InLanes, IsRunOf, Schedule}
 use Rattle.apply_run.specs.declared.form_report.FormReport.{FormReport}
@@ -26,14 +19,13 @@ use Rattle.apply_run.specs.declared.refusal.Refusal.TheVariants as refusal
 use Rattle.apply_writer.specs.declared.report.Report.{Report}
 use Rattle.apply_writer.specs.declared.why.Why.{Why}
 use Rattle.apply_writer.specs.Stream.Form.{stream_in}
-use Rattle.apply_writer.specs.Stream.Terraform.{contains_error}
 use Rattle.apply_cli_args.specs.declared.settings.Settings.{Settings}
-use Rattle.apply_cli.specs.Command.{HasAppliedBy, HasBegunBy, IsAlone, ReportsError}
+use Rattle.apply_cli.specs.Command.{HasAppliedOf, HasBegunOf, IsAlone}
 use Rattle.apply_cli.specs.Ended.{HasEnded}
 use Rattle.apply_cli.specs.Invocation.{HasAppliedAsAsked, HasBegunAsAsked, schedule_of}
-use Rattle.apply_cli.specs.Status.{refusal_status_of, unfinished}
+use Rattle.apply_cli.specs.Status.{refusal_status_of}
 use Rattle.apply_cli.specs.Unmatched.{AreReported, unmatched_of}
-use Rattle.apply_cli.proofs.Front.{too_large}
+use Rattle.apply_cli.proofs.Readings.{IsSound, not_large}
 use Rattle.apply_cli.proofs.Fronts.{HasFrontBy, front_of_failed, front_of_streamed, whole_unchanged}
 
 -- what one worker reports
@@ -44,53 +36,12 @@ alone : (schedule : Schedule) (work : Work) (events : List Event) → OneWorkerI
 alone (ByWorkers workers capacity) work events in_order run one = in_order work run.lists events (subst (λ n. IsApplied work n run.lists events) one run.applied)
 alone (InLanes lanes) work events in_order run one = absurd one
 
--- in the default form a stream reports an error if and only if a step failed or was halted
-status_by : (contains : Bool) (n status : ℕ) → contains ≡ (nat_lt 0 n || false) → (status ≡ 1) ↔ IsTrue contains → (status ≡ 1) ↔ (0 < n)
-status_by contains zero status is status_is = ((λ e. let no = sym is ∙ status_is.0 e in absurd cc), (λ l. absurd (omega arith)))
-status_by contains (suc n) status is status_is =
-    ((λ _. omega arith), (λ _. status_is.1 (is ∙ ap (λ b. b || false) (lt-ltb 0 (suc n) (omega arith)))))
-
-status_for : (form : Form) (read : ReadFor form) (counts : Counts) (contains : Bool) (status : ℕ) → contains ≡ contains_error (applied_for form read).extras.notes counts
-    → (status ≡ 1) ↔ IsTrue contains → (status ≡ 1) ↔ ReportsError form read counts
-status_for Applystream read counts contains status is status_is = status_by contains (unfinished counts) status is status_is
-status_for Terraform read counts contains status is status_is = subst (λ (b : Bool). (status ≡ 1) ↔ IsTrue b) is status_is
-
--- what was read is a plan
-pub plan_read : (form : Form) (given : Inputs) (read : ReadFor form) → IsReadFor form given read → (plan : SavedPlan) × (plan_of given.plan ≡ Ok plan)
-plan_read Applystream given read is = (read.plan, is.plan_is)
-plan_read Terraform given read is = (read.plan, is.plan_is)
-
--- and has not too many bytes
-not_large : {P : Type 0} (form : Form) (given : Inputs) (read : ReadFor form) → IsReadFor form given read → max_bytes < length given.plan → P
-not_large form given read is long = let refused = too_large given.plan long in let plan = plan_read form given read is in let known = plan.1 in absurd cc
-
-plan_large : (given : Inputs) (r : PlanError) → ((r ≡ plan_error.Memory) × (length given.plan ≤ max_bytes)) ⊎ (plan_of given.plan ≡ Err r) → max_bytes < length given.plan → refusal_status_of (refusal.Plan r) ≡ 2
-plan_large given r h long =
-    let refused = too_large given.plan long in
-    ⊎_elim
-    (λ (m : (r ≡ plan_error.Memory) × (length given.plan ≤ max_bytes)). let short = m.1 in absurd (omega arith))
-    (λ (is : plan_of given.plan ≡ Err r). let same : r ≡ plan_error.TooLarge = let both = sym is ∙ refused in cc in ap (λ (e : PlanError). refusal_status_of (refusal.Plan e)) same)
-    h
-
--- too many bytes are not read, with 2
-unread_large : (form : Form) (given : Inputs) (r : Refusal) → IsUnreadFor form given r → max_bytes < length given.plan → refusal_status_of r ≡ 2
-unread_large Applystream given (refusal.Plan r) h long = plan_large given r h long
-unread_large Applystream given (refusal.Script r) h long = let refused = too_large given.plan long in let read = h.1 in absurd cc
-unread_large Applystream given refusal.Waits h long = absurd h
-unread_large Applystream given refusal.Size h long = absurd h
-unread_large Applystream given (refusal.Fault fault) h long = absurd h
-unread_large Terraform given (refusal.Plan r) h long = plan_large given r h long
-unread_large Terraform given (refusal.Script r) h long = let refused = too_large given.plan long in let read = h.1 in absurd cc
-unread_large Terraform given refusal.Waits h long = absurd h
-unread_large Terraform given refusal.Size h long = absurd h
-unread_large Terraform given (refusal.Fault fault) h long = absurd h
-
-module _ (schedule : Schedule) (form : Form) (given : Inputs) (start : ℕ) (operation : Operation) where
+module _ (schedule : Schedule) (reading : Reading) (sound : IsSound reading) (given : Inputs) (start : ℕ) (operation : Operation) where
   -- the whole stream was written, and a flush left it unchanged
   applied_unchanged : OneWorkerInOrder → (report : FormReport) (before after after' : SinkState) (status : ℕ) → Keeps after.bytes after'.bytes → after'.failed ≡ after.failed → (status ≡ 1) ↔ IsTrue report.contains_error
-      → WasReportedBy schedule form given start operation report before after → HasAppliedBy schedule form given start operation before after' status
+      → WasReportedOf schedule reading given start operation report before after → HasAppliedOf schedule reading given start operation before after' status
   applied_unchanged in_order report before after after' status unchanged failed is h =
-      let run = h.applied in let stream = form_for form run.read start operation in
+      let run = h.applied in let stream = reading.form run.read start operation in
       record {
         report = report.run;
         applied = record {
@@ -104,31 +55,31 @@ module _ (schedule : Schedule) (form : Form) (given : Inputs) (start : ℕ) (ope
           };
           keeps = run.keeps;
         };
-        alone = alone schedule (work_for form given run.read) run.streamed.events in_order run.streamed.run;
-        status_is = status_for form run.read report.run.counts report.contains_error status h.error is;
+        alone = alone schedule (reading.work given run.read) run.streamed.events in_order run.streamed.run;
+        status_is = sound.status run.read report.run.counts report.contains_error status h.error is;
       }
 
-  begun : (before after : SinkState) (read : ReadFor form) → IsReadFor form given read
-      → HasFrontBy schedule (form_for form read start operation) (work_for form given read) before after → HasBegunBy schedule form given start operation before after
+  begun : (before after : SinkState) (read : reading.Read) → reading.IsRead given read
+      → HasFrontBy schedule (reading.form read start operation) (reading.work given read) before after → HasBegunOf schedule reading given start operation before after
   begun before after read is h = record { read = read; is_read = is; events = h.events; part = h.part; front = h.front; appended = h.appended }
 
   -- the whole stream was written, and then a flush failed
-  begun_of_applied : (report : FormReport) (before after after' : SinkState) → Keeps after.bytes after'.bytes → after.failed < after'.failed → WasReportedBy schedule form given start operation report before after → HasBegunBy schedule form given start operation before after'
+  begun_of_applied : (report : FormReport) (before after after' : SinkState) → Keeps after.bytes after'.bytes → after.failed < after'.failed → WasReportedOf schedule reading given start operation report before after → HasBegunOf schedule reading given start operation before after'
   begun_of_applied report before after after' unchanged flushed h =
       let run = h.applied in
       begun before after' run.read run.is_read
-      (front_of_streamed schedule (form_for form run.read start operation) (work_for form given run.read) report.run before after after' unchanged flushed run.streamed)
+      (front_of_streamed schedule (reading.form run.read start operation) (reading.work given run.read) report.run before after after' unchanged flushed run.streamed)
 
-  begun_of_fault : (cause : Why) (report : Report) (before after after' : SinkState) (read : ReadFor form) → Keeps after.bytes after'.bytes → after.failed ≤ after'.failed → IsReadFor form given read
-      → HasFailedBy cause schedule (form_for form read start operation) (work_for form given read) report before after → Keeps before.bytes after'.bytes ⊎ HasBegunBy schedule form given start operation before after'
+  begun_of_fault : (cause : Why) (report : Report) (before after after' : SinkState) (read : reading.Read) → Keeps after.bytes after'.bytes → after.failed ≤ after'.failed → reading.IsRead given read
+      → HasFailedBy cause schedule (reading.form read start operation) (reading.work given read) report before after → Keeps before.bytes after'.bytes ⊎ HasBegunOf schedule reading given start operation before after'
   begun_of_fault cause report before after after' read unchanged more is h =
       ⊎_elim
       (λ same. inl same)
-      (λ (front : HasFrontBy schedule (form_for form read start operation) (work_for form given read) before after'). inr (begun before after' read is front))
-      (front_of_failed schedule (form_for form read start operation) (work_for form given read) report before after after' cause unchanged more h)
+      (λ (front : HasFrontBy schedule (reading.form read start operation) (reading.work given read) before after'). inr (begun before after' read is front))
+      (front_of_failed schedule (reading.form read start operation) (reading.work given read) report before after after' cause unchanged more h)
 
   -- the output is as it was, or grew by a front of the stream
-  begun_of_refused : (r : Refusal) (before after after' : SinkState) → Keeps after.bytes after'.bytes → after.failed ≤ after'.failed → WasRefusedBy schedule form given start operation r before after → Keeps before.bytes after'.bytes ⊎ HasBegunBy schedule form given start operation before after'
+  begun_of_refused : (r : Refusal) (before after after' : SinkState) → Keeps after.bytes after'.bytes → after.failed ≤ after'.failed → WasRefusedOf schedule reading given start operation r before after → Keeps before.bytes after'.bytes ⊎ HasBegunOf schedule reading given start operation before after'
   begun_of_refused (refusal.Plan r) before after after' unchanged more h = inl (subst (λ s. Keeps s.bytes after'.bytes) h.1 unchanged)
   begun_of_refused (refusal.Script r) before after after' unchanged more h = inl (subst (λ s. Keeps s.bytes after'.bytes) h.1 unchanged)
   begun_of_refused refusal.Waits before after after' unchanged more h = inl (subst (λ s. Keeps s.bytes after'.bytes) h.3 unchanged)
@@ -136,7 +87,7 @@ module _ (schedule : Schedule) (form : Form) (given : Inputs) (start : ℕ) (ope
   begun_of_refused (refusal.Fault fault) before after after' unchanged more h = begun_of_fault fault.why fault.report before after after' h.0 unchanged more h.1 h.3
 
   -- with 2 the output is as it was
-  unchanged_of_refused : (r : Refusal) (before after : SinkState) → refusal_status_of r ≡ 2 → WasRefusedBy schedule form given start operation r before after → Keeps before.bytes after.bytes
+  unchanged_of_refused : (r : Refusal) (before after : SinkState) → refusal_status_of r ≡ 2 → WasRefusedOf schedule reading given start operation r before after → Keeps before.bytes after.bytes
   unchanged_of_refused (refusal.Plan r) before after is h = subst (λ s. Keeps s.bytes after.bytes) h.1 (Keeps-refl after.bytes)
   unchanged_of_refused (refusal.Script r) before after is h = subst (λ s. Keeps s.bytes after.bytes) h.1 (Keeps-refl after.bytes)
   unchanged_of_refused refusal.Waits before after is h = subst (λ s. Keeps s.bytes after.bytes) h.3 (Keeps-refl after.bytes)
@@ -144,12 +95,12 @@ module _ (schedule : Schedule) (form : Form) (given : Inputs) (start : ℕ) (ope
   unchanged_of_refused (refusal.Fault fault) before after is h = absurd (omega arith)
 
   -- too many bytes are refused with 2
-  refused_large : (r : Refusal) (before after : SinkState) → WasRefusedBy schedule form given start operation r before after → max_bytes < length given.plan → refusal_status_of r ≡ 2
-  refused_large (refusal.Plan r) before after h long = unread_large form given (refusal.Plan r) h.0 long
-  refused_large (refusal.Script r) before after h long = unread_large form given (refusal.Script r) h.0 long
-  refused_large refusal.Waits before after h long = not_large form given h.0 h.1 long
-  refused_large refusal.Size before after h long = not_large form given h.0 h.1 long
-  refused_large (refusal.Fault fault) before after h long = not_large form given h.0 h.1 long
+  refused_large : (r : Refusal) (before after : SinkState) → WasRefusedOf schedule reading given start operation r before after → max_bytes < length given.plan → refusal_status_of r ≡ 2
+  refused_large (refusal.Plan r) before after h long = sound.unread_large given (refusal.Plan r) h.0 long
+  refused_large (refusal.Script r) before after h long = sound.unread_large given (refusal.Script r) h.0 long
+  refused_large refusal.Waits before after h long = not_large reading sound given h.0 h.1 long
+  refused_large refusal.Size before after h long = not_large reading sound given h.0 h.1 long
+  refused_large (refusal.Fault fault) before after h long = not_large reading sound given h.0 h.1 long
 
 -- what is so of an Ok or an Err is so of the value in it
 pub at_ok : {A E : Type 0} → (r : Result A E) (x : A) (P : A → Type 0) → r ≡ Ok x → IfOk r P → P x
@@ -160,50 +111,50 @@ at_err r e P is h = subst (λ s. IfErr s P) is h
 
 -- ---- with each status
 
-module _ (given : Inputs) (settings : Settings) (parallelism : Option ℕ) (form : Form) (before after after' : SinkState) (faults faults' : Option (List ℕ)) where
+module _ (given : Inputs) (settings : Settings) (parallelism : Option ℕ) (reading : Reading) (sound : IsSound reading) (before after after' : SinkState) (faults faults' : Option (List ℕ)) where
   -- the whole stream was written and flushed
-  pub ended_whole : (report : FormReport) (status : ℕ) → WasReportedBy (schedule_of settings parallelism) form given settings.at settings.operation report before after
+  pub ended_whole : (report : FormReport) (status : ℕ) → WasReportedOf (schedule_of settings parallelism) reading given settings.at settings.operation report before after
       → OneWorkerInOrder → Keeps after.bytes after'.bytes → after'.failed ≡ after.failed
       → (status ≡ 1) ↔ IsTrue report.contains_error → status ≤ 1 → AreReported (unmatched_of given.plan settings.halts.items) faults faults'
-      → HasEnded given settings parallelism form before after' faults faults' status
+      → HasEnded given settings parallelism reading before after' faults faults' status
   unfolding HasAppliedAsAsked
   ended_whole report status h in_order unchanged failed is good reported = record {
-    applied = λ _. applied_unchanged (schedule_of settings parallelism) form given settings.at settings.operation in_order report before after after' status unchanged failed is h;
+    applied = λ _. applied_unchanged (schedule_of settings parallelism) reading sound given settings.at settings.operation in_order report before after after' status unchanged failed is h;
     refused = λ bad. absurd (omega (arith, good, bad));
     unchanged = λ bad. absurd (omega (arith, good, bad));
     cut_off = λ bad. absurd (omega (arith, good, bad));
-    large = λ long. not_large form given h.applied.read h.applied.is_read long;
+    large = λ long. not_large reading sound given h.applied.read h.applied.is_read long;
     reported = λ _. reported;
     statuses = omega (arith, good);
   }
 
   -- it was written, and the flush failed
-  pub ended_unflushed : (report : FormReport) → WasReportedBy (schedule_of settings parallelism) form given settings.at settings.operation report before after
-      → Keeps after.bytes after'.bytes → after.failed < after'.failed → HasEnded given settings parallelism form before after' faults faults' 3
+  pub ended_unflushed : (report : FormReport) → WasReportedOf (schedule_of settings parallelism) reading given settings.at settings.operation report before after
+      → Keeps after.bytes after'.bytes → after.failed < after'.failed → HasEnded given settings parallelism reading before after' faults faults' 3
   unfolding HasBegunAsAsked
   ended_unflushed report h unchanged flushed = record {
     applied = λ good. absurd (omega (arith, good));
     refused = λ bad. absurd (omega (arith, bad));
     unchanged = λ bad. absurd (omega (arith, bad));
-    cut_off = λ _. inr (begun_of_applied (schedule_of settings parallelism) form given settings.at settings.operation report before after after' unchanged flushed h);
-    large = λ long. not_large form given h.applied.read h.applied.is_read long;
+    cut_off = λ _. inr (begun_of_applied (schedule_of settings parallelism) reading sound given settings.at settings.operation report before after after' unchanged flushed h);
+    large = λ long. not_large reading sound given h.applied.read h.applied.is_read long;
     reported = λ good. absurd (omega (arith, good));
     statuses = omega arith;
   }
 
   -- the inputs were refused, or the run failed; only then the output was flushed
-  pub ended_refused : (r : Refusal) (status : ℕ) → WasRefusedBy (schedule_of settings parallelism) form given settings.at settings.operation r before after
+  pub ended_refused : (r : Refusal) (status : ℕ) → WasRefusedOf (schedule_of settings parallelism) reading given settings.at settings.operation r before after
       → status ≡ refusal_status_of r → (2 ≤ status) × (status ≤ 3) → (status ≡ 2 → after' ≡ after) → Keeps after.bytes after'.bytes → after.failed ≤ after'.failed
-      → HasEnded given settings parallelism form before after' faults faults' status
+      → HasEnded given settings parallelism reading before after' faults faults' status
   unfolding HasBegunAsAsked
   ended_refused r status h is bad same unchanged more =
       let schedule = schedule_of settings parallelism in let start = settings.at in let operation = settings.operation in
       record {
         applied = λ good. absurd (omega (arith, bad.0, good));
-        refused = λ two. (r, sym is ∙ two, subst (λ (s : SinkState). WasRefusedBy schedule form given start operation r before s) (sym (same two)) h);
-        unchanged = λ two. subst (λ (s : SinkState). Keeps before.bytes s.bytes) (sym (same two)) (unchanged_of_refused schedule form given start operation r before after (sym is ∙ two) h);
-        cut_off = λ _. begun_of_refused schedule form given start operation r before after after' unchanged more h;
-        large = λ long. is ∙ refused_large schedule form given start operation r before after h long;
+        refused = λ two. (r, sym is ∙ two, subst (λ (s : SinkState). WasRefusedOf schedule reading given start operation r before s) (sym (same two)) h);
+        unchanged = λ two. subst (λ (s : SinkState). Keeps before.bytes s.bytes) (sym (same two)) (unchanged_of_refused schedule reading sound given start operation r before after (sym is ∙ two) h);
+        cut_off = λ _. begun_of_refused schedule reading sound given start operation r before after after' unchanged more h;
+        large = λ long. is ∙ refused_large schedule reading sound given start operation r before after h long;
         reported = λ good. absurd (omega (arith, bad.0, good));
         statuses = bad.1;
       }

@@ -3,6 +3,7 @@ mod Followed
 mod Front
 mod Fronts
 mod Prefixes
+mod Readings
 mod Reports
 mod ScriptFile
 mod Statuses

@@ -1,47 +1,30 @@
 -- From the bytes that were read of a script's file to all of the file.
-use Rattle.std.proofs.Common.{◌≡◌, ℕ, ◌+◌, ◌<◌, ◌≤◌, inl, inr, ⊎_elim, List, length, take, true, nat_lt, Option, None, Some, IfSome, Ok, Err, ap, ◌∙◌, refl, subst, sym, take_all}
+use Rattle.std.proofs.Common.{◌≡◌, ℕ, ◌+◌, ◌≤◌, inl, inr, ⊎_elim, List, length, take, Option, None, Some, IfSome, ap, ◌∙◌, refl, subst, sym, take_all}
 use Rattle.std.specs.Io.KnownBytes.{Keeps}
-use Rattle.std.proofs.lemmas.Bool.{cases_lt, lt-ltb}
-use Rattle.apply_plan.specs.declared.script.script_error.ScriptError.TheVariants.{TooLarge}
 use Rattle.apply_plan.specs.Bytes.{max_bytes}
-use Rattle.apply_plan.specs.Plan.SavedPlan.{SavedPlan}
-use Rattle.apply_plan.specs.Script.OutcomeMap.{OutcomeMap, script_of}
 use Rattle.apply_hooks.specs.declared.rule.Rule.{Rule}
-use Rattle.apply_text_terraform.specs.declared.form.Form.{Form}
-use Rattle.apply_text_terraform.specs.declared.form.Form.TheVariants.{Applystream, Terraform}
-use Rattle.apply_run.specs.Bytes.{Inputs, given_script}
-use Rattle.apply_run.specs.FromBytes.{IsReadFor, ReadFor}
+use Rattle.apply_run.specs.Bytes.{Inputs}
+use Rattle.apply_run.specs.FromBytes.{Reading}
 use Rattle.apply_run.specs.Run.{SinkState}
 use Rattle.apply_cli_args.specs.Halt.{hooks_of_halts}
 use Rattle.apply_cli_args.specs.declared.invocation.Invocation.{Invocation}
 use Rattle.apply_cli_args.specs.declared.settings.Settings.{Settings}
 use Rattle.apply_cli.specs.Command.{AreOfName, IsFrontOfFile, OfFile, OfInput}
 use Rattle.apply_cli.specs.Ended.{HasEndedOn}
-use Rattle.apply_cli.specs.Invocation.{HasAppliedAsAsked, HasBegunAsAsked, WasFollowed, WasFollowedInPart, given_of}
+use Rattle.apply_cli.specs.Invocation.{HasAppliedAsAsked, HasBegunAsAsked, WasFollowed, WasFollowedInPart, given_of, reading_for}
 use Rattle.apply_cli.proofs.Front.{whole_by}
-
-too_large : (plan : SavedPlan) (bytes : List ℕ) → max_bytes < length bytes → script_of plan bytes ≡ Err TooLarge
-unfolding script_of
-too_large plan bytes long = let more : nat_lt max_bytes (length bytes) ≡ true = lt-ltb _ _ long in rw more refl
-
-small : (plan : SavedPlan) (script : OutcomeMap) (bytes : List ℕ) → script_of plan bytes ≡ Ok script → length bytes ≤ max_bytes
-small plan script bytes is =
-    ⊎_elim (λ (long : max_bytes < length bytes). let refused = too_large plan bytes long in absurd cc) (λ (short : length bytes ≤ max_bytes). short) (cases_lt max_bytes (length bytes))
-
-read_fits : (form : Form) (given : Inputs) (bytes : List ℕ) (read : ReadFor form) → given.script ≡ Some bytes → IsReadFor form given read → length bytes ≤ max_bytes
-read_fits Applystream given bytes read is h = small read.plan read.script bytes (subst (λ s. given_script read.plan s ≡ Ok read.script) is h.script_is)
-read_fits Terraform given bytes read is h = small read.plan read.script bytes (subst (λ s. given_script read.plan s ≡ Ok read.script) is h.script_is)
+use Rattle.apply_cli.proofs.Readings.{IsSound, sound_for}
 
 -- where a script was applied, or a part of it, there are not too many bytes
-applied_fits : (given : Inputs) (bytes : List ℕ) (settings : Settings) (parallelism : Option ℕ) (form : Form) (before after : SinkState) (status : ℕ)
-    → given.script ≡ Some bytes → HasAppliedAsAsked given settings parallelism form before after status → length bytes ≤ max_bytes
+applied_fits : (given : Inputs) (bytes : List ℕ) (settings : Settings) (parallelism : Option ℕ) (reading : Reading) (sound : IsSound reading) (before after : SinkState) (status : ℕ)
+    → given.script ≡ Some bytes → HasAppliedAsAsked given settings parallelism reading before after status → length bytes ≤ max_bytes
 unfolding HasAppliedAsAsked
-applied_fits given bytes settings parallelism form before after status is h = read_fits form given bytes h.applied.read is h.applied.is_read
+applied_fits given bytes settings parallelism reading sound before after status is h = sound.script_fits given bytes h.applied.read is h.applied.is_read
 
-begun_fits : (given : Inputs) (bytes : List ℕ) (settings : Settings) (parallelism : Option ℕ) (form : Form) (before after : SinkState)
-    → given.script ≡ Some bytes → HasBegunAsAsked given settings parallelism form before after → length bytes ≤ max_bytes
+begun_fits : (given : Inputs) (bytes : List ℕ) (settings : Settings) (parallelism : Option ℕ) (reading : Reading) (sound : IsSound reading) (before after : SinkState)
+    → given.script ≡ Some bytes → HasBegunAsAsked given settings parallelism reading before after → length bytes ≤ max_bytes
 unfolding HasBegunAsAsked
-begun_fits given bytes settings parallelism form before after is h = read_fits form given bytes h.read is h.is_read
+begun_fits given bytes settings parallelism reading sound before after is h = sound.script_fits given bytes h.read is h.is_read
 
 -- so nothing of the file was left
 whole_file : (known : Option (List ℕ)) (bytes : List ℕ) → length bytes ≤ max_bytes
@@ -64,17 +47,19 @@ pub ended_as_asked : {File : Type 0} (remaining : File → Option (List ℕ)) (i
     (parallelism : Option ℕ) (before after : SinkState) (faults silent faults' : Option (List ℕ)) (status : ℕ)
     → AreOfName (IsFrontOfFile remaining) invocation.settings.script read → script ≡ read
     → hooks ≡ hooks_of_halts (take n invocation.settings.halts.items) → length invocation.settings.halts.items ≤ n → invocation.parallelism ≡ parallelism → silent ≡ faults
-    → HasEndedOn input (λ plan. HasAppliedAsAsked (record { plan = plan; script = script; hooks = hooks }) invocation.settings parallelism invocation.form before after status)
-    (λ plan. HasBegunAsAsked (record { plan = plan; script = script; hooks = hooks }) invocation.settings parallelism invocation.form before after)
+    → HasEndedOn input (λ plan. HasAppliedAsAsked (record { plan = plan; script = script; hooks = hooks }) invocation.settings parallelism (reading_for invocation.form invocation.command invocation.refresh parallelism) before after status)
+    (λ plan. HasBegunAsAsked (record { plan = plan; script = script; hooks = hooks }) invocation.settings parallelism (reading_for invocation.form invocation.command invocation.refresh parallelism) before after)
     invocation.settings.halts.items before after silent faults' status
     → HasEndedOn input (WasFollowed remaining invocation before after status) (WasFollowedInPart remaining invocation before after)
     invocation.settings.halts.items before after faults faults' status
 ended_as_asked remaining invocation input script read hooks n parallelism before after faults silent faults' status are script_is hooks_are all parallelism_is silent_is h =
-    let settings = invocation.settings in let form = invocation.form in
+    let settings = invocation.settings in
+    let reading : Option ℕ → Reading = reading_for invocation.form invocation.command invocation.refresh in
+    let sound = sound_for invocation.form invocation.command invocation.refresh invocation.parallelism in
     let done : List (List Rule) → Option ℕ → Option (List ℕ) → List ℕ → Type 0 =
-    λ hooks lanes bytes plan. HasAppliedAsAsked (record { plan = plan; script = bytes; hooks = hooks }) settings lanes form before after status in
+    λ hooks lanes bytes plan. HasAppliedAsAsked (record { plan = plan; script = bytes; hooks = hooks }) settings lanes (reading lanes) before after status in
     let begun : List (List Rule) → Option ℕ → Option (List ℕ) → List ℕ → Type 0 =
-    λ hooks lanes bytes plan. HasBegunAsAsked (record { plan = plan; script = bytes; hooks = hooks }) settings lanes form before after in
+    λ hooks lanes bytes plan. HasBegunAsAsked (record { plan = plan; script = bytes; hooks = hooks }) settings lanes (reading lanes) before after in
     let halts = hooks_of_halts settings.halts.items in let asked = invocation.parallelism in
     let ended : List (List Rule) → Option ℕ → Option (List ℕ) → Option (List ℕ) → Type 0 =
     λ hooks lanes bytes start. HasEndedOn input (done hooks lanes bytes) (begun hooks lanes bytes) settings.halts.items before after start faults' status in
@@ -85,7 +70,7 @@ ended_as_asked remaining invocation input script read hooks n parallelism before
       applied = λ good. let run = ended.applied good in (
         run.0,
         of_file remaining settings.script read (λ bytes. done halts asked bytes run.0)
-            (λ bytes whole. applied_fits (given_of settings run.0 (Some bytes)) bytes settings asked form before after status refl whole) are run.1,
+            (λ bytes whole. applied_fits (given_of settings run.0 (Some bytes)) bytes settings asked (reading asked) sound before after status refl whole) are run.1,
         run.2,
       );
       refused = ended.refused;
@@ -94,7 +79,7 @@ ended_as_asked remaining invocation input script read hooks n parallelism before
           (λ (run : OfInput input (begun halts asked read)). inr (
             run.0,
             of_file remaining settings.script read (λ bytes. begun halts asked bytes run.0)
-                (λ bytes part. begun_fits (given_of settings run.0 (Some bytes)) bytes settings asked form before after refl part) are run.1,
+                (λ bytes part. begun_fits (given_of settings run.0 (Some bytes)) bytes settings asked (reading asked) sound before after refl part) are run.1,
             run.2,
           ))
           (ended.cut_off bad);

@@ -1,58 +1,49 @@
 -- How the main command ends.
-use Rattle.std.specs.Prelude.{◌≡◌, ◌<◌, ◌+◌, ◌↔◌, ◌⊎◌, ℕ, IsTrue, List, Option, None, Some, IfSome, length, take, ⊤}
+use Rattle.std.specs.Prelude.{◌≡◌, ◌<◌, ◌+◌, ◌↔◌, ◌⊎◌, ℕ, List, Option, None, Some, IfSome, length, take, ⊤}
 use Rattle.std.specs.List.{range_with_len}
 use Rattle.std.specs.Io.KnownBytes.{Appends}
 use mathlib.Core.List.{IsPrefix}
 use Rattle.apply_plan.specs.Bytes.{max_bytes}
-use Rattle.apply_events.specs.declared.counts.Counts.{Counts}
 use Rattle.apply_events.specs.declared.event.Event.{Event}
 use Rattle.apply_events.specs.Step.{Work}
 use Rattle.apply_events.specs.WorkerEvents.{worker_events}
 use Rattle.apply_text.specs.declared.operation.Operation.{Operation}
 use Rattle.apply_text.specs.Order.{as_written, hook_messages_of}
 use Rattle.apply_text_terraform.specs.declared.form.Form.{Form}
-use Rattle.apply_text_terraform.specs.declared.form.Form.TheVariants.{Applystream, Terraform}
+use Rattle.apply_text_terraform.specs.declared.form.Form.TheVariants.{Applystream}
 use Rattle.apply_run.specs.declared.options.Options.{Options}
 use Rattle.apply_run.specs.declared.refusal.Refusal.{Refusal}
 use Rattle.apply_run.specs.Bytes.{Inputs}
-use Rattle.apply_run.specs.FromBytes.{IsReadFor, ReadFor, WasAppliedBy, WasRefusedBy, form_for, work_for}
+use Rattle.apply_run.specs.FromBytes.{Reading, WasAppliedOf, WasRefusedOf, reading_of}
 use Rattle.apply_run.specs.InForm.{WasApplied}
-use Rattle.apply_run.specs.Read.{extras_of}
 use Rattle.apply_run.specs.Run.{SinkState, by_workers}
 use Rattle.apply_run.specs.Schedule.{ByWorkers, InLanes, IsPartOf, IsRunOf, Schedule}
 use Rattle.apply_writer.specs.declared.report.Report.{Report}
 use Rattle.apply_writer.specs.Sinks.{OverWriter}
 use Rattle.apply_writer.specs.Stream.Form.{StreamForm, lines_in, stream_in}
-use Rattle.apply_writer.specs.Stream.Terraform.{contains_error}
 use Rattle.apply_cli.specs.Status.{refusal_status_of, unfinished}
 
 -- the output as the run sees it, from what the writer reveals
 abbrev pub sink_state : {W : Type 0} → (contents : W → Option (List ℕ)) → OverWriter W → SinkState
 sink_state contents output = record { bytes = contents output.writer; failed = output.failures }
 
--- ---- in each form, with each schedule
+-- ---- of each reading, with each schedule
 
 -- one worker applies all changes in the plan's order, so its events are known
 abbrev pub IsAlone : Schedule → Type 0
 IsAlone (ByWorkers workers capacity) = workers ≡ 1
 IsAlone (InLanes lanes) = ⊥
 
--- the stream reports an error: a step failed or was halted; in Terraform's form, also a diagnostic
--- of no step
-abbrev pub ReportsError : (form : Form) → ReadFor form → Counts → Type 0
-ReportsError Applystream read counts = 0 < unfinished counts
-ReportsError Terraform read counts = IsTrue (contains_error (extras_of read).notes counts)
-
 -- the inputs were applied, the whole stream was written after the bytes that the output had, and
 -- the status is 1 if and only if the stream reports an error
-pub record HasAppliedBy (schedule : Schedule) (form : Form) (given : Inputs) (start : ℕ) (operation : Operation)
+pub record HasAppliedOf (schedule : Schedule) (reading : Reading) (given : Inputs) (start : ℕ) (operation : Operation)
     (before after : SinkState) (status : ℕ) : Type 0 where
   pub report : Report
-  pub applied : WasAppliedBy schedule form given start operation report before after
+  pub applied : WasAppliedOf schedule reading given start operation report before after
   pub alone : IsAlone schedule
-      → applied.streamed.events ≡ worker_events (work_for form given applied.read) 0
-      (range_with_len 0 (length (work_for form given applied.read).plan.changes))
-  pub status_is : (status ≡ 1) ↔ ReportsError form applied.read report.counts
+      → applied.streamed.events ≡ worker_events (reading.work given applied.read) 0
+      (range_with_len 0 (length (reading.work given applied.read).plan.changes))
+  pub status_is : (status ≡ 1) ↔ reading.ReportsError applied.read report.counts
 
 -- these bytes are a prefix of the stream of all events; they include the tail only if a write or a
 -- flush has failed since. Or they are a prefix of the lines of the hook messages of a part of them
@@ -66,20 +57,29 @@ IsFrontBy schedule form work before after events part =
 -- bytes that the output had. A summary may stand in that prefix only if everything was applied and
 -- a write or a flush has failed since; then it is the summary of everything. If memory was refused,
 -- there is no summary. A refused thread is no such beginning: then the output is unchanged
-pub record HasBegunBy (schedule : Schedule) (form : Form) (given : Inputs) (start : ℕ) (operation : Operation)
+pub record HasBegunOf (schedule : Schedule) (reading : Reading) (given : Inputs) (start : ℕ) (operation : Operation)
     (before after : SinkState) : Type 0 where
-  pub read : ReadFor form
-  pub is_read : IsReadFor form given read
+  pub read : reading.Read
+  pub is_read : reading.IsRead given read
   pub events : List Event
   pub part : List ℕ
-  pub front : IsFrontBy schedule (form_for form read start operation) (work_for form given read) before after events part
+  pub front : IsFrontBy schedule (reading.form read start operation) (reading.work given read) before after events part
   pub appended : Appends before.bytes after.bytes part
 
 -- the inputs were refused, with status 2: the plan, the script, what it states for the form or the
 -- schedule, or the sizes
-abbrev pub HasRefusedBy : Schedule → Form → Inputs → (start : ℕ) → Operation → (before after : SinkState) → Type 0
-HasRefusedBy schedule form given start operation before after =
-    (refusal : Refusal) × (refusal_status_of refusal ≡ 2) × WasRefusedBy schedule form given start operation refusal before after
+abbrev pub HasRefusedOf : Schedule → Reading → Inputs → (start : ℕ) → Operation → (before after : SinkState) → Type 0
+HasRefusedOf schedule reading given start operation before after =
+    (refusal : Refusal) × (refusal_status_of refusal ≡ 2) × WasRefusedOf schedule reading given start operation refusal before after
+
+-- ---- of a saved plan, in each form
+
+abbrev pub HasAppliedBy : Schedule → Form → Inputs → (start : ℕ) → Operation → (before after : SinkState) → (status : ℕ) → Type 0
+HasAppliedBy schedule form given start operation before after status =
+    HasAppliedOf schedule (reading_of form) given start operation before after status
+
+abbrev pub HasBegunBy : Schedule → Form → Inputs → (start : ℕ) → Operation → (before after : SinkState) → Type 0
+HasBegunBy schedule form given start operation before after = HasBegunOf schedule (reading_of form) given start operation before after
 
 -- ---- with workers, in the default form
 

@@ -56,6 +56,7 @@ script_status_of (script.NeverBegins n) = 2
 script_status_of (script.BadOutput n) = 2
 script_status_of (script.UnknownOutput n) = 2
 script_status_of (script.BadDiagnostic n) = 2
+script_status_of (script.Planning error) = 2
 script_status_of script.Memory = 3
 
 abbrev pub refusal_status_of : Refusal → ℕ
@@ -74,6 +75,7 @@ usage_status_of (usage.Help text) = 0
 usage_status_of usage.Version = 0
 usage_status_of (usage.Words text) = 2
 usage_status_of usage.Conflict = 2
+usage_status_of (usage.Misplaced misplaced) = 2
 usage_status_of usage.Clock = 3
 usage_status_of (usage.Moment error) = 2
 usage_status_of usage.Hooks = 2

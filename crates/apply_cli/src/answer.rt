@@ -42,6 +42,10 @@ pub fn answer_usage<W: Write, E: Write>(usage: &Usage, out: &mut W, faults: &mut
             );
             REFUSED
         }
+        Usage::Misplaced(misplaced) => {
+            report(faults, *misplaced);
+            REFUSED
+        }
         Usage::Clock => {
             report(faults, "the clock could not be read");
             FAILED

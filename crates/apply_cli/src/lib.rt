@@ -17,7 +17,9 @@ mod unmatched;
 mod version;
 
 pub use answer::answer_usage;
-pub use apply_cli_args::{Halt, Invocation, Settings, Usage, VERSION, read_invocation, read_words};
+pub use apply_cli_args::{
+    Halt, Invocation, Misplaced, Settings, Usage, VERSION, read_invocation, read_words,
+};
 pub use input::read_all;
 pub use input_fault::InputFault;
 pub use job::Job;

@@ -5,12 +5,12 @@ ghost use Rattle.std.specs.Io.KnownBytes.{Keeps};
 ghost use Rattle.std.specs.Option.{option_copied};
 ghost use Rattle.apply_hooks.specs.Registry.{rules_of};
 ghost use Rattle.apply_run.specs.Bytes.{Inputs};
-ghost use Rattle.apply_run.specs.FromBytes.{WasRefusedBy, WasReportedBy};
+ghost use Rattle.apply_run.specs.FromBytes.{WasRefusedOf, WasReportedOf};
 ghost use Rattle.apply_run.specs.Run.{SinkState};
 ghost use Rattle.apply_run.specs.Schedule.{InLanes};
 ghost use Rattle.apply_cli.specs.Command.{AreOfName, HasApplied, HasAppliedBy, HasBegun, HasBegunBy, IsFrontOfFile, OfInput, sink_state};
 ghost use Rattle.apply_cli.specs.Ended.{HasEnded, HasEndedOn};
-ghost use Rattle.apply_cli.specs.Invocation.{HasAppliedAsAsked, HasBegunAsAsked, schedule_of, unfailed, WasFollowed, WasFollowedInPart, WereApplied, WereBegun};
+ghost use Rattle.apply_cli.specs.Invocation.{HasAppliedAsAsked, HasBegunAsAsked, job_reading, schedule_of, unfailed, WasFollowed, WasFollowedInPart, WereApplied, WereBegun};
 ghost use Rattle.apply_cli.specs.Options.{options_of};
 ghost use Rattle.apply_cli.specs.Status.{input_status_of, usage_status_of};
 ghost use Rattle.apply_cli.specs.Unmatched.{AreAllMatched, AreReported, unmatched_of, WereReported};
@@ -28,13 +28,14 @@ use crate::status::{FAILED, input_status, refusal_status, run_status};
 use crate::unmatched::report_unmatched;
 use crate::version::{answer_version, ask_for_version};
 use apply_cli_args::{Halt, Invocation, Settings, Usage, read_invocation};
+use apply_command::{apply_planned, apply_planned_in_lanes};
 use apply_hooks::{FnHook, Hook, HookCall, HookClosure, HookError, Registry, Rules};
 use apply_plan::Text;
 use apply_run::{
     FormReport, NoGate, Options, Refusal, Sink, StdSink, Why, apply_bytes_in_form,
     apply_bytes_in_form_and_lanes, one_worker_applies_all_changes_in_order,
 };
-use apply_text_terraform::Form;
+use apply_text_terraform::{Command, Form};
 use std::alloc::{AllocError, Global};
 use std::env::Env;
 use std::io::{ErrorKind, Read, Write};
@@ -204,6 +205,8 @@ pub fn follow_invocation<
     let job = Job {
         settings,
         form,
+        command: invocation.command,
+        refresh: invocation.refresh,
         registry,
         script,
     };
@@ -292,6 +295,8 @@ pub fn run_command<R: Read + Drop, W: Write + Drop, E: Write, T: Threads + Wait 
     let job = Job {
         settings,
         form: Form::Applystream,
+        command: Command::Saved,
+        refresh: true,
         registry,
         script,
     };
@@ -333,6 +338,8 @@ pub fn run_in_lanes<R: Read + Drop, W: Write + Drop, E: Write>(
     let job = Job {
         settings,
         form: Form::Applystream,
+        command: Command::Saved,
+        refresh: true,
         registry,
         script,
     };
@@ -340,12 +347,14 @@ pub fn run_in_lanes<R: Read + Drop, W: Write + Drop, E: Write>(
 }
 
 /// Reads a plan, and applies the job to it with workers, as `run_command` does. Terraform's form also
-/// prints the extras of plan and script.
+/// prints the extras of plan and script. Each command but `Command::Saved` prints how its plan is
+/// made first, in one lane.
 ///
 /// The exit status is that of `run_command`. It is 1 if and only if the whole stream was written
 /// and reports an error. In Terraform's form, that includes the error of a plan whose planning
 /// failed. There, status 2 also comes if the script's outputs are not those of the plan, or its
-/// diagnostics are malformed.
+/// diagnostics are malformed. With such a command, it also comes if the objects that the script
+/// names in `planning` are malformed or do not fit.
 pub fn run_job<R: Read + Drop, W: Write + Drop, E: Write, T: Threads + Wait + Sync>(
     rt: &T,
     alloc: Global,
@@ -357,9 +366,9 @@ pub fn run_job<R: Read + Drop, W: Write + Drop, E: Write, T: Threads + Wait + Sy
     requires { output.failures < 2 ^ 64 - 1 }
     ensures ended { HasEndedOn (R.remaining input)
         (λ plan. HasAppliedAsAsked (record { plan = plan; script = option_copied job.now.script; hooks = rules_of job.now.registry.now })
-        job.now.settings.now None job.now.form (sink_state W.contents output) (sink_state W.contents result.0) result.1)
+        job.now.settings.now None (job_reading job.now None) (sink_state W.contents output) (sink_state W.contents result.0) result.1)
         (λ plan. HasBegunAsAsked (record { plan = plan; script = option_copied job.now.script; hooks = rules_of job.now.registry.now })
-        job.now.settings.now None job.now.form (sink_state W.contents output) (sink_state W.contents result.0))
+        job.now.settings.now None (job_reading job.now None) (sink_state W.contents output) (sink_state W.contents result.0))
         job.now.settings.now.halts.items (sink_state W.contents output) (sink_state W.contents result.0)
         (E.contents faults.old) (E.contents faults.new) result.1 }
     ensures gone { result.0.is_reader_gone ≡ true → Keeps (E.contents faults.old) (E.contents faults.new) }
@@ -370,8 +379,8 @@ pub fn run_job<R: Read + Drop, W: Write + Drop, E: Write, T: Threads + Wait + Sy
     (output, status)
 }
 
-/// Does what `run_job` does, in 1 to 64 lanes as `run_in_lanes`. The exit status is 2 also unless
-/// there are so many.
+/// Does what `run_job` does, in 1 to 64 lanes as `run_in_lanes`. A plan is made in as many lanes. The
+/// exit status is 2 also unless there are so many.
 pub fn run_job_in_lanes<R: Read + Drop, W: Write + Drop, E: Write>(
     alloc: Global,
     job: &Job<'_, '_>,
@@ -383,9 +392,9 @@ pub fn run_job_in_lanes<R: Read + Drop, W: Write + Drop, E: Write>(
     requires { output.failures < 2 ^ 64 - 1 }
     ensures ended { HasEndedOn (R.remaining input)
         (λ plan. HasAppliedAsAsked (record { plan = plan; script = option_copied job.now.script; hooks = rules_of job.now.registry.now })
-        job.now.settings.now (Some lanes) job.now.form (sink_state W.contents output) (sink_state W.contents result.0) result.1)
+        job.now.settings.now (Some lanes) (job_reading job.now (Some lanes)) (sink_state W.contents output) (sink_state W.contents result.0) result.1)
         (λ plan. HasBegunAsAsked (record { plan = plan; script = option_copied job.now.script; hooks = rules_of job.now.registry.now })
-        job.now.settings.now (Some lanes) job.now.form (sink_state W.contents output) (sink_state W.contents result.0))
+        job.now.settings.now (Some lanes) (job_reading job.now (Some lanes)) (sink_state W.contents output) (sink_state W.contents result.0))
         job.now.settings.now.halts.items (sink_state W.contents output) (sink_state W.contents result.0)
         (E.contents faults.old) (E.contents faults.new) result.1 }
     ensures gone { result.0.is_reader_gone ≡ true → Keeps (E.contents faults.old) (E.contents faults.new) }
@@ -412,7 +421,7 @@ pub fn run_input<W: Write + Drop, E: Write, T: Threads + Wait + Sync>(
     requires { output.failures < 2 ^ 64 - 1 }
     ensures ended { IfOk input (λ plan.
         HasEnded (record { plan = plan.items; script = option_copied job.now.script; hooks = rules_of job.now.registry.now })
-        job.now.settings.now None job.now.form (sink_state W.contents output) (sink_state W.contents result.0)
+        job.now.settings.now None (job_reading job.now None) (sink_state W.contents output) (sink_state W.contents result.0)
         (E.contents faults.old) (E.contents faults.new) result.1) }
     ensures unread { IfErr input (λ fault. (result.1 ≡ input_status_of fault)
         × Keeps (W.contents output.writer) (W.contents result.0.writer)) }
@@ -425,18 +434,8 @@ pub fn run_input<W: Write + Drop, E: Write, T: Threads + Wait + Sync>(
             return (output, input_status(fault));
         }
     };
-    let settings = job.settings;
-    let options = Options {
-        workers: settings.workers,
-        capacity: settings.queue,
-        start: settings.at,
-        operation: settings.operation,
-    };
-    let (script, registry, form) = (job.script, job.registry, job.form);
     let failures = output.failures();
-    let ended = apply_bytes_in_form(
-        rt, alloc, &plan, script, registry, options, form, output, &NoGate,
-    );
+    let ended = apply_job(rt, alloc, job, &plan, output);
     end_run(alloc, job, None, &plan, failures, ended, faults)
 }
 
@@ -452,7 +451,7 @@ fn run_input_in_lanes<W: Write + Drop, E: Write>(
     requires { output.failures < 2 ^ 64 - 1 }
     ensures ended { IfOk input (λ plan.
         HasEnded (record { plan = plan.items; script = option_copied job.now.script; hooks = rules_of job.now.registry.now })
-        job.now.settings.now (Some lanes) job.now.form (sink_state W.contents output) (sink_state W.contents result.0)
+        job.now.settings.now (Some lanes) (job_reading job.now (Some lanes)) (sink_state W.contents output) (sink_state W.contents result.0)
         (E.contents faults.old) (E.contents faults.new) result.1) }
     ensures unread { IfErr input (λ fault. (result.1 ≡ input_status_of fault)
         × Keeps (W.contents output.writer) (W.contents result.0.writer)) }
@@ -465,13 +464,92 @@ fn run_input_in_lanes<W: Write + Drop, E: Write>(
             return (output, input_status(fault));
         }
     };
+    let failures = output.failures();
+    let ended = apply_job_in_lanes(alloc, job, lanes, &plan, output);
+    end_run(alloc, job, Some(lanes), &plan, failures, ended, faults)
+}
+
+/// Applies a plan from bytes with workers, as the job asks: a saved plan, or one that the command
+/// makes first. Returns the output, and the report of the run or why the plan was not applied.
+fn apply_job<W: Write + Drop, T: Threads + Wait + Sync>(
+    rt: &T,
+    alloc: Global,
+    job: &Job<'_, '_>,
+    plan: &[u8],
+    output: StdSink<W>,
+) -> (StdSink<W>, Result<FormReport, Refusal>)
+    requires { output.failures < 2 ^ 64 - 1 }
+    ensures ok { IfOk result.1 (λ report. WasReportedOf (schedule_of job.now.settings.now None) (job_reading job.now None)
+        (record { plan = plan.now; script = option_copied job.now.script; hooks = rules_of job.now.registry.now })
+        job.now.settings.now.at job.now.settings.now.operation report (sink_state W.contents output) (sink_state W.contents result.0)) }
+    ensures err { IfErr result.1 (λ refusal. WasRefusedOf (schedule_of job.now.settings.now None) (job_reading job.now None)
+        (record { plan = plan.now; script = option_copied job.now.script; hooks = rules_of job.now.registry.now })
+        job.now.settings.now.at job.now.settings.now.operation refusal (sink_state W.contents output) (sink_state W.contents result.0)) }
+{
+    let settings = job.settings;
+    let options = Options {
+        workers: settings.workers,
+        capacity: settings.queue,
+        start: settings.at,
+        operation: settings.operation,
+    };
+    let (script, registry, form) = (job.script, job.registry, job.form);
+    match job.command {
+        Command::Saved => {
+            apply_bytes_in_form(
+                rt, alloc, plan, script, registry, options, form, output, &NoGate,
+            )
+        }
+        command => apply_planned(
+            rt,
+            alloc,
+            plan,
+            script,
+            registry,
+            options,
+            command,
+            job.refresh,
+            output,
+            &NoGate,
+        ),
+    }
+}
+
+/// Does what `apply_job` does, in lanes.
+fn apply_job_in_lanes<W: Write + Drop>(
+    alloc: Global,
+    job: &Job<'_, '_>,
+    lanes: u8,
+    plan: &[u8],
+    output: StdSink<W>,
+) -> (StdSink<W>, Result<FormReport, Refusal>)
+    requires { output.failures < 2 ^ 64 - 1 }
+    ensures ok { IfOk result.1 (λ report. WasReportedOf (schedule_of job.now.settings.now (Some lanes)) (job_reading job.now (Some lanes))
+        (record { plan = plan.now; script = option_copied job.now.script; hooks = rules_of job.now.registry.now })
+        job.now.settings.now.at job.now.settings.now.operation report (sink_state W.contents output) (sink_state W.contents result.0)) }
+    ensures err { IfErr result.1 (λ refusal. WasRefusedOf (schedule_of job.now.settings.now (Some lanes)) (job_reading job.now (Some lanes))
+        (record { plan = plan.now; script = option_copied job.now.script; hooks = rules_of job.now.registry.now })
+        job.now.settings.now.at job.now.settings.now.operation refusal (sink_state W.contents output) (sink_state W.contents result.0)) }
+{
     let (start, operation) = (job.settings.at, job.settings.operation);
     let (script, registry, form) = (job.script, job.registry, job.form);
-    let failures = output.failures();
-    let ended = apply_bytes_in_form_and_lanes(
-        alloc, &plan, script, registry, lanes, start, operation, form, output,
-    );
-    end_run(alloc, job, Some(lanes), &plan, failures, ended, faults)
+    match job.command {
+        Command::Saved => apply_bytes_in_form_and_lanes(
+            alloc, plan, script, registry, lanes, start, operation, form, output,
+        ),
+        command => apply_planned_in_lanes(
+            alloc,
+            plan,
+            script,
+            registry,
+            lanes,
+            start,
+            operation,
+            command,
+            job.refresh,
+            output,
+        ),
+    }
 }
 
 /// Ends a run whose output counted `failures` failed writes before: flushes the output, reports what
@@ -487,11 +565,11 @@ fn end_run<W: Write + Drop, E: Write>(
 ) -> (StdSink<W>, u8)
     requires { failures < 2 ^ 64 - 1 }
     ensures ended { (given : Inputs) (before : SinkState) → given.plan ≡ plan.now → before.failed ≡ failures
-        → IfOk ended.1 (λ report. WasReportedBy (schedule_of job.now.settings.now parallelism) job.now.form given
+        → IfOk ended.1 (λ report. WasReportedOf (schedule_of job.now.settings.now parallelism) (job_reading job.now parallelism) given
         job.now.settings.now.at job.now.settings.now.operation report before (sink_state W.contents ended.0))
-        → IfErr ended.1 (λ refusal. WasRefusedBy (schedule_of job.now.settings.now parallelism) job.now.form given
+        → IfErr ended.1 (λ refusal. WasRefusedOf (schedule_of job.now.settings.now parallelism) (job_reading job.now parallelism) given
         job.now.settings.now.at job.now.settings.now.operation refusal before (sink_state W.contents ended.0))
-        → HasEnded given job.now.settings.now parallelism job.now.form before (sink_state W.contents result.0)
+        → HasEnded given job.now.settings.now parallelism (job_reading job.now parallelism) before (sink_state W.contents result.0)
         (E.contents faults.old) (E.contents faults.new) result.1 }
     ensures gone { result.0.is_reader_gone ≡ true → Keeps (E.contents faults.old) (E.contents faults.new) }
 {

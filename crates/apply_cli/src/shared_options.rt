@@ -1,12 +1,12 @@
 //! The options of a run that `validate` takes too, as words to type.
 
 use crate::job::Job;
-use apply_text_terraform::Form;
+use apply_text_terraform::{Command, Form};
 use std::alloc::{AllocError, Global};
 use term_text::escape_controls;
 
-/// Returns the options of a run that `validate` takes too, as words with a blank before each. The
-/// default form has none. `Err` if memory is refused.
+/// Returns the options of a run that `validate` takes too, as words with a blank before each.
+/// Defaults have none, and neither has the form that a command implies. `Err` if memory is refused.
 pub(crate) fn shared_words(
     alloc: Global,
     job: &Job<'_, '_>,
@@ -20,10 +20,25 @@ pub(crate) fn shared_words(
     if let Some(lanes) = parallelism {
         write!(words, " --parallelism {lanes}")?;
     }
-    if job.form == Form::Terraform {
-        words.push_str(" --form terraform")?;
+    words.push_str(command_words(job))?;
+    if job.command != Command::Saved && !job.refresh {
+        words.push_str(" --refresh false")?;
     }
     Ok(words)
+}
+
+/// Returns the words for the command, with a blank before each. For a saved plan, these are the
+/// words for its form.
+fn command_words(job: &Job<'_, '_>) -> &'static str {
+    match job.command {
+        Command::Saved => match job.form {
+            Form::Applystream => "",
+            Form::Terraform => " --form terraform",
+        },
+        Command::Plan => " --command plan",
+        Command::Apply => " --command apply",
+        Command::Destroy => " --command destroy",
+    }
 }
 
 /// Adds the name as a word of a shell, with control characters escaped. It stands in single quotes

@@ -14,6 +14,7 @@ use Rattle.clap.specs.declared.error.kind.ErrorKind.{ErrorKind}
 use Rattle.clap.specs.declared.error.kind.ErrorKind.TheVariants.{DisplayHelp, DisplayVersion, OutOfMemory}
 use Rattle.clap.specs.declared.parser.matches.ArgMatches.{ArgMatches}
 use Rattle.clap.proofs.OnLiterals.{clap_on_literals}
+use Rattle.apply_text_terraform.specs.declared.command.Command.TheVariants.{Saved}
 use Rattle.apply_cli_args.specs.CommandLine.{Answers, AreChoices, AreStatedSettings, AreNoSettings, HasCause, HaveStatedSettings, IsOneOf, IsNoInvocation, command_line, kind_words, settings_line}
 use Rattle.apply_cli_args.specs.Invocation.{HaveInvoked, IsInvoked}
 use Rattle.apply_cli_args.specs.declared.invocation.Invocation.{Invocation}
@@ -65,13 +66,13 @@ rows_are {P} {TakeWords} {line} {command} {words} {parse} matches is has =
 -- settings that the matches say are those that the words say
 pub have_stated : {command : Command} {words : List Text} {parse : Result ArgMatches Error} (matches : ArgMatches) (settings : Result Settings Usage)
     → IsParse (IsOneOf kind_words) settings_line command words parse → parse ≡ Ok matches → HasMatchesOf (app_of command) words matches
-    → IfOk settings (AreStatedSettings None (rows_of (found_of matches))) → IfOk settings (HaveStatedSettings words)
+    → IfOk settings (AreStatedSettings None Saved (rows_of (found_of matches))) → IfOk settings (HaveStatedSettings words)
 have_stated {command} {words} {parse} matches settings is ok has =
-    IfOk-weaker settings (AreStatedSettings None (rows_of (found_of matches))) (HaveStatedSettings words) (λ s stated. record {
+    IfOk-weaker settings (AreStatedSettings None Saved (rows_of (found_of matches))) (HaveStatedSettings words) (λ s stated. record {
       kinds = is.parsers;
       are_kinds = is.take_words;
       parsed = faults_are (Ok matches) is ok;
-      stated = subst (λ (rows : List Row). AreStatedSettings None rows s) (rows_are matches is has) stated;
+      stated = subst (λ (rows : List Row). AreStatedSettings None Saved rows s) (rows_are matches is has) stated;
     })
 
 -- an invocation that the matches say is the one that the words say
@@ -115,6 +116,7 @@ are_wrong {P} {TakeWords} {line} {command} {words} {parse} IsWrong matches state
     cause usage.Version wrong = absurd (of_rows.no_version _ wrong)
     cause (usage.Words text) wrong = absurd (of_rows.no_words _ text wrong)
     cause usage.Conflict wrong = inr (is.parsers, is.take_words, (parsed, wrong))
+    cause (usage.Misplaced misplaced) wrong = inr (is.parsers, is.take_words, (parsed, wrong))
     cause usage.Clock wrong = inr (is.parsers, is.take_words, (parsed, wrong))
     cause (usage.Moment error) wrong = inr (is.parsers, is.take_words, (parsed, wrong))
     cause usage.Hooks wrong = inr (is.parsers, is.take_words, (parsed, wrong))
@@ -139,6 +141,7 @@ are_refused {P} {TakeWords} {line} {command} {words} {parse} IsWrong error why i
     cause (usage.Words text) (inl memory) other = absurd (other.0 memory)
     cause (usage.Words text) (inr among) other = inr (is.parsers, is.take_words, (kind_of error, other.1, other.2, among))
     cause usage.Conflict has answers = absurd answers
+    cause (usage.Misplaced misplaced) has answers = absurd answers
     cause usage.Clock has answers = absurd answers
     cause (usage.Moment wrong) has answers = absurd answers
     cause usage.Hooks has answers = absurd answers

@@ -1,6 +1,6 @@
 -- The command line: its options as `clap` parses them, what the words state, and why they are
 -- refused.
-use Rattle.std.specs.Prelude.{◌≡◌, ◌≤◌, ◌<◌, ◌++◌, ◌⊎◌, ◌&&◌, ◌||◌, ⊤, ℕ, Bool, List, [], ◌∷◌, Option, Some, None, IfSome, IsOk, Ok, Err, Result, true, false, codes, find, length, map, option_and_then, pos, unwrap_or, if◌then◌else◌}
+use Rattle.std.specs.Prelude.{◌≡◌, ◌≤◌, ◌<◌, ◌++◌, ◌⊎◌, ⊤, ℕ, Bool, List, [], ◌∷◌, Option, Some, None, IfSome, IsOk, Ok, Err, Result, true, false, codes, length, map, pos, unwrap_or, if◌then◌else◌}
 use Rattle.std.specs.Borrow.{Bor}
 use Rattle.std.specs.Option.{option_map_or}
 use Rattle.std.specs.Str.{bytes_eq}
@@ -14,16 +14,15 @@ use Rattle.clap.specs.declared.builder.value_parser.ValueParser.{ValueParser}
 use Rattle.clap.specs.declared.builder.value_parser.ValueParser.TheVariants as values
 use Rattle.clap.specs.declared.error.kind.ErrorKind.{ErrorKind}
 use Rattle.clap.specs.declared.error.kind.ErrorKind.TheVariants.{DisplayHelp, DisplayVersion, OutOfMemory}
-use Rattle.clap.specs.declared.parser.matches.ValueSource.{ValueSource}
-use Rattle.clap.specs.declared.parser.matches.ValueSource.TheVariants as source
 use Rattle.apply_model.specs.declared.plan.step_kind.StepKind.{StepKind}
 use Rattle.apply_model.specs.declared.plan.step_kind.StepKind.TheVariants.{Create, Update, Delete, Read}
 use Rattle.apply_hooks.specs.Hooks.{max_hooks}
-use Rattle.apply_text_terraform.specs.declared.form.Form.{Form}
-use Rattle.apply_text_terraform.specs.declared.form.Form.TheVariants.{Applystream, Terraform}
+use Rattle.apply_text_terraform.specs.declared.command.Command.{Command}
+use Rattle.apply_text_terraform.specs.declared.command.Command.TheVariants.{Saved}
 use Rattle.apply_text.specs.Start.{start_of}
 use Rattle.apply_text.specs.declared.start.MomentError.{MomentError}
-use Rattle.apply_text.specs.declared.operation.Operation.TheVariants.{Apply, Destroy}
+use Rattle.apply_text.specs.declared.operation.Operation.TheVariants.{Destroy}
+use Rattle.apply_cli_args.specs.Given.{AreTogether, is_conflict, misplaced_with, operation_of, stated_command}
 use Rattle.apply_cli_args.specs.declared.halt.Halt.{Halt}
 use Rattle.apply_cli_args.specs.declared.halt.Halt.TheVariants.{Before, Inside}
 use Rattle.apply_cli_args.specs.declared.settings.Settings.{Settings}
@@ -57,6 +56,14 @@ kind_words = codes "create" ∷ codes "update" ∷ codes "delete" ∷ codes "rea
 abbrev pub form_words : List Text
 form_words = codes "applystream" ∷ codes "terraform" ∷ []
 
+-- the names of the commands
+abbrev pub command_words : List Text
+command_words = codes "saved" ∷ codes "plan" ∷ codes "apply" ∷ codes "destroy" ∷ []
+
+-- whether objects are refreshed
+abbrev pub refresh_words : List Text
+refresh_words = codes "true" ∷ codes "false" ∷ []
+
 -- the value has to be one of the words
 abbrev pub IsOneOf : List Text → ValueParser → Type 0
 IsOneOf words parser = (names : Bor (List (Bor Text))) × (texts names.now ≡ words) × (parser ≡ values.Names names)
@@ -70,6 +77,16 @@ parallelism_rule =
 abbrev pub form_rule : (forms : ValueParser) → Rule
 form_rule forms =
     record (option_named (codes "form")) { parser = Some forms; defaults = codes "applystream" ∷ [] }
+
+-- the option of a command; the first name is the default
+abbrev pub command_rule : (commands : ValueParser) → Rule
+command_rule commands =
+    record (option_named (codes "command")) { parser = Some commands; defaults = codes "saved" ∷ [] }
+
+-- the option of a refresh; the first word is the default
+abbrev pub refresh_rule : (refreshes : ValueParser) → Rule
+refresh_rule refreshes =
+    record (option_named (codes "refresh")) { parser = Some refreshes; defaults = codes "true" ∷ [] }
 
 -- the options of the settings
 abbrev pub settings_options : (kinds : ValueParser) → List Rule
@@ -87,15 +104,21 @@ settings_options kinds =
 pub record Choices : Type 0 where
   pub kinds : ValueParser
   pub forms : ValueParser
+  pub commands : ValueParser
+  pub refreshes : ValueParser
 
 -- each parser accepts its own names
 pub record AreChoices (choices : Choices) : Type 0 where
   pub kinds : IsOneOf kind_words choices.kinds
   pub forms : IsOneOf form_words choices.forms
+  pub commands : IsOneOf command_words choices.commands
+  pub refreshes : IsOneOf refresh_words choices.refreshes
 
 -- all options
 abbrev pub options : Choices → List Rule
-options choices = settings_options choices.kinds ++ parallelism_rule ∷ form_rule choices.forms ∷ []
+options choices =
+    settings_options choices.kinds
+    ++ parallelism_rule ∷ form_rule choices.forms ∷ command_rule choices.commands ∷ refresh_rule choices.refreshes ∷ []
 
 -- the command, whose arguments are those after the program's name
 abbrev pub command_line : Choices → App
@@ -104,7 +127,7 @@ command_line choices = record {
   subs = [];
 }
 
--- the command without the options of a parallelism and of a form
+-- the command without the options of a parallelism, of a form, of a command and of a refresh
 abbrev pub settings_line : (kinds : ValueParser) → App
 settings_line kinds = record {
   top = record (new_shape (codes "applystream")) { no_binary_name = true; has_version = true; rules = settings_options kinds };
@@ -151,50 +174,29 @@ stated_start now rows = option_map_or (start_read now) (first_of (codes "at") ro
 abbrev pub asks_for_now : List Row → Bool
 asks_for_now rows = option_map_or (λ text. bytes_eq text (codes "now")) (first_of (codes "at") rows) false
 
--- each setting is what its own option states, with this present for `now`
-pub record AreStatedSettings (now : Option ℕ) (rows : List Row) (settings : Settings) : Type 0 where
+-- each setting is what its own option states, with this present for `now`. Without `--destroy` the
+-- operation is that of the command
+pub record AreStatedSettings (now : Option ℕ) (command : Command) (rows : List Row) (settings : Settings) : Type 0 where
   pub at : stated_start now rows ≡ Ok settings.at
   pub script : settings.script ≡ first_of (codes "script") rows
   pub workers : IfSome (one_of (codes "workers") rows) (λ text. IsNumber 8 text settings.workers)
   pub queue : IfSome (one_of (codes "queue") rows) (λ text. IsNumber 1024 text settings.queue)
   pub destroy : one_of (codes "destroy") rows ≡ Some (codes "true") → settings.operation ≡ Destroy
-  pub apply : one_of (codes "destroy") rows ≡ Some (codes "false") → settings.operation ≡ Apply
+  pub otherwise : one_of (codes "destroy") rows ≡ Some (codes "false") → settings.operation ≡ operation_of command
   pub halts : settings.halts.items ≡ stated_halts rows
 
--- the words were parsed by the command of the settings alone, and the settings are what they state;
--- there is no present
+-- the words were parsed by the command of the settings alone, and the settings are what they state
+-- for a saved plan; there is no present
 pub record HaveStatedSettings (words : List Text) (settings : Settings) : Type 0 where
   pub kinds : ValueParser
   pub are_kinds : IsOneOf kind_words kinds
   pub parsed : fault_of (settings_line kinds) words ≡ []
-  pub stated : AreStatedSettings None (matches_of (settings_line kinds) words) settings
+  pub stated : AreStatedSettings None Saved (matches_of (settings_line kinds) words) settings
 
 -- there is a parallelism if its option is given, and it is the number that is stated
 pub record IsParallelism (rows : List Row) (parallelism : Option ℕ) : Type 0 where
   pub none : one_of (codes "parallelism") rows ≡ None → parallelism ≡ None
   pub some : IfSome (one_of (codes "parallelism") rows) (λ text. IsOptionalNumber 64 text parallelism)
-
-abbrev pub form_of_word : Text → Form
-form_of_word word = if bytes_eq word (codes "terraform") then Terraform else Applystream
-
--- the form that the option names, or the default form
-abbrev pub stated_form : List Row → Form
-stated_form rows = option_map_or form_of_word (first_of (codes "form") rows) Applystream
-
--- the value comes from the command line, and is not a default
-abbrev pub is_of_words : Option ValueSource → Bool
-is_of_words (Some source.CommandLine) = true
-is_of_words (Some source.DefaultValue) = false
-is_of_words None = false
-
--- the option stands among the words
-abbrev pub is_given : (name : Text) → List Row → Bool
-is_given name rows = is_of_words (option_and_then (λ r. r.source) (find (λ r. bytes_eq r.id name) rows))
-
--- `--parallelism` is given together with `--workers` or `--queue`
-abbrev pub is_conflict : List Row → Bool
-is_conflict rows =
-    is_given (codes "parallelism") rows && (is_given (codes "workers") rows || is_given (codes "queue") rows)
 
 -- ---- why they are refused
 
@@ -204,17 +206,21 @@ AreNoSettings now rows (usage.Help text) = ⊥
 AreNoSettings now rows usage.Version = ⊥
 AreNoSettings now rows (usage.Words text) = ⊥
 AreNoSettings now rows usage.Conflict = ⊥
+AreNoSettings now rows (usage.Misplaced misplaced) = ⊥
 AreNoSettings now rows usage.Clock = ⊥
 AreNoSettings now rows (usage.Moment error) = stated_start now rows ≡ Err error
 AreNoSettings now rows usage.Hooks = IsOk (stated_start now rows) × (max_hooks < length (stated_halts rows))
 AreNoSettings now rows usage.Memory = ⊤
 
--- the options state no invocation: a parallelism is given where it may not be, they ask for a
--- present that the clock does not give, or they state no settings with the present that it gives
+-- the options state no invocation: a parallelism is given where it may not be, an option does not
+-- go with the command, they ask for a present that the clock does not give, or they state no
+-- settings with the present that it gives
 abbrev pub IsNoInvocation : List Row → Usage → Type 0
 IsNoInvocation rows usage.Conflict = is_conflict rows ≡ true
-IsNoInvocation rows usage.Clock = (is_conflict rows ≡ false) × (asks_for_now rows ≡ true)
-IsNoInvocation rows why = (is_conflict rows ≡ false) × ((present : ℕ) × AreNoSettings (Some present) rows why)
+IsNoInvocation rows (usage.Misplaced misplaced) =
+    (is_conflict rows ≡ false) × (misplaced_with (stated_command rows) rows ≡ Some misplaced)
+IsNoInvocation rows usage.Clock = AreTogether rows × (asks_for_now rows ≡ true)
+IsNoInvocation rows why = AreTogether rows × ((present : ℕ) × AreNoSettings (Some present) rows why)
 
 -- the usage for an error of that kind: help if help was asked for, the version if the version was
 abbrev pub Answers : ErrorKind → Usage → Type 0
@@ -222,6 +228,7 @@ Answers kind (usage.Help text) = kind ≡ DisplayHelp
 Answers kind usage.Version = kind ≡ DisplayVersion
 Answers kind (usage.Words text) = (kind ≡ OutOfMemory → ⊥) × (kind ≡ DisplayHelp → ⊥) × (kind ≡ DisplayVersion → ⊥)
 Answers kind usage.Conflict = ⊥
+Answers kind (usage.Misplaced misplaced) = ⊥
 Answers kind usage.Clock = ⊥
 Answers kind (usage.Moment error) = ⊥
 Answers kind usage.Hooks = ⊥

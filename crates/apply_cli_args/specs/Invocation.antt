@@ -1,12 +1,13 @@
--- What the whole command line states: the settings, how many changes run at once, and the form of
--- the stream.
-use Rattle.std.specs.Prelude.{◌≡◌, ℕ, List, [], IfSome, Some, false}
+-- What the whole command line states: the settings, how many changes run at once, the form of the
+-- stream, the command, and whether its plan is made with a refresh.
+use Rattle.std.specs.Prelude.{◌≡◌, ℕ, List, [], IfSome, Some}
 use Rattle.clap.specs.Faults.{fault_of}
 use Rattle.clap.specs.Simple.{matches_of}
 use Rattle.clap.specs.Walk.{Row, Text}
 use Rattle.apply_events.specs.Lanes.{AreLanes}
 use Rattle.apply_cli_args.specs.declared.invocation.Invocation.{Invocation}
-use Rattle.apply_cli_args.specs.CommandLine.{AreChoices, AreStatedSettings, Choices, IsParallelism, command_line, stated_form, is_conflict}
+use Rattle.apply_cli_args.specs.CommandLine.{AreChoices, AreStatedSettings, Choices, IsParallelism, command_line}
+use Rattle.apply_cli_args.specs.Given.{AreTogether, stated_command, stated_form, stated_refresh}
 use Rattle.apply_cli_args.specs.Settings.{AreInRange}
 
 -- a run accepts them
@@ -14,14 +15,16 @@ pub record IsInRange (invocation : Invocation) : Type 0 where
   pub settings : AreInRange invocation.settings
   pub parallelism : IfSome invocation.parallelism AreLanes
 
--- settings, parallelism and form are what their options state, with what the clock gave as the
--- present, and `--parallelism` is not given with `--workers` or `--queue`
+-- each part is what its options state, with what the clock gave as the present, and no option
+-- excludes another that is given
 pub record IsInvoked (rows : List Row) (invocation : Invocation) : Type 0 where
-  pub alone : is_conflict rows ≡ false
+  pub together : AreTogether rows
   pub present : ℕ
-  pub settings : AreStatedSettings (Some present) rows invocation.settings
+  pub settings : AreStatedSettings (Some present) (stated_command rows) rows invocation.settings
   pub parallelism : IsParallelism rows invocation.parallelism
-  pub form : invocation.form ≡ stated_form rows
+  pub form : invocation.form ≡ stated_form (stated_command rows) rows
+  pub command : invocation.command ≡ stated_command rows
+  pub refresh : invocation.refresh ≡ stated_refresh rows
 
 -- the words were parsed, and the invocation is what they state
 pub record HaveInvoked (words : List Text) (invocation : Invocation) : Type 0 where

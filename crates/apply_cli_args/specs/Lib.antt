@@ -1,4 +1,5 @@
 pub mod CommandLine
+pub mod Given
 pub mod Halt
 pub mod Invocation
 pub mod Settings

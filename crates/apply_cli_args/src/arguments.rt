@@ -8,16 +8,19 @@ ghost use Rattle.clap.specs.Walk.{Rule, first_of, one_of, rows_of, rule_of};
 ghost use Rattle.apply_cli_args.specs.CommandLine as spec;
 ghost use Rattle.apply_cli_args.specs.CommandLine.{Answers, AreStatedSettings, HaveStatedSettings, IsNumber, IsOneOf, AreNoSettings, StateNoSettings};
 ghost use Rattle.apply_cli_args.specs.CommandLine.{start_read, stated_halts, stated_start, kind_of_word};
+ghost use Rattle.apply_cli_args.specs.Given.{is_conflict, is_given, operation_of};
 ghost use Rattle.apply_cli_args.specs.Settings.{AreInRange};
 
 use crate::halt::Halt;
 use crate::settings::Settings;
+use crate::terraform_command::{command_option, refresh_option};
 use crate::tips::push_tip;
 use crate::usage::Usage;
 use crate::version::VERSION;
 use apply_hooks::MAX_HOOKS;
 use apply_model::{StepKind, Text};
 use apply_text::{MomentError, Operation, Start};
+use apply_text_terraform::Command as TerraformCommand;
 use clap::error::ErrorKind;
 use clap::parser::ValueSource;
 use clap::{Arg, ArgAction, ArgMatches, Command, value_parser};
@@ -30,7 +33,7 @@ static KINDS: [&str; 4] = ["create", "update", "delete", "read"];
 static FORMS: [&str; 2] = ["applystream", "terraform"];
 
 const ABOUT: &str =
-    "Prints the messages that `terraform apply -json` would print for a saved plan. Nothing is applied.
+    "Prints the messages of `terraform apply -json` for a saved plan, or those of `plan`, `apply` or `destroy` without one. Nothing is applied.
 
 Standard input: the plan, as `terraform show -json PLANFILE` prints it: at most 10,000 changes and 64 MiB.
 Standard output: the messages, one JSON object a line.
@@ -58,8 +61,9 @@ Exit status:
   2  the options, the plan or the script were refused or could not be read: no message was written
   3  out of memory, no thread, no clock, or the output could not be written: some messages may have been written"#;
 
-/// Reads the arguments after the program's name, without `--parallelism` and `--form`: the part of
-/// `read_invocation` that knows workers only. It reads no clock, so `--at now` is no timestamp.
+/// Reads the arguments after the program's name, without `--parallelism`, `--form`, `--command` and
+/// `--refresh`: the part of `read_invocation` that knows workers only. It reads no clock, so
+/// `--at now` is no timestamp.
 ///
 /// `Err` with `Usage::Help` if help is asked for, and with `Usage::Version` if the version is. Else
 /// `Err` with `Usage::Words` if an argument is not one of these options. Else `Err` with
@@ -74,7 +78,7 @@ pub fn read_words(alloc: Global, words: &[String]) -> Result<Settings, Usage>
 {
     let command = settings_command(alloc)?;
     match command.try_get_matches_from(words) {
-        Ok(matches) => settings_of(alloc, None, &matches),
+        Ok(matches) => settings_of(alloc, None, TerraformCommand::Saved, &matches),
         Err(error) => Err(usage_of(alloc, words, &error)?),
     }
 }
@@ -86,7 +90,9 @@ pub(crate) fn command<'a>(alloc: Global) -> Result<Command<'a>, AllocError>
 {
     let settings = settings_command(alloc);
     let lanes = add(settings, parallelism(alloc));
-    add(lanes, form(alloc))
+    let forms = add(lanes, form(alloc));
+    let commands = add(forms, command_option(alloc));
+    add(commands, refresh_option(alloc))
 }
 
 /// The options of the settings, with their help. `Err` if memory is refused.
@@ -127,7 +133,12 @@ fn add<'a>(
 }
 
 /// An option `--NAME VALUE` with its help.
-fn option_named<'a>(alloc: Global, name: &'a str, value: &'a str, help: &'a str) -> Arg<'a>
+pub(crate) fn option_named<'a>(
+    alloc: Global,
+    name: &'a str,
+    value: &'a str,
+    help: &'a str,
+) -> Arg<'a>
     ensures { (rule_of result ≡ spec.option_named name.entry.now) × (result.global ≡ false) }
 {
     Arg::new(alloc, name)
@@ -222,14 +233,14 @@ fn form<'a>(alloc: Global) -> Arg<'a>
 
 /// Whether `--parallelism` is given together with `--workers` or `--queue`.
 pub(crate) fn is_conflict(matches: &ArgMatches<'_>) -> bool
-    ensures { result ≡ spec.is_conflict (rows_of (found_of matches.now)) }
+    ensures { result ≡ is_conflict (rows_of (found_of matches.now)) }
 {
     is_given(matches, "parallelism") && (is_given(matches, "workers") || is_given(matches, "queue"))
 }
 
 /// Whether the option stands on the command line, so that its value is not the default.
-fn is_given(matches: &ArgMatches<'_>, option: &str) -> bool
-    ensures { result ≡ spec.is_given option.now (rows_of (found_of matches.now)) }
+pub(crate) fn is_given(matches: &ArgMatches<'_>, option: &str) -> bool
+    ensures { result ≡ is_given option.now (rows_of (found_of matches.now)) }
 {
     match matches.value_source(option) {
         Some(ValueSource::CommandLine) => true,
@@ -238,15 +249,16 @@ fn is_given(matches: &ArgMatches<'_>, option: &str) -> bool
     }
 }
 
-/// Returns the settings that the matches state. `now` is the start for which `--at now` stands;
-/// without it, `now` is no timestamp. `Err` as `read_words` gives it.
+/// Returns the settings that the matches state for the command. `now` is the start for which
+/// `--at now` stands; without it, `now` is no timestamp. `Err` as `read_words` gives it.
 pub(crate) fn settings_of(
     alloc: Global,
     now: Option<Start>,
+    command: TerraformCommand,
     matches: &ArgMatches<'_>,
 ) -> Result<Settings, Usage>
     ensures in_range { IfOk result AreInRange }
-    ensures stated { IfOk result (AreStatedSettings now (rows_of (found_of matches.now))) }
+    ensures stated { IfOk result (AreStatedSettings now command (rows_of (found_of matches.now))) }
     ensures refused { IfErr result (AreNoSettings now (rows_of (found_of matches.now))) }
 {
     let at = match start_of(now, matches) {
@@ -262,7 +274,7 @@ pub(crate) fn settings_of(
         script: script_of(alloc, matches)?,
         workers: workers_of(matches),
         queue: queue_of(matches),
-        operation: operation_of(matches),
+        operation: operation_of(command, matches),
         halts,
     })
 }
@@ -331,14 +343,17 @@ fn queue_of(matches: &ArgMatches<'_>) -> u16
     matches.get_one::<u16>("queue").unwrap_or(64).clamp(1, 1024)
 }
 
-/// Returns what the apply is for.
-fn operation_of(matches: &ArgMatches<'_>) -> Operation
+/// Returns what the apply is for: `Destroy` with `--destroy` or the command of that name, else
+/// `Apply`.
+fn operation_of(command: TerraformCommand, matches: &ArgMatches<'_>) -> Operation
     ensures destroy { one_of (codes "destroy") (rows_of (found_of matches.now)) ≡ Some (codes "true")
         → result ≡ Operation.Destroy }
-    ensures apply { one_of (codes "destroy") (rows_of (found_of matches.now)) ≡ Some (codes "false")
-        → result ≡ Operation.Apply }
+    ensures otherwise { one_of (codes "destroy") (rows_of (found_of matches.now)) ≡ Some (codes "false")
+        → result ≡ operation_of command }
 {
     if matches.get_flag("destroy") {
+        Operation::Destroy
+    } else if command == TerraformCommand::Destroy {
         Operation::Destroy
     } else {
         Operation::Apply

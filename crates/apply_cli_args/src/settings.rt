@@ -4,7 +4,8 @@ use crate::halt::Halt;
 use apply_model::Text;
 use apply_text::{Operation, Start};
 
-/// The settings of the command line, without `--parallelism` and `--form`.
+/// The settings of the command line, without `--parallelism`, `--form`, `--command` and
+/// `--refresh`.
 #[derive(Debug, Drop)]
 pub struct Settings {
     /// When the first steps start.

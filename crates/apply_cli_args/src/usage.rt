@@ -3,6 +3,7 @@
 ghost use Rattle.std.specs.Prelude.{◌≡◌};
 ghost use Rattle.apply_cli_args.specs.declared.usage.Usage.TheVariants.{Memory};
 
+use crate::misplaced::Misplaced;
 use apply_model::Text;
 use apply_text::MomentError;
 use std::alloc::{AllocError, AllocFailed};
@@ -19,6 +20,8 @@ pub enum Usage {
     Words(Text),
     /// `--parallelism` is given together with `--workers` or `--queue`.
     Conflict,
+    /// An option does not go with the command.
+    Misplaced(Misplaced),
     /// `--at now` is given, and the clock could not be read, or its time is after 8999.
     Clock,
     /// The value of `--at` is not a timestamp, or out of range.

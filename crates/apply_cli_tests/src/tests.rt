@@ -14,15 +14,15 @@ mod unwritten_errors;
 mod words;
 
 use apply_cli::{
-    Halt, InputFault, Invocation, Job, PromptingReader, Settings, Usage, VERSION, answer_usage,
-    follow, follow_invocation, read_all, read_invocation, read_words, refusal_status, run_command,
-    run_input,
+    Halt, InputFault, Invocation, Job, Misplaced, PromptingReader, Settings, Usage, VERSION,
+    answer_usage, follow, follow_invocation, read_all, read_invocation, read_words, refusal_status,
+    run_command, run_input,
 };
 use apply_hooks::Registry;
 use apply_plan::{PlanError, ScriptError, StepKind, Text};
 use apply_run::{MAX_LANES, Options, Refusal, StdSink};
 use apply_text::{MomentError, Operation, Start};
-use apply_text_terraform::Form;
+use apply_text_terraform::{Command, Form};
 use std::alloc::Global;
 use std::fmt::Debug;
 use std::io;
@@ -286,6 +286,7 @@ fn name_of(usage: &Usage) -> &'static str {
         Usage::Version => "Version",
         Usage::Words(_) => "Words",
         Usage::Conflict => "Beside",
+        Usage::Misplaced(_) => "Misplaced",
         Usage::Clock => "Clock",
         Usage::Moment(_) => "Moment",
         Usage::Hooks => "Hooks",

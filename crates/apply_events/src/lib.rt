@@ -18,7 +18,9 @@ mod what;
 pub use counts::Counts;
 pub use event::{Event, LATEST};
 pub use fitting::{fits, is_of_plan};
+pub use lanes::free::first_earliest;
 pub use lanes::lane_time::LaneTime;
+pub use lanes::queue::{Queue, ReadyTurn};
 pub use lanes::turn::{StartedTurn, Turn};
 pub use lanes::{Lanes, MAX_LANES};
 pub use laws::{

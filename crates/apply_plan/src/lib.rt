@@ -4,6 +4,7 @@
 mod bytes;
 mod filled_text;
 mod members;
+pub mod parts;
 mod plan;
 mod script;
 mod valid_items;
@@ -17,5 +18,6 @@ pub use apply_model::{
 pub use bytes::MAX_BYTES;
 pub use plan::plan_error::PlanError;
 pub use plan::reading::read_plan;
+pub use script::planning_error::PlanningError;
 pub use script::reading::{never_beginning, read_script};
 pub use script::script_error::ScriptError;

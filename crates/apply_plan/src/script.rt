@@ -11,6 +11,7 @@ pub mod named;
 pub mod number_or_none;
 pub mod object_text;
 pub mod output_slots;
+pub mod planning_error;
 pub mod provisioner_slots;
 pub mod raw_diag;
 pub mod raw_ending;

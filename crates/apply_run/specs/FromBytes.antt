@@ -1,8 +1,10 @@
 -- How a run from bytes ends, in a form and with a schedule.
-use Rattle.std.specs.Prelude.{◌≡◌, ℕ, []}
+use Rattle.std.specs.Prelude.{◌≡◌, ◌<◌, ◌+◌, ℕ, IsTrue, List, []}
+use Rattle.apply_model.specs.declared.details.note.Note.{Note}
 use Rattle.apply_plan.specs.Plan.SavedPlan.{SavedPlan}
 use Rattle.apply_plan.specs.Script.OutcomeMap.{OutcomeMap}
 use Rattle.apply_plan.specs.Script.Waits.{has_waits}
+use Rattle.apply_events.specs.declared.counts.Counts.{Counts}
 use Rattle.apply_events.specs.Step.{Work}
 use Rattle.apply_text.specs.declared.operation.Operation.{Operation}
 use Rattle.apply_text_terraform.specs.declared.form.Form.{Form}
@@ -92,36 +94,86 @@ pub record WasReadFor (form : Form) (given : Inputs) (read : ReadInputs) : Type 
   pub is_read : IsReadFor form given stated
   pub read_as : IsReadAs form stated read
 
+-- the stream reports an error: a step failed or was halted; in Terraform's form, also a diagnostic
+-- of no step
+abbrev pub ReportsError : (form : Form) → ReadFor form → Counts → Type 0
+ReportsError Applystream read counts = 0 < counts.failed + counts.halted
+ReportsError Terraform read counts = IsTrue (contains_error (extras_of read).notes counts)
+
+-- ---- how a run reads its inputs
+
+-- how inputs are read, what of them is applied, and how its stream is written
+pub record Reading : Type 1 where
+  -- what bytes state
+  pub Read : Type 0
+  pub IsRead : Inputs → Read → Type 0
+  pub IsUnread : Inputs → Refusal → Type 0
+  -- the script that is stated, whatever is applied
+  pub script : Read → OutcomeMap
+  pub work : Inputs → Read → Work
+  pub form : Read → (start : ℕ) → Operation → StreamForm
+  -- the diagnostics of no step
+  pub notes : Read → List Note
+  -- the stream reports an error
+  pub ReportsError : Read → Counts → Type 0
+
+-- a saved plan, in a form
+abbrev pub reading_of : Form → Reading
+reading_of form = record {
+  Read = ReadFor form;
+  IsRead = IsReadFor form;
+  IsUnread = IsUnreadFor form;
+  script = script_for form;
+  work = work_for form;
+  form = form_for form;
+  notes = λ read. (applied_for form read).extras.notes;
+  ReportsError = ReportsError form;
+}
+
 -- ---- what a run leaves
 
 -- the inputs were read and applied, and the whole stream was written
-pub record WasAppliedBy (schedule : Schedule) (form : Form) (given : Inputs) (start : ℕ) (operation : Operation) (report : Report)
+pub record WasAppliedOf (schedule : Schedule) (reading : Reading) (given : Inputs) (start : ℕ) (operation : Operation) (report : Report)
     (before after : SinkState) : Type 0 where
-  pub read : ReadFor form
-  pub is_read : IsReadFor form given read
+  pub read : reading.Read
+  pub is_read : reading.IsRead given read
   pub sizes : IsOfSize schedule
-  pub streamed : HasStreamedBy schedule (form_for form read start operation) (work_for form given read) report before after
-  pub keeps : KeepsWaits schedule (script_for form read)
+  pub streamed : HasStreamedBy schedule (reading.form read start operation) (reading.work given read) report before after
+  pub keeps : KeepsWaits schedule (reading.script read)
 
 -- and the report says whether the stream reports an error
-pub record WasReportedBy (schedule : Schedule) (form : Form) (given : Inputs) (start : ℕ) (operation : Operation) (report : FormReport)
+pub record WasReportedOf (schedule : Schedule) (reading : Reading) (given : Inputs) (start : ℕ) (operation : Operation) (report : FormReport)
     (before after : SinkState) : Type 0 where
-  pub applied : WasAppliedBy schedule form given start operation report.run before after
-  pub error : report.contains_error ≡ contains_error (applied_for form applied.read).extras.notes report.run.counts
+  pub applied : WasAppliedOf schedule reading given start operation report.run before after
+  pub error : report.contains_error ≡ contains_error (reading.notes applied.read) report.run.counts
 
 -- the inputs are refused and the sink is unchanged. The plan is refused with its error, else the
 -- script with its own, else a script that states dependencies which the schedule does not keep, else
 -- sizes that are out of range. Memory may be refused earlier, but never for an input that is too
 -- large, or for a script that is absent. Otherwise the run failed
+abbrev pub WasRefusedOf : Schedule → Reading → Inputs → (start : ℕ) → Operation → Refusal → (before after : SinkState) → Type 0
+WasRefusedOf schedule reading given start operation (Plan refusal) before after = reading.IsUnread given (Plan refusal) × (after ≡ before)
+WasRefusedOf schedule reading given start operation (Script refusal) before after = reading.IsUnread given (Script refusal) × (after ≡ before)
+WasRefusedOf schedule reading given start operation Waits before after =
+    (read : reading.Read) × reading.IsRead given read × MissesWaits schedule (reading.script read) × (after ≡ before)
+WasRefusedOf schedule reading given start operation Size before after =
+    (read : reading.Read) × reading.IsRead given read × ¬ IsOfSize schedule × (after ≡ before)
+    × KeepsWaits schedule (reading.script read)
+WasRefusedOf schedule reading given start operation (Fault fault) before after =
+    (read : reading.Read) × reading.IsRead given read × IsOfSize schedule
+    × HasFailedBy fault.why schedule (reading.form read start operation) (reading.work given read) fault.report before after
+    × KeepsWaits schedule (reading.script read)
+
+-- ---- of a saved plan
+
+abbrev pub WasAppliedBy : Schedule → Form → Inputs → (start : ℕ) → Operation → Report → (before after : SinkState) → Type 0
+WasAppliedBy schedule form given start operation report before after =
+    WasAppliedOf schedule (reading_of form) given start operation report before after
+
+abbrev pub WasReportedBy : Schedule → Form → Inputs → (start : ℕ) → Operation → FormReport → (before after : SinkState) → Type 0
+WasReportedBy schedule form given start operation report before after =
+    WasReportedOf schedule (reading_of form) given start operation report before after
+
 abbrev pub WasRefusedBy : Schedule → Form → Inputs → (start : ℕ) → Operation → Refusal → (before after : SinkState) → Type 0
-WasRefusedBy schedule form given start operation (Plan refusal) before after = IsUnreadFor form given (Plan refusal) × (after ≡ before)
-WasRefusedBy schedule form given start operation (Script refusal) before after = IsUnreadFor form given (Script refusal) × (after ≡ before)
-WasRefusedBy schedule form given start operation Waits before after =
-    (read : ReadFor form) × IsReadFor form given read × MissesWaits schedule (script_for form read) × (after ≡ before)
-WasRefusedBy schedule form given start operation Size before after =
-    (read : ReadFor form) × IsReadFor form given read × ¬ IsOfSize schedule × (after ≡ before)
-    × KeepsWaits schedule (script_for form read)
-WasRefusedBy schedule form given start operation (Fault fault) before after =
-    (read : ReadFor form) × IsReadFor form given read × IsOfSize schedule
-    × HasFailedBy fault.why schedule (form_for form read start operation) (work_for form given read) fault.report before after
-    × KeepsWaits schedule (script_for form read)
+WasRefusedBy schedule form given start operation refusal before after =
+    WasRefusedOf schedule (reading_of form) given start operation refusal before after

@@ -5,6 +5,7 @@ pub mod InForm
 pub mod Lanes
 pub mod Options
 pub mod Read
+pub mod ReadStated
 pub mod Run
 pub mod Schedule
 pub mod Worker

@@ -75,7 +75,7 @@ pub fn apply_stream<'a, S: Sink + Drop, G: Gate, R: Threads + Wait + Sync>(
 }
 
 /// Does what `apply_stream` does, with lines in any form. `lines` must be made for this plan.
-pub(crate) fn apply_in_form<S: Sink + Drop, F: FormLines, G: Gate, R: Threads + Wait + Sync>(
+pub fn apply_in_form<S: Sink + Drop, F: FormLines, G: Gate, R: Threads + Wait + Sync>(
     rt: &R,
     alloc: Global,
     plan: &Plan,

@@ -70,7 +70,7 @@ pub fn apply_in_lanes<'a, S: Sink + Drop>(
 }
 
 /// Does what `apply_in_lanes` does, with lines in any form. `lines` must be made for this plan.
-pub(crate) fn apply_lanes_in_form<S: Sink + Drop, F: FormLines>(
+pub fn apply_lanes_in_form<S: Sink + Drop, F: FormLines>(
     alloc: Global,
     plan: &Plan,
     script: &Script,
@@ -119,7 +119,7 @@ fn write_all_events<S: Sink + Drop, F: FormLines>(
 }
 
 /// Whether there are 1 to 64 lanes.
-pub(crate) fn are_lanes(lanes: u8) -> bool
+pub fn are_lanes(lanes: u8) -> bool
     ensures { IsTrue result ↔ AreLanes lanes }
 {
     1 <= lanes && lanes <= MAX_LANES

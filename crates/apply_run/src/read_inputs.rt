@@ -1,31 +1,26 @@
 //! Reads the inputs of a run: a plan, an optional script for it, and for Terraform's form the extras
 //! of both.
 
-ghost use Rattle.std.specs.Prelude.{◌≡◌, ◌≤◌, [], length, if◌then◌else◌, Err, IfErr, IfOk, IfSome, List, Ok};
+ghost use Rattle.std.specs.Prelude.{◌≡◌, [], if◌then◌else◌, IfErr, IfOk, List};
 ghost use Rattle.std.specs.Option.{option_copied};
-ghost use Rattle.apply_plan.specs.declared.script.script_error.ScriptError.TheVariants as script_error;
-ghost use Rattle.apply_plan.specs.Bytes.{max_bytes};
-ghost use Rattle.apply_plan.specs.Plan.SavedPlan.{plan_of};
-ghost use Rattle.apply_plan.specs.Results.{Gives};
 ghost use Rattle.apply_hooks.specs.declared.rule.Rule.{Rule};
 ghost use Rattle.apply_plan_terraform.specs.Extras.{extras_view};
 ghost use Rattle.apply_plan_terraform.specs.Notes as notes_spec;
 ghost use Rattle.apply_plan_terraform.specs.Outputs as outputs_spec;
 ghost use Rattle.apply_plan_terraform.specs.Outputs.{outputs_view};
-ghost use Rattle.apply_plan_terraform.specs.ReadDetails.{details_view};
-ghost use Rattle.apply_run.specs.Bytes.{given_script, MayBeRead, WasUnread};
 ghost use Rattle.apply_text_terraform.specs.declared.form.Form.TheVariants.{Applystream, Terraform};
 ghost use Rattle.apply_run.specs.FromBytes.{IsReadAs, IsUnreadFor, WasReadFor};
-ghost use Rattle.apply_run.specs.Read.{given_extras, is_unfinished};
+ghost use Rattle.apply_run.specs.Read.{is_unfinished};
+ghost use Rattle.apply_run.specs.ReadStated.{stated_view};
 ghost use Rattle.apply_writer.specs.Stream.Terraform.{contains_error};
 
 use crate::form_report::FormReport;
 use crate::refusal::Refusal;
+use crate::stated_inputs::{ReadBytes, ReadStated, read_bytes, read_stated};
 use apply_model::{ChangeDetails, Note, Output, Text};
-use apply_plan::{Plan, PlanError, Script, ScriptError, read_plan, read_script};
+use apply_plan::{Plan, PlanError, Script};
 use apply_plan_terraform::{
-    Details, Extras, PlanDetails, PlanNote, PlanOutputs, read_details, read_extras, written_notes,
-    written_outputs,
+    Details, Extras, PlanDetails, PlanNote, PlanOutputs, written_notes, written_outputs,
 };
 use apply_text_terraform::Form;
 use apply_writer::{Report, TerraformExtras};
@@ -94,60 +89,18 @@ pub(crate) fn read_inputs(
     ensures err { (hooks : List (List Rule)) → IfErr result (IsUnreadFor form
         (record { plan = plan.now; script = option_copied script.entry; hooks = hooks })) }
 {
-    let read = read_bytes(alloc, plan, script)?;
     match form {
-        Form::Applystream => Ok(without_extras(alloc, read)),
+        Form::Applystream => {
+            let read = read_bytes(alloc, plan, script)?;
+            Ok(without_extras(alloc, read))
+        }
         Form::Terraform => {
-            let Ok(details) = read_details(alloc, plan) else {
-                return Err(Refusal::Plan(PlanError::Memory));
-            };
-            let extras = match read_given_extras(alloc, script, &details.outputs) {
-                Ok(extras) => extras,
-                Err(refusal) => return Err(Refusal::Script(refusal)),
-            };
-            match assemble(alloc, read, details, extras) {
+            let stated = read_stated(alloc, plan, script)?;
+            match assemble(alloc, stated) {
                 Ok(read) => Ok(read),
                 Err(_) => Err(Refusal::Plan(PlanError::Memory)),
             }
         }
-    }
-}
-
-/// A plan and a script for it, read from bytes.
-#[derive(Debug, Drop)]
-struct ReadBytes {
-    plan: Plan,
-    script: Script,
-}
-
-/// Reads a plan and an optional script for it.
-///
-/// `Err` with `Refusal::Plan` if the bytes are not a plan. Else `Err` with `Refusal::Script` if
-/// there is a script and it does not fit the plan. If memory is refused, the refusal names the
-/// input that was being read.
-fn read_bytes(alloc: Global, plan: &[u8], script: Option<&[u8]>) -> Result<ReadBytes, Refusal>
-    ensures plan { IfOk result (λ read. plan_of plan.now ≡ Ok read.plan) }
-    ensures script { IfOk result (λ read. given_script read.plan (option_copied script.entry) ≡ Ok read.script) }
-    ensures err { IfErr result (WasUnread plan.now (option_copied script.entry)) }
-{
-    let plan = match read_plan(alloc, plan) {
-        Ok(plan) => plan,
-        Err(refusal) => return Err(Refusal::Plan(refusal)),
-    };
-    match read_given(alloc, script, &plan) {
-        Ok(script) => Ok(ReadBytes { plan, script }),
-        Err(refusal) => Err(Refusal::Script(refusal)),
-    }
-}
-
-/// Reads the script for the plan; without bytes the script is empty.
-fn read_given(alloc: Global, bytes: Option<&[u8]>, plan: &Plan) -> Result<Script, ScriptError>
-    ensures defined { Gives script_error.Memory (λ script. script) result (given_script plan.now (option_copied bytes.entry)) }
-    ensures memory { result ≡ Err script_error.Memory → MayBeRead (option_copied bytes.entry) }
-{
-    match bytes {
-        Some(bytes) => read_script(alloc, bytes, plan),
-        None => Ok(Script::empty()),
     }
 }
 
@@ -167,37 +120,15 @@ fn without_extras(alloc: Global, read: ReadBytes) -> ReadInputs
     }
 }
 
-/// Reads the extras of a script; without a script there are none.
-fn read_given_extras(
-    alloc: Global,
-    bytes: Option<&[u8]>,
-    plan: &PlanOutputs,
-) -> Result<Extras, ScriptError>
-    requires { IfSome (option_copied bytes) (λ some. length some ≤ max_bytes) }
-    ensures defined { Gives script_error.Memory extras_view result
-        (given_extras (outputs_view plan.now) (option_copied bytes.entry)) }
-    ensures memory { result ≡ Err script_error.Memory → MayBeRead (option_copied bytes.entry) }
-{
-    match bytes {
-        Some(bytes) => read_extras(alloc, bytes, plan),
-        None => Ok(Extras::none(alloc)),
-    }
-}
-
 /// Puts together the inputs that are applied. `Err` if memory is refused.
-fn assemble(
-    alloc: Global,
-    read: ReadBytes,
-    details: Details,
-    extras: Extras,
-) -> Result<ReadInputs, AllocError>
-    ensures { IfOk result (IsReadAs Terraform (record {
-      plan = read.plan;
-      script = read.script;
-      details = details_view details;
-      extras = extras_view extras;
-    })) }
+fn assemble(alloc: Global, stated: ReadStated) -> Result<ReadInputs, AllocError>
+    ensures { IfOk result (IsReadAs Terraform (stated_view stated)) }
 {
+    let ReadStated {
+        read,
+        details,
+        extras,
+    } = stated;
     let has_waits = read.script.has_waits();
     let Details {
         plan: plan_details,

@@ -10,9 +10,14 @@ use Rattle.apply_text.specs.declared.start.MomentError.TheVariants.{NotAMoment, 
 abbrev pub end_of_starts : ℕ
 end_of_starts = 221845392000
 
+-- the latest second of a line after the start: where a plan is applied without being saved, up to
+-- 9,999 objects may take a day each before the first event
+abbrev pub latest_clock : ℕ
+latest_clock = latest_second + 864000000
+
 -- the last second that a line can show, after the start of 1970
 abbrev pub last_second : ℕ
-last_second = end_of_starts + latest_second
+last_second = end_of_starts + latest_clock
 
 -- the whole seconds of an instant in nanoseconds, where the instant is in the range
 abbrev pub start_at : ℤ → Result ℕ MomentError

@@ -5,7 +5,8 @@ ghost use Rattle.std.specs.Prelude.{◌≡◌, ◌≤◌, ◌+◌, ◌∷◌, �
 ghost use Rattle.std.specs.Option.{option_copied};
 ghost use Rattle.std.specs.Str.{IsUtf8};
 ghost use Rattle.json.specs.Print.{print};
-ghost use Rattle.apply_events.specs.Fits.{HasStep, latest_second};
+ghost use Rattle.apply_events.specs.Fits.{HasStep};
+ghost use Rattle.apply_text.specs.Start.{latest_clock};
 ghost use Rattle.apply_text.specs.AppliedStep.{message_of};
 ghost use Rattle.apply_text.specs.HookLines.{IsPlainId, fields_message, hook_fields_view};
 ghost use Rattle.apply_text.specs.Lines.{event_text, message_line, summary_text, version_text};
@@ -140,7 +141,7 @@ impl LineBuffer {
         event: &Event,
     ) -> Result<(), AllocError>
         requires has_step { HasStep plan.now event.now.change event.now.step }
-        requires in_time { clock ≤ latest_second }
+        requires in_time { clock ≤ latest_clock }
         ensures ok { OnOk result
             (self.new ≡ self.old ++ event_text plan.now script.now start clock event.now) }
         ensures err { OnErr result (self.new ≡ self.old) }
@@ -165,7 +166,7 @@ impl LineBuffer {
         operation: Operation,
         counts: &Counts,
     ) -> Result<(), AllocError>
-        requires in_time { clock ≤ latest_second }
+        requires in_time { clock ≤ latest_clock }
         ensures ok { OnOk result
             (self.new ≡ self.old ++ summary_text start clock operation counts.now) }
         ensures err { OnErr result (self.new ≡ self.old) }
@@ -187,7 +188,7 @@ impl LineBuffer {
         step: AppliedStep<'_>,
         what: What,
     ) -> Result<(), AllocError>
-        requires { clock ≤ latest_second }
+        requires { clock ≤ latest_clock }
         ensures ok { OnOk result
             (self.new ≡ self.old ++ message_line (start + clock) (message_of step.entry what)) }
         ensures err { OnErr result (self.new ≡ self.old) }
@@ -217,7 +218,7 @@ impl LineBuffer {
         step: StepKind,
         seconds: u32,
     ) -> Result<(), AllocError>
-        requires { clock ≤ latest_second }
+        requires { clock ≤ latest_clock }
         ensures ok { OnOk result (self.new
             ≡ self.old ++ message_line (start + clock) (progress_message change.now step seconds)) }
         ensures err { OnErr result (self.new ≡ self.old) }
@@ -238,7 +239,7 @@ impl LineBuffer {
         step: StepKind,
         fields: HookFields<'_>,
     ) -> Result<(), AllocError>
-        requires in_time { clock ≤ latest_second }
+        requires in_time { clock ≤ latest_clock }
         requires id { IsPlainId (option_copied fields.id) }
         requires order { fields.id_first ≡ false }
         ensures ok { OnOk result (self.new ≡ self.old

@@ -1,7 +1,8 @@
 //! Single lines, each in a string of its own. Every `Err` means that memory was refused.
 
 ghost use Rattle.std.specs.Prelude.{◌≡◌, ◌≤◌, IfOk, string_bytes};
-ghost use Rattle.apply_events.specs.Fits.{HasStep, latest_second};
+ghost use Rattle.apply_events.specs.Fits.{HasStep};
+ghost use Rattle.apply_text.specs.Start.{latest_clock};
 ghost use Rattle.apply_text.specs.Lines.{event_text, summary_text, version_text};
 
 use crate::line_buffer::LineBuffer;
@@ -25,7 +26,7 @@ pub fn version_line(alloc: Global, plan: &Plan, start: Start) -> Result<String, 
 /// "Diagnostic"). Its timestamp is `clock` seconds after `start`, where `clock` is the greatest
 /// time of an event so far.
 ///
-/// `clock` is at most `LATEST`. A text that the script does not have is empty: of a diagnostic, the
+/// `clock` is at most 2,592,000,000. A text that the script does not have is empty: of a diagnostic, the
 /// name of a provisioner, or an output of one.
 pub fn event_line(
     alloc: Global,
@@ -36,7 +37,7 @@ pub fn event_line(
     event: &Event,
 ) -> Result<String, AllocError>
     requires has_step { HasStep plan.now event.now.change event.now.step }
-    requires in_time { clock ≤ latest_second }
+    requires in_time { clock ≤ latest_clock }
     ensures { IfOk result
         (λ line. string_bytes line ≡ event_text plan.now script.now start clock event.now) }
 {
@@ -47,7 +48,7 @@ pub fn event_line(
 
 /// The last line of a stream, with its line feed: the counts of completed changes (Machine-Readable
 /// UI, "Change Summary"). Its timestamp is `clock` seconds after `start`. `clock` is at most
-/// `LATEST`.
+/// 2,592,000,000.
 pub fn summary_line(
     alloc: Global,
     start: Start,
@@ -55,7 +56,7 @@ pub fn summary_line(
     operation: Operation,
     counts: &Counts,
 ) -> Result<String, AllocError>
-    requires { clock ≤ latest_second }
+    requires { clock ≤ latest_clock }
     ensures { IfOk result
         (λ line. string_bytes line ≡ summary_text start clock operation counts.now) }
 {

@@ -153,7 +153,7 @@ fn write_totals(
 
 /// Starts a message, and writes the members that every message has. `scratch` holds the text of the
 /// message, and is overwritten.
-fn begin_message(
+pub fn begin_message(
     out: &mut Writer,
     scratch: &mut String,
     level: &str,

@@ -3,7 +3,8 @@
 ghost use Rattle.std.specs.Prelude.{◌≡◌, ◌≤◌, ◌+◌, ◌++◌, [], true, IfOk, IsOk, List, OnOk, OnErr, ℕ};
 ghost use Rattle.std.specs.Option.{option_copied};
 ghost use Rattle.json.specs.Print.{print};
-ghost use Rattle.apply_events.specs.Fits.{HasStep, latest_second};
+ghost use Rattle.apply_events.specs.Fits.{HasStep};
+ghost use Rattle.apply_text.specs.Start.{latest_clock};
 ghost use Rattle.apply_text.specs.AppliedStep.{diag_view};
 ghost use Rattle.apply_text.specs.HookLines.{hook_fields_view};
 ghost use Rattle.apply_text_terraform.specs.AppliedStep.{line_of_event};
@@ -157,7 +158,7 @@ impl TerraformBuffer {
         event: &Event,
     ) -> Result<(), AllocError>
         requires has_step { HasStep plan.now event.now.change event.now.step }
-        requires in_time { clock ≤ latest_second }
+        requires in_time { clock ≤ latest_clock }
         ensures ok { OnOk result
             (self.new ≡ self.old ++ event_text plan.now script.now start clock (option_copied planned.entry) event.now) }
         ensures err { OnErr result (self.new ≡ self.old) }
@@ -179,7 +180,7 @@ impl TerraformBuffer {
     ///
     /// After an `Err` the lines are unchanged.
     pub fn push_note(&mut self, start: Start, clock: u64, note: &Note) -> Result<(), AllocError>
-        requires in_time { clock ≤ latest_second }
+        requires in_time { clock ≤ latest_clock }
         ensures ok { OnOk result (self.new ≡ self.old ++ note_text start clock note.now) }
         ensures err { OnErr result (self.new ≡ self.old) }
     {
@@ -201,7 +202,7 @@ impl TerraformBuffer {
         counts: &Counts,
         imported: u64,
     ) -> Result<(), AllocError>
-        requires in_time { clock ≤ latest_second }
+        requires in_time { clock ≤ latest_clock }
         ensures ok { OnOk result
             (self.new ≡ self.old ++ summary_text start clock operation counts.now imported) }
         ensures err { OnErr result (self.new ≡ self.old) }
@@ -229,7 +230,7 @@ impl TerraformBuffer {
         clock: u64,
         outputs: &[Output],
     ) -> Result<(), AllocError>
-        requires in_time { clock ≤ latest_second }
+        requires in_time { clock ≤ latest_clock }
         ensures ok { OnOk result (self.new ≡ self.old ++ outputs_text start clock outputs.now) }
         ensures err { OnErr result (self.new ≡ self.old) }
     {
@@ -279,7 +280,7 @@ impl TerraformBuffer {
         planned: Option<&str>,
         what: What,
     ) -> Result<(), AllocError>
-        requires { clock ≤ latest_second }
+        requires { clock ≤ latest_clock }
         ensures ok { OnOk result (self.new
             ≡ self.old ++ line_of_event (start + clock) step.entry (option_copied planned.entry) what) }
         ensures err { OnErr result (self.new ≡ self.old) }
@@ -312,7 +313,7 @@ impl TerraformBuffer {
         step: StepKind,
         seconds: u32,
     ) -> Result<(), AllocError>
-        requires { clock ≤ latest_second }
+        requires { clock ≤ latest_clock }
         ensures ok { OnOk result (self.new
             ≡ self.old ++ line_of_text (progress_text (start + clock) change.now step seconds)) }
         ensures err { OnErr result (self.new ≡ self.old) }
@@ -332,7 +333,7 @@ impl TerraformBuffer {
         step: StepKind,
         fields: HookFields<'_>,
     ) -> Result<(), AllocError>
-        requires in_time { clock ≤ latest_second }
+        requires in_time { clock ≤ latest_clock }
         requires id { IsPlainId (option_copied fields.id) }
         requires order { fields.id_first ≡ true }
         ensures ok { OnOk result (self.new ≡ self.old
@@ -346,7 +347,7 @@ impl TerraformBuffer {
     }
 
     /// Starts a line. The writer holds the memory of `line` until the line ends.
-    fn begin_line(&mut self) -> Writer
+    pub fn begin_line(&mut self) -> Writer
         ensures before { result.before ≡ [] }
         ensures tokens { result.tokens ≡ [] }
         ensures lines { self.new ≡ self.old }
@@ -357,7 +358,13 @@ impl TerraformBuffer {
     }
 
     /// Appends the line when all of it was written, and takes its memory back.
-    fn end_line(&mut self, out: Writer, written: Result<(), AllocError>) -> Result<(), AllocError>
+    ///
+    /// `Err` when `written` is one, or memory was refused; then the lines are unchanged.
+    pub fn end_line(
+        &mut self,
+        out: Writer,
+        written: Result<(), AllocError>,
+    ) -> Result<(), AllocError>
         requires { out.before ≡ [] }
         ensures ok { OnOk result (IsOk written × (self.new ≡ self.old ++ line_of_text (print out.tokens))) }
         ensures err { OnErr result (self.new ≡ self.old) }

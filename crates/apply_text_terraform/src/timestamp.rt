@@ -1,7 +1,7 @@
 //! Timestamps in UTC, with microseconds.
 
 ghost use Rattle.std.specs.Prelude.{◌≡◌, ◌+◌, ◌≤◌, Some};
-ghost use Rattle.apply_events.specs.Fits.{latest_second};
+ghost use Rattle.apply_text.specs.Start.{latest_clock};
 ghost use Rattle.apply_text_terraform.specs.UtcTimestamp.{precise_timestamp_text};
 
 use apply_text::Start;
@@ -31,7 +31,7 @@ impl Model for UtcTimestamp {
 impl UtcTimestamp {
     /// The timestamp `clock` seconds after `start`.
     pub fn new(start: Start, clock: u64) -> UtcTimestamp
-        requires { clock ≤ latest_second }
+        requires { clock ≤ latest_clock }
         ensures { result ≡ precise_timestamp_text (start + clock) }
     {
         let seconds = start.seconds() + clock;

@@ -182,6 +182,7 @@ fn findings_have_their_status(rt: HostRuntime) {
     let alloc = rt.alloc();
     ends_with(&rt, alloc, PLAN, None, 0);
     ends_with(&rt, alloc, PLAN, Some(r#"{"changes":[]}"#), 0);
+    ends_with(&rt, alloc, PLAN, Some(r#"{"changes":[],"planning":7}"#), 0);
     let ignored = r#"{"changes":[],"change":[]}"#;
     ends_with(&rt, alloc, PLAN, Some(ignored), 1);
     ends_with(&rt, alloc, "{", None, 2);

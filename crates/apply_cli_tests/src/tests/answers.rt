@@ -38,6 +38,9 @@ fn each_usage_has_its_answer(rt: HostRuntime) {
     answer_is(&rt, alloc, Usage::Memory, 3, "", errors);
     let errors = "applystream: the clock could not be read\n";
     answer_is(&rt, alloc, Usage::Clock, 3, "", errors);
+    let errors = "applystream: --command takes no --destroy beside it\n";
+    let misplaced = Usage::Misplaced(Misplaced::Destroy);
+    answer_is(&rt, alloc, misplaced, 2, "", errors);
 }
 
 /// Fails if the status differs when neither stream accepts anything.
@@ -55,6 +58,7 @@ fn an_answer_that_cannot_be_printed_is_dropped(rt: HostRuntime) {
     is_dropped(&rt, alloc, help_with(&rt, alloc, "how it goes\n"), 0);
     is_dropped(&rt, alloc, Usage::Version, 0);
     is_dropped(&rt, alloc, words_with(&rt, alloc, "error: no\n"), 2);
+    is_dropped(&rt, alloc, Usage::Misplaced(Misplaced::Form), 2);
     is_dropped(&rt, alloc, Usage::Hooks, 2);
     is_dropped(&rt, alloc, Usage::Memory, 3);
 }

@@ -72,6 +72,8 @@ fn input_fails<T: Threads + Wait + Sync + Abort>(
     let job = Job {
         settings: leaked(rt, alloc, defaults(alloc)),
         form: Form::Applystream,
+        command: Command::Saved,
+        refresh: true,
         registry: no_hooks(rt, alloc),
         script: None,
     };

@@ -118,6 +118,8 @@ fn with_33_halts(rt: &impl Abort, alloc: Global) -> &'static Invocation {
             settings,
             parallelism,
             form,
+            command: Command::Saved,
+            refresh: true,
         },
     )
 }

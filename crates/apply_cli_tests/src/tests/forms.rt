@@ -1,4 +1,5 @@
-//! Streams in Terraform's form, over outputs that fail.
+//! Streams in Terraform's form, over outputs that fail, and the options of such a run that
+//! `validate` takes too.
 
 use super::*;
 use apply_cli::{run_job, run_job_in_lanes};
@@ -26,6 +27,8 @@ fn job(rt: &impl Abort, alloc: Global) -> Job<'static, 'static> {
     Job {
         settings: leaked(rt, alloc, defaults(alloc)),
         form: Form::Terraform,
+        command: Command::Saved,
+        refresh: true,
         registry: no_hooks(rt, alloc),
         script: Some(SCRIPT.as_bytes()),
     }
@@ -67,4 +70,31 @@ fn an_output_that_fails_has_a_front_of_the_stream(rt: HostRuntime) {
     for room in (0..STREAM.len()).step_by(97) {
         front_is(&rt, rt.alloc(), room);
     }
+}
+
+/// Fails unless a refused plan is reported with these options of `validate`, after those of lanes.
+fn options_are(rt: &impl Abort, alloc: Global, command: Command, refresh: bool, options: &str) {
+    let mut job = job(rt, alloc);
+    job.command = command;
+    job.refresh = refresh;
+    let (sink, mut errors) = (StdSink::new(Vec::new(alloc)), Vec::new(alloc));
+    let (sink, status) = run_job_in_lanes(alloc, &job, 2, b"5".as_slice(), sink, &mut errors);
+    let outcome = outcome_of(rt, alloc, status, sink.into_inner(), errors);
+    let wanted = format!(in alloc;
+        "applystream: the plan is not a plan of format 1.x\napplystream: applystream validate --parallelism 2{options} says where and what\n"
+    );
+    let wanted = leaked_text(rt, alloc, wanted.expect(rt, "memory"));
+    outcome_is(rt, options, outcome, 2, "", wanted);
+}
+
+#[test]
+fn a_refused_plan_is_reported_with_the_command(rt: HostRuntime) {
+    let alloc = rt.alloc();
+    let none = " --form terraform";
+    options_are(&rt, alloc, Command::Saved, true, none);
+    options_are(&rt, alloc, Command::Saved, false, none);
+    options_are(&rt, alloc, Command::Plan, true, " --command plan");
+    options_are(&rt, alloc, Command::Apply, true, " --command apply");
+    let unrefreshed = " --command destroy --refresh false";
+    options_are(&rt, alloc, Command::Destroy, false, unrefreshed);
 }

@@ -1,4 +1,5 @@
-//! Which arguments state which settings, which form, and how many changes run at once.
+//! Which arguments state which settings, which form, which command, and how many changes run at
+//! once.
 
 use super::*;
 
@@ -89,6 +90,57 @@ const FORMS: &str = " => Applystream
 --form terraform --version => Version
 --help --form x => Help";
 
+/// Arguments, and the command that they state, with its form, its operation and its refresh.
+const COMMANDS: &str = r#" => Saved Applystream Apply true
+--destroy => Saved Applystream Destroy true
+--form terraform => Saved Terraform Apply true
+--command saved => Saved Applystream Apply true
+--command=saved --destroy => Saved Applystream Destroy true
+--command saved --form applystream => Saved Applystream Apply true
+--command saved --form terraform => Saved Terraform Apply true
+--command plan => Plan Terraform Apply true
+--command=apply => Apply Terraform Apply true
+--command destroy => Destroy Terraform Destroy true
+--form terraform --command plan => Plan Terraform Apply true
+--command apply --form=terraform => Apply Terraform Apply true
+--command plan --refresh true => Plan Terraform Apply true
+--command plan --refresh false => Plan Terraform Apply false
+--refresh=false --command apply => Apply Terraform Apply false
+--command destroy --refresh=false => Destroy Terraform Destroy false
+--command plan --parallelism 2 --halt-before create => Plan Terraform Apply true
+--command apply --workers 8 --queue 1 => Apply Terraform Apply true
+--command planned => Words
+--command Plan => Words
+--command= => Words
+--command => Words
+--command plan --command plan => Words
+--command saved --command plan => Words
+--command plan --refresh maybe => Words
+--command plan --refresh True => Words
+--command plan --refresh => Words
+--command plan --refresh true --refresh true => Words
+--refresh maybe => Words
+--command plan --form applystream => --command takes --form terraform
+--form=applystream --command apply => --command takes --form terraform
+--command destroy --form applystream => --command takes --form terraform
+--command=plan --destroy --form applystream => --command takes --form terraform
+--command plan --destroy => --command takes no --destroy beside it
+--command apply --destroy --form terraform => --command takes no --destroy beside it
+--destroy --command destroy --refresh false => --command takes no --destroy beside it
+--refresh true => --refresh takes --command plan, apply or destroy
+--refresh false --form terraform => --refresh takes --command plan, apply or destroy
+--command saved --refresh false => --refresh takes --command plan, apply or destroy
+--command saved --form applystream --destroy --refresh true => --refresh takes --command plan, apply or destroy
+--command plan --destroy --parallelism 2 --workers 2 => Beside
+--command plan --destroy --at now => --command takes no --destroy beside it
+--refresh true --at x => --refresh takes --command plan, apply or destroy
+--command plan --destroy --at x --refresh maybe => Words
+--command plan --at x => NotAMoment
+--command plan --at now => Clock
+--command plan --version => Version
+--command planned --help => Words
+--help --command planned => Help"#;
+
 /// Arguments, and how many changes at once they ask for.
 const LANES: &str = " => None
 --parallelism 1 => Some(1)
@@ -117,7 +169,7 @@ const LANES: &str = " => None
 -V --parallelism 2 => Version
 --help => Help";
 
-/// Arguments with a parallelism or a form, and the answer of the options without them.
+/// Arguments with further options, and the answer of those of the settings alone.
 const OTHERS: &str = "--parallelism 2 => Words
 --parallelism 2 --workers 2 => Words
 --parallelism=x --at x => Words
@@ -125,6 +177,8 @@ const OTHERS: &str = "--parallelism 2 => Words
 --form terraform => Words
 --form=applystream => Words
 --form x --at x => Words
+--command saved => Words
+--refresh true => Words
 -h --form terraform => Help";
 
 /// The answer to the arguments: what they state for `what`, or the error.
@@ -139,12 +193,26 @@ fn answer_to(rt: &impl Abort, alloc: Global, what: &str, text: &str) -> &'static
 fn stated_by(rt: &impl Abort, alloc: Global, what: &str, invocation: &Invocation) -> &'static str {
     match what {
         "form" => shown(rt, alloc, &invocation.form),
+        "command" => command_shown(rt, alloc, invocation),
         "lanes" => shown(rt, alloc, &invocation.parallelism),
         _ => shown(rt, alloc, &invocation.settings),
     }
 }
 
-/// The answer of the options without a parallelism and a form.
+/// The command, its form, its operation and its refresh.
+fn command_shown(rt: &impl Abort, alloc: Global, invocation: &Invocation) -> &'static str {
+    let Invocation {
+        command,
+        form,
+        refresh,
+        ..
+    } = invocation;
+    let operation = invocation.settings.operation;
+    let text = format!(in alloc; "{command:?} {form:?} {operation:?} {refresh}");
+    leaked_text(rt, alloc, text.expect(rt, "memory"))
+}
+
+/// The answer of the options of the settings alone.
 fn settings_answer_to(rt: &impl Abort, alloc: Global, text: &str) -> &'static str {
     let words = words_of(rt, alloc, text);
     match leaked(rt, alloc, read_words(alloc, words)) {
@@ -153,16 +221,20 @@ fn settings_answer_to(rt: &impl Abort, alloc: Global, text: &str) -> &'static st
     }
 }
 
-/// The error of a timestamp, or the name of any other usage.
+/// The error of a timestamp, the text of a misplaced option, or the name of any other usage.
 fn fault_of(rt: &impl Abort, alloc: Global, usage: &Usage) -> &'static str {
     match usage {
         Usage::Moment(error) => shown(rt, alloc, error),
+        Usage::Misplaced(error) => {
+            let text = format!(in alloc; "{error}");
+            leaked_text(rt, alloc, text.expect(rt, "memory"))
+        }
         _ => name_of(usage),
     }
 }
 
 /// Fails if arguments are answered otherwise. Arguments that only state settings are also given to
-/// the options without a parallelism and a form.
+/// the options of the settings alone.
 fn row_is_answered(rt: &impl Abort, alloc: Global, what: &str, row: &str) {
     let (words, wanted) = parted(rt, row, " => ");
     if what != "others" {
@@ -184,6 +256,7 @@ fn words_state(rt: &impl Abort, alloc: Global, what: &str, table: &str) {
 fn words_state_settings(rt: HostRuntime) {
     words_state(&rt, rt.alloc(), "settings", SETTINGS);
     words_state(&rt, rt.alloc(), "form", FORMS);
+    words_state(&rt, rt.alloc(), "command", COMMANDS);
     words_state(&rt, rt.alloc(), "lanes", LANES);
     words_state(&rt, rt.alloc(), "others", OTHERS);
 }

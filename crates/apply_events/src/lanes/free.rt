@@ -6,7 +6,7 @@ ghost use Rattle.apply_events.specs.Waits.Schedule.{first_earliest};
 use crate::lanes::lane_time::LaneTime;
 
 /// The lane that is free first. Of several lanes it is the lowest.
-pub(crate) fn first_earliest(free: &[LaneTime]) -> usize
+pub fn first_earliest(free: &[LaneTime]) -> usize
     requires { 0 < length free.now }
     ensures { result ≡ first_earliest free.now }
 {

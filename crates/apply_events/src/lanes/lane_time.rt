@@ -16,7 +16,7 @@ impl LaneTime {
     ghost use Rattle.apply_events.specs.Waits.LaneTime.{first_lane_time, is_earlier, later_by, later_of, next_round};
 
     /// The first of all times.
-    pub(crate) fn first() -> LaneTime
+    pub fn first() -> LaneTime
         ensures { result ≡ first_lane_time }
     {
         LaneTime {
@@ -26,14 +26,14 @@ impl LaneTime {
     }
 
     /// Whether this time is earlier than the other.
-    pub(crate) fn is_earlier(self, other: LaneTime) -> bool
+    pub fn is_earlier(self, other: LaneTime) -> bool
         ensures { result ≡ is_earlier self other }
     {
         self.second < other.second || self.second == other.second && self.round < other.round
     }
 
     /// The later of the two times.
-    pub(crate) fn later_of(self, other: LaneTime) -> LaneTime
+    pub fn later_of(self, other: LaneTime) -> LaneTime
         ensures { result ≡ later_of self other }
     {
         if self.is_earlier(other) { other } else { self }
@@ -41,7 +41,7 @@ impl LaneTime {
 
     /// The time so many seconds later. After 0 seconds it is the same time, otherwise the first
     /// round of its second.
-    pub(crate) fn later_by(self, seconds: u32) -> LaneTime
+    pub fn later_by(self, seconds: u32) -> LaneTime
         requires { self.second + seconds < 2 ^ 64 }
         ensures { result ≡ later_by seconds self }
     {
@@ -56,7 +56,7 @@ impl LaneTime {
     }
 
     /// The next round in the same second.
-    pub(crate) fn next_round(self) -> LaneTime
+    pub fn next_round(self) -> LaneTime
         requires { self.round + 1 < 2 ^ 32 }
         ensures { result ≡ next_round self }
     {

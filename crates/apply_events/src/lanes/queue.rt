@@ -4,7 +4,8 @@
 
 ghost use Rattle.std.specs.Prelude.{◌≡◌, ◌+◌, ◌*◌, ◌<◌, ◌^◌, ◌++◌, [], ◌∷◌, ℕ, IfNone, IfOk, IfSome, List, None, OnOk, Option, length, map};
 ghost use Rattle.std.specs.BinaryHeap.{heap_items};
-ghost use Rattle.apply_events.specs.Waits.Queue.{HasPlace, IsDue, IsFirstDue, IsQueue, Stands, none_done, with_step_done, turn_waits, waiting_at};
+ghost use Rattle.apply_events.specs.Waits.LaneTime.{first_lane_time};
+ghost use Rattle.apply_events.specs.Waits.Queue.{Follow, HasPlace, IsDue, IsFirstDue, IsQueue, Stands, counts_of, none_done, with_step_done, with_waits_of, turn_waits, waiting_at};
 
 pub mod followers;
 
@@ -57,15 +58,23 @@ impl Queue {
         requires { length turns.now < 2 ^ 32 }
         ensures { IfOk result (λ queue. IsQueue (2 * changes) (map (turn_waits script.now) turns.now) none_done [] queue) }
     {
-        let mut queue = Queue {
-            waiting: Vec::with_capacity(alloc, turns.len())?,
-            followers: Followers::new(alloc, changes)?,
-            ready: BinaryHeap::new(alloc),
-        };
+        let mut queue = Queue::with_room(alloc, changes, turns.len())?;
         for turn in turns {
             queue.add(script, *turn)?;
         }
         Ok(queue)
+    }
+
+    /// A queue without turns, with room for so many. Turns may wait for the steps of so many
+    /// changes. `Err` where memory is refused.
+    pub fn with_room(alloc: Global, changes: u32, turns: usize) -> Result<Queue, AllocError>
+        ensures { IfOk result (λ queue. IsQueue (2 * changes) [] none_done [] queue) }
+    {
+        Ok(Queue {
+            waiting: Vec::with_capacity(alloc, turns)?,
+            followers: Followers::new(alloc, changes)?,
+            ready: BinaryHeap::new(alloc),
+        })
     }
 
     /// Adds a turn.
@@ -76,6 +85,30 @@ impl Queue {
     {
         let number = self.waiting.len() as u32;
         let missing = self.followers.add_turn(script, turn, number)?;
+        self.push_turn(number, missing)?;
+        Ok(())
+    }
+
+    /// Adds a turn that waits for these steps. A step that is named again counts each time. `Err`
+    /// where memory is refused, or where 2^32 steps are named.
+    pub fn add_waits(&mut self, steps: &[Wait]) -> Result<(), AllocError>
+        requires { length self.old.waiting.items < 2 ^ 32 }
+        ensures { OnOk result ((limit : ℕ) (names : List (List Wait)) → IsQueue limit names none_done [] self.old
+            → IsQueue limit (names ++ steps.now ∷ []) none_done [] self.new) }
+    {
+        let number = self.waiting.len() as u32;
+        let missing = self.followers.add_each(steps, number)?;
+        self.push_turn(number, missing)?;
+        Ok(())
+    }
+
+    /// Adds a turn whose waits were added already. It is the last by number, and misses so many.
+    fn push_turn(&mut self, number: u32, missing: u32) -> Result<(), AllocError>
+        ensures { OnOk result ((limit : ℕ) (names : List (List Wait)) (turn : List Wait) → number ≡ length names → missing ≡ length turn
+            → Follow limit (with_waits_of (counts_of names) number turn) self.old.followers
+            → Stands names none_done [] first_lane_time [] self.old.waiting.items (heap_items self.old.ready)
+            → IsQueue limit (names ++ turn ∷ []) none_done [] self.new) }
+    {
         let at = LaneTime::first();
         self.waiting.push(Waiting { missing, at })?;
         if missing == 0 {
@@ -86,7 +119,7 @@ impl Queue {
 
     /// Takes the turn that is ready first. Of several such turns it is the first in the plan.
     /// `None` where no turn is ready; more may be ready after another step is done.
-    pub(crate) fn take(&mut self) -> Option<ReadyTurn>
+    pub fn take(&mut self) -> Option<ReadyTurn>
         ensures some { IfSome result (λ one. (limit : ℕ) (names : List (List Wait)) (done : Wait → Option LaneTime) (started : List ℕ)
             → IsQueue limit names done started self.old
             → IsFirstDue names done started one × IsQueue limit names done (one.number ∷ started) self.new) }
@@ -97,7 +130,7 @@ impl Queue {
     }
 
     /// Records that a step is done, and when. Turns that wait for it may become ready.
-    pub(crate) fn complete(&mut self, step: Wait, at: LaneTime) -> Result<(), AllocError>
+    pub fn complete(&mut self, step: Wait, at: LaneTime) -> Result<(), AllocError>
         requires round { at.round + 1 < 2 ^ 32 }
         requires known { (limit : ℕ) × (names : List (List Wait)) × (done : Wait → Option LaneTime) × (started : List ℕ)
             × HasPlace step limit × IsQueue limit names done started self.old × (done step ≡ None) }

@@ -10,6 +10,8 @@ pub enum Named {
     Entry(u32),
     Output(usize),
     Diagnostic(usize),
+    /// An item of `planning`.
+    Planned(usize),
 }
 
 impl fmt::Display for Named {
@@ -19,6 +21,7 @@ impl fmt::Display for Named {
             Named::Entry(number) => write!(f, "script entry {number}"),
             Named::Output(number) => write!(f, "script output {number}"),
             Named::Diagnostic(number) => write!(f, "script diagnostic {number}"),
+            Named::Planned(number) => write!(f, "script planning {number}"),
         }
     }
 }

@@ -5,6 +5,7 @@ ghost use Rattle.apply_plan.specs.declared.script.script_error.ScriptError.TheVa
 ghost use Rattle.apply_plan.specs.NoTree.{script_refusal};
 
 use crate::script::named::Named;
+use crate::script::planning_error::PlanningError;
 use apply_json::JsonFault;
 use std::alloc::{AllocError, AllocFailed};
 use std::error::Error;
@@ -67,6 +68,10 @@ pub enum ScriptError {
     ///
     /// Diagnostics are counted from 0. The `severity` of each must be `error` or `warning`.
     BadDiagnostic(usize),
+    /// What the script says of the planning of the plan is wrong.
+    ///
+    /// It comes only with a command that plans, if no variant above holds.
+    Planning(PlanningError),
     /// Memory was refused. It is reported at once, before faults of later parts of the input.
     Memory,
 }
@@ -103,6 +108,7 @@ impl ScriptError {
                 Named::Output(number)
             }
             ScriptError::BadDiagnostic(number) => Named::Diagnostic(number),
+            ScriptError::Planning(error) => error.named(),
             ScriptError::TooLarge
             | ScriptError::NotJson
             | ScriptError::BadShape(None)
@@ -133,6 +139,7 @@ impl ScriptError {
             ScriptError::NoSuchStep(_) => " waits for a step that its change does not have",
             ScriptError::NeverBegins(_) => " has a step that could never begin",
             ScriptError::UnknownOutput(_) => " is not an output of the plan",
+            ScriptError::Planning(error) => error.text(),
             ScriptError::Memory => "out of memory",
         }
     }

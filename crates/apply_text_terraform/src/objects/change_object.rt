@@ -36,7 +36,10 @@ pub fn put_change(
 }
 
 /// Writes the member `previous_resource`. Nothing when the object was not moved.
-fn put_previous_if(out: &mut Writer, previous: Option<&PreviousResource>) -> Result<(), AllocError>
+pub fn put_previous_if(
+    out: &mut Writer,
+    previous: Option<&PreviousResource>,
+) -> Result<(), AllocError>
     ensures { Sends result out.old out.new (previous_tokens (option_copied previous.entry)) }
 {
     match previous {

@@ -13,7 +13,7 @@ max_events = 2 ^ 29
 
 -- the greatest number of chunks of the head
 abbrev pub max_head_chunks : ℕ
-max_head_chunks = 2 ^ 20
+max_head_chunks = 2 ^ 32
 
 -- no count is above n
 pub record IsWithin (n : ℕ) (counts : Counts) : Type 0 where

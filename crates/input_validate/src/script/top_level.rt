@@ -28,10 +28,11 @@ use apply_plan::MAX_WAITS;
 use serde_json::Value;
 use std::alloc::{AllocError, Global};
 
-pub(crate) const NAMES: [Name; 4] = [
+pub(crate) const NAMES: [Name; 5] = [
     Name::Changes,
     Name::Outputs,
     Name::Diagnostics,
+    Name::Planning,
     Name::Schema,
 ];
 

@@ -1,6 +1,6 @@
 use Rattle.std.proofs.Common.{◌∙◌, ap, sym, Some}
 use Rattle.clap.specs.Matches.{found_of}
-use Rattle.apply_cli_args.specs.CommandLine.{is_of_words}
+use Rattle.apply_cli_args.specs.Given.{is_of_words}
 use Rattle.apply_cli_args.proofs.Options.{source-rows}
 use Rattle.apply_cli_args.proofs.arguments.is_given.Goals as goal
 

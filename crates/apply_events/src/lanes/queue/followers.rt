@@ -82,6 +82,20 @@ impl Followers {
         Ok(())
     }
 
+    /// Adds a turn that waits for each of these steps, and returns how many they are.
+    pub(crate) fn add_each(&mut self, steps: &[Wait], turn: u32) -> Result<u32, AllocError>
+        ensures follow { OnOk result ((limit : ℕ) (count : Wait → ℕ → ℕ) → Follow limit count self.old → Follow limit (with_waits_of count turn steps.now) self.new) }
+        ensures count { IfOk result (λ count. count ≡ length steps.now) }
+    {
+        if steps.len() > u32::MAX as usize {
+            return Err(AllocError);
+        }
+        for step in steps {
+            self.add(*step, turn)?;
+        }
+        Ok(steps.len() as u32)
+    }
+
     /// Adds a turn that waits for the step before its first step, if its change has one. Returns
     /// the number of such steps.
     fn add_before(&mut self, turn: Turn, number: u32) -> Result<u32, AllocError>

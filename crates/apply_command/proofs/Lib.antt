@@ -1,0 +1,5 @@
+pub mod Lists
+pub mod MadeOfPlanning
+pub mod PreparedForms
+pub mod Tails
+pub mod Unread

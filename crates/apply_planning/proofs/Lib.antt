@@ -1,0 +1,17 @@
+pub mod Agreeing
+pub mod AtStart
+pub mod Bounded
+pub mod Closed
+pub mod Counted
+pub mod Filling
+pub mod LaneSteps
+pub mod LastEvent
+pub mod Lost
+pub mod LanesInCode
+pub mod Numbered
+pub mod PlannedWork
+pub mod Run
+pub mod Running
+pub mod Scheduling
+pub mod Started
+pub mod TurnEvents

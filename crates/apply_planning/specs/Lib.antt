@@ -1,0 +1,9 @@
+pub mod Begun
+pub mod Lane
+pub mod Names
+pub mod NumberOf
+pub mod PendingNames
+pub mod PlanningWork
+pub mod Schedule
+pub mod ToCome
+pub mod ToldEvents

@@ -1,0 +1,4 @@
+pub mod Events
+pub mod Items
+pub mod Lost
+pub mod ToldChanges

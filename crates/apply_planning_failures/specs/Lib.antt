@@ -1,0 +1,3 @@
+pub mod LostObjects
+pub mod Planning
+pub mod PlansPart

@@ -1,0 +1,13 @@
+pub mod Decisions
+pub mod ItemSlots
+pub mod Items
+pub mod KnownObjects
+pub mod Names
+pub mod ObjectIndex
+pub mod Objects
+pub mod Planning
+pub mod RawItems
+pub mod Rules
+pub mod SeenItems
+pub mod Texts
+pub mod Told

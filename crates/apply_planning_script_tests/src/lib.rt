@@ -1,0 +1,5 @@
+//! Tests of `apply_planning_script`.
+#![tactic(auto)]
+
+#[cfg(test)]
+mod tests;

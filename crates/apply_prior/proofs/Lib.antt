@@ -1,0 +1,7 @@
+mod Drifted
+mod Gathered
+mod LastDrifts
+mod Lists
+mod Placing
+mod Trimmed
+mod TrimmedDetails

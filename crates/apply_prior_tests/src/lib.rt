@@ -1,0 +1,5 @@
+//! Tests of `apply_prior`.
+#![tactic(auto)]
+
+#[cfg(test)]
+mod tests;

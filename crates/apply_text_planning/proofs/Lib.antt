@@ -1,0 +1,4 @@
+pub mod Forgotten
+pub mod OutputTokens
+mod Sums
+pub mod Totals

@@ -1,0 +1,9 @@
+pub mod Laws
+pub mod Lines
+pub mod Message
+pub mod Notes
+pub mod Objects
+pub mod PlanningMessage
+pub mod Sending
+pub mod Totals
+pub mod Words

@@ -1,0 +1,5 @@
+//! Tests of `apply_text_planning`.
+#![tactic(auto)]
+
+#[cfg(test)]
+mod tests;
