@@ -1,3 +1,4 @@
+pub mod HeadChunks
 pub mod Lists
 pub mod MadeOfPlanning
 pub mod PreparedForms

@@ -6,7 +6,8 @@ use Rattle.apply_events.specs.declared.event.Event.{Event}
 use Rattle.apply_events.specs.Waits.Merging.{time_line}
 use Rattle.apply_planning.specs.declared.told.Told.{Told}
 use Rattle.apply_planning.specs.PlanningWork.{planning_work}
-use Rattle.apply_planning_failures.specs.Planning.{Planning, end_of, planning_notes}
+use Rattle.apply_planning.specs.Schedule.{last_second}
+use Rattle.apply_planning_failures.specs.Planning.{Planning, planning_notes}
 use Rattle.apply_planning_failures.specs.PlansPart.{details_at, kept}
 use Rattle.apply_prior.specs.declared.drift.Drift.{Drift}
 use Rattle.apply_text_planning.specs.Totals.{planned_totals}
@@ -32,8 +33,8 @@ module _ (command : Command) (lanes : ℕ) (read : CommandInputs) (events : List
       → severe ≡ list_any is_error (planning_notes (planning command lanes read))
   severe_is failures severe is any_is = any_is ∙ ap (list_any is_error) (notes_are failures is)
 
-  pub took_is : (took : ℕ) → took ≡ end_of events → took ≡ (head_inputs command lanes read 0).took
-  took_is took is = is ∙ ap end_of events_are
+  pub took_is : (took : ℕ) → took ≡ last_second events → took ≡ (head_inputs command lanes read 0).took
+  took_is took is = is ∙ ap last_second events_are
 
   pub drifts_are : (failed_now : Bool) → failed_now ≡ failed command lanes read → (numbers : List ℕ)
       → numbers ≡ kept failed_now (made_of read.told events) (map (λ (drift : Drift). drift.change) read.drifts) → numbers ≡ kept_drifts command lanes read
@@ -51,9 +52,10 @@ module _ (command : Command) (lanes : ℕ) (read : CommandInputs) (events : List
 
   pub lines_are : (told : Bool) → told ≡ specs.tells_plan command (failed command lanes read) (planning_notes (planning command lanes read)) (head.is_none read.stated.plan.changes && head.is_none read.outputs)
       → (drifts changes : List ℕ) → drifts ≡ kept_drifts command lanes read → changes ≡ kept_changes command lanes read
-      → (made : List HeadLine) → made ≡ head.head_lines events (head.plan_lines told drifts changes read.outputs) → made ≡ lines command lanes read
+      → (made : List HeadLine) → made ≡ head.plan_lines told drifts changes read.outputs → head.head_lines (time_line (planning_work read.told) lanes) made ≡ lines command lanes read
   lines_are told told_is drifts changes drifts_is changes_is made is =
-      is ∙ ap₂ (λ es ls. head.head_lines es ls) events_are
-      (ap (λ t. head.plan_lines t drifts changes read.outputs) told_is
+      ap (head.head_lines (time_line (planning_work read.told) lanes))
+      (is
+      ∙ ap (λ t. head.plan_lines t drifts changes read.outputs) told_is
       ∙ ap₂ (λ ds cs. head.plan_lines (specs.tells_plan command (failed command lanes read) (planning_notes (planning command lanes read)) (head.is_none read.stated.plan.changes && head.is_none read.outputs)) ds cs read.outputs)
       drifts_is changes_is)

@@ -1,12 +1,15 @@
 -- The lines of a command, for the types that build them.
-use Rattle.std.specs.Prelude.{ℕ, if◌then◌else◌}
+use Rattle.std.specs.Prelude.{ℕ, List, if◌then◌else◌}
 use Rattle.apply_model.specs.Plan.SavedPlan.{SavedPlan}
 use Rattle.apply_model.specs.Script.OutcomeMap.{OutcomeMap}
+use Rattle.apply_events.specs.Waits.Merging.{time_line}
+use Rattle.apply_planning.specs.PlanningWork.{planning_work}
 use Rattle.apply_text.specs.declared.operation.Operation.{Operation}
 use Rattle.apply_command.specs.declared.command_head.CommandHead.{CommandHead}
+use Rattle.apply_command.specs.declared.head_line.HeadLine.{HeadLine}
 use Rattle.apply_command.specs.declared.prepared.Prepared.{Prepared}
 use Rattle.apply_command.specs.Form.{command_form}
-use Rattle.apply_command.specs.Head.{HeadInputs}
+use Rattle.apply_command.specs.Head.{HeadInputs, head_lines}
 use Rattle.apply_writer.specs.Stream.Form.{StreamForm}
 use Rattle.apply_writer.specs.declared.forms.terraform_extras.TerraformExtras.{TerraformExtras}
 use Rattle.apply_writer.specs.Stream.Terraform.{StreamExtras}
@@ -52,8 +55,12 @@ prepared_script prepared = if prepared.applies then prepared.script else prepare
 abbrev pub prepared_extras : Prepared → StreamExtras
 prepared_extras prepared = record { details = prepared.details.items; notes = prepared.notes.items; outputs = prepared.outputs.items }
 
+-- the lines before the apply
+abbrev pub prepared_lines : Prepared → List HeadLine
+prepared_lines prepared = head_lines (time_line (planning_work prepared.told.items) prepared.lanes) prepared.plan_lines.items
+
 -- the stream of a command that plans
 abbrev pub prepared_form : Prepared → (start : ℕ) → Operation → StreamForm
 prepared_form prepared start operation =
-    command_form (prepared_head prepared start) prepared.lines.items prepared.applies (prepared_plan prepared) (prepared_script prepared)
+    command_form (prepared_head prepared start) (prepared_lines prepared) prepared.applies (prepared_plan prepared) (prepared_script prepared)
     (prepared_extras prepared) operation

@@ -14,9 +14,10 @@ use Rattle.apply_prior.specs.declared.prior.Prior.{Prior}
 use Rattle.apply_prior.specs.Prior.{prior_of, prior_view}
 use Rattle.apply_planning.specs.declared.told.Told.{Told}
 use Rattle.apply_planning.specs.PlanningWork.{planning_work}
+use Rattle.apply_planning.specs.Schedule.{last_second}
 use Rattle.apply_planning_script.specs.declared.rules.PlanningRules.{PlanningRules}
 use Rattle.apply_planning_script.specs.Told.{ToldObject, told_by_script, told_view}
-use Rattle.apply_planning_failures.specs.Planning.{Planning, end_of, planning_notes}
+use Rattle.apply_planning_failures.specs.Planning.{Planning, planning_notes}
 use Rattle.apply_planning_failures.specs.PlansPart.{details_at, kept}
 use Rattle.apply_text.specs.declared.operation.Operation.{Operation}
 use Rattle.apply_text_terraform.specs.declared.command.Command.{Command}
@@ -118,7 +119,7 @@ module _ (command : Command) (lanes : ℕ) (read : CommandInputs) where
     told = read.told;
     totals = planned_totals (filter_map (details_at read.stated.plan.changes read.stated.details.changes) kept_changes);
     start = start;
-    took = end_of planning.events;
+    took = last_second planning.events;
   }
 
   -- and these lines

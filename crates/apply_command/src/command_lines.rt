@@ -2,14 +2,23 @@
 //!
 //! Every `Err` means that memory was refused.
 
-ghost use Rattle.std.specs.Prelude.{◌≡◌, ◌≤◌, ◌++◌, flat_map, IfOk, OnOk};
+ghost use Rattle.std.specs.Prelude.{◌≡◌, ◌<◌, ◌≤◌, ◌++◌, [], drop, flat_map, length, map, slice_index_or, true, IfOk, OnOk};
+ghost use Rattle.apply_events.specs.Waits.Merging.{time_line};
+ghost use Rattle.apply_planning.specs.PlanningWork.{planning_work};
+ghost use Rattle.apply_planning.specs.Schedule.{IsScheduleOf};
+ghost use Rattle.apply_planning.specs.ToCome.{to_come};
 ghost use Rattle.apply_text.specs.Start.{latest_clock};
 ghost use Rattle.apply_text_terraform.specs.Lines.{note_text, summary_text};
 ghost use Rattle.apply_writer.specs.Stream.Terraform.{imported_in, outputs_of_apply};
+ghost use Rattle.apply_command.specs.Head.{event_text, line_text};
+ghost use Rattle.apply_command.specs.InTime.{is_in_time, max_took};
+ghost use Rattle.apply_command.specs.Lines.{prepared_head, prepared_lines};
 
+use crate::head_line::HeadLine;
 use crate::prepared::Prepared;
 use apply_events::{Counts, Event};
 use apply_model::{Note, Plan};
+use apply_planning::PlanningEvents;
 use apply_text::{Operation, Start};
 use apply_text_terraform::TerraformBuffer;
 use apply_writer::{FormLines, TerraformExtras};
@@ -25,10 +34,16 @@ pub struct CommandLines<'a> {
     pub start: Start,
     /// What the apply is for: the summary names it.
     pub operation: Operation,
+    /// The events of the planning whose lines were not built yet.
+    events: PlanningEvents<'a>,
+    /// How many of them were.
+    place: u32,
     /// Room for lines, reused.
     buffer: TerraformBuffer,
     /// Room for the text of a message, reused.
     scratch: String,
+    ghost left: { map (event_text start prepared.now.told.items) (to_come events)
+        ≡ drop place (map (event_text start prepared.now.told.items) (time_line (planning_work prepared.now.told.items) prepared.now.lanes)) },
 }
 
 impl<'a> CommandLines<'a> {
@@ -39,15 +54,59 @@ impl<'a> CommandLines<'a> {
         start: Start,
         operation: Operation,
     ) -> Result<CommandLines<'a>, AllocError>
+        requires planned { IsScheduleOf prepared.now.told.items prepared.now.schedule }
+        requires lanes { prepared.now.schedule.lanes ≡ prepared.now.lanes }
         ensures { IfOk result (λ lines. (lines.prepared.now ≡ prepared.now) × (lines.start ≡ start) × (lines.operation ≡ operation)) }
     {
         Ok(CommandLines {
             prepared,
             start,
             operation,
+            events: prepared.schedule.events(alloc, &prepared.told)?,
+            place: 0,
             buffer: TerraformBuffer::with_room(alloc)?,
             scratch: String::new(alloc),
         })
+    }
+
+    /// The line with that number before the apply. Each is asked for in turn.
+    fn line_at(&mut self, number: u32) -> Result<HeadLine, AllocError>
+        requires { number < length (prepared_lines self.old.prepared.now) }
+        ensures text { IfOk result (λ line. line_text (prepared_head self.old.prepared.now self.old.start) line
+            ≡ slice_index_or (map (line_text (prepared_head self.old.prepared.now self.old.start)) (prepared_lines self.old.prepared.now)) number []) }
+        ensures in_time { IfOk result (λ line. is_in_time line ≡ true) }
+        ensures same { (self.new.prepared ≡ self.old.prepared) × (self.new.start ≡ self.old.start) × (self.new.operation ≡ self.old.operation) }
+    {
+        if number == 0 {
+            return Ok(HeadLine::Version);
+        }
+        let number = number - 1;
+        let event_count = self.prepared.event_count;
+        if number < event_count {
+            return Ok(HeadLine::Planning(self.event_at(number)?));
+        }
+        Ok(self.prepared.plan_lines[(number - event_count) as usize])
+    }
+
+    /// The event of the planning with that number. None is kept: where it is not the next one, its
+    /// memory is refused.
+    fn event_at(&mut self, number: u32) -> Result<Event, AllocError>
+        ensures text { IfOk result (λ event. event_text self.old.start self.old.prepared.now.told.items event
+            ≡ slice_index_or (map (event_text self.old.start self.old.prepared.now.told.items)
+            (time_line (planning_work self.old.prepared.now.told.items) self.old.prepared.now.lanes)) number []) }
+        ensures in_time { IfOk result (λ event. event.at ≤ max_took) }
+        ensures same { (self.new.prepared ≡ self.old.prepared) × (self.new.start ≡ self.old.start) × (self.new.operation ≡ self.old.operation) }
+    {
+        if number != self.place {
+            return Err(AllocError);
+        }
+        match self.events.next() {
+            Some(event) => {
+                self.place += 1;
+                Ok(event)
+            }
+            None => Err(AllocError),
+        }
     }
 }
 
@@ -91,12 +150,12 @@ fn push_totals(
 
 impl FormLines for CommandLines<'_> {
     ghost use Rattle.apply_command.specs.Head.{line_text};
-    ghost use Rattle.apply_command.specs.Lines.{prepared_form, prepared_head};
+    ghost use Rattle.apply_command.specs.Lines.{prepared_form, prepared_head, prepared_lines};
     ghost use Rattle.std.specs.Prelude.{map};
 
     ghost form = { λ lines. prepared_form lines.prepared.now lines.start lines.operation };
 
-    ghost head_chunks = { λ lines. map (line_text (prepared_head lines.prepared.now lines.start)) lines.prepared.now.lines.items };
+    ghost head_chunks = { λ lines. map (line_text (prepared_head lines.prepared.now lines.start)) (prepared_lines lines.prepared.now) };
 
     ghost built = { λ lines. lines.buffer };
 
@@ -105,12 +164,12 @@ impl FormLines for CommandLines<'_> {
     }
 
     fn head_chunk_count(&self) -> u32 {
-        self.prepared.lines.len() as u32
+        1 + self.prepared.event_count + self.prepared.plan_lines.len() as u32
     }
 
     fn build_head_chunk(&mut self, place: u32) -> Result<(), AllocError> {
+        let line = self.line_at(place)?;
         self.buffer.clear();
-        let line = self.prepared.lines[place as usize];
         let head = self.prepared.head(self.start);
         head.push_line(&mut self.buffer, &mut self.scratch, line)
     }

@@ -4,6 +4,7 @@ ghost use Rattle.std.specs.Prelude.{◌≡◌, ℕ, ◌<◌, ◌-◌, ◌^◌, I
 ghost use Rattle.std.specs.Option.{option_copied};
 ghost use Rattle.apply_events.specs.Lanes.{AreLanes};
 ghost use Rattle.apply_hooks.specs.Registry.{rules_of};
+ghost use Rattle.apply_planning.specs.Schedule.{IsScheduleOf};
 ghost use Rattle.apply_run.specs.FromBytes.{WasRefusedOf, WasReportedOf};
 ghost use Rattle.apply_run.specs.Options.{IsInRange};
 ghost use Rattle.apply_run.specs.Run.{by_workers, HasFailedBy, HasStreamedBy, sink_state};
@@ -94,6 +95,8 @@ fn apply_prepared<S: Sink + Drop, G: Gate, R: Threads + Wait + Sync>(
     gate: &G,
 ) -> (S, Result<Report, Fault>)
     requires sizes { IsInRange options }
+    requires planned { IsScheduleOf prepared.now.told.items prepared.now.schedule }
+    requires lanes { prepared.now.schedule.lanes ≡ prepared.now.lanes }
     requires failures { S.failed sink < 2 ^ 64 - 1 }
 
     ensures ok { (command : Command) (lanes : ℕ) (read : CommandInputs) → IsPrepared command lanes read prepared.now
@@ -173,6 +176,8 @@ fn apply_prepared_in_lanes<S: Sink + Drop>(
     sink: S,
 ) -> (S, Result<Report, Fault>)
     requires lanes { AreLanes lanes }
+    requires planned { IsScheduleOf prepared.now.told.items prepared.now.schedule }
+    requires planned_lanes { prepared.now.schedule.lanes ≡ prepared.now.lanes }
     requires failures { S.failed sink < 2 ^ 64 - 1 }
 
     ensures ok { (command : Command) (read : CommandInputs) → IsPrepared command lanes read prepared.now

@@ -1,12 +1,14 @@
 //! What a command prints and applies.
 
-ghost use Rattle.std.specs.Prelude.{◌≡◌, ◌<◌, ◌≤◌, ◌^◌, length, true};
+ghost use Rattle.std.specs.Prelude.{◌≡◌, ◌<◌, ◌≤◌, ◌+◌, ◌^◌, length, true};
 ghost use Rattle.std.specs.List.{list_all};
+ghost use Rattle.apply_events.specs.Waits.Merging.{time_line};
+ghost use Rattle.apply_planning.specs.PlanningWork.{planning_work};
 ghost use Rattle.apply_command.specs.InTime.{is_in_time, max_took};
 
 use crate::head_line::HeadLine;
 use apply_model::{ChangeDetails, Note, Output, Plan, Script};
-use apply_planning::Told;
+use apply_planning::{Schedule, Told};
 use apply_prior::{Drift, PlannedOutput};
 use apply_text_planning::PlanTotals;
 
@@ -29,8 +31,14 @@ pub struct Prepared {
     pub totals: PlanTotals,
     /// How long the planning takes, in seconds.
     pub took: u64,
-    /// The lines before the apply.
-    pub lines: Vec<HeadLine>,
+    /// How many lanes the planning has.
+    pub lanes: u8,
+    /// When the objects are refreshed and read.
+    pub schedule: Schedule,
+    /// How many events the planning has.
+    pub event_count: u32,
+    /// The lines of the plan, after those of the planning.
+    pub plan_lines: Vec<HeadLine>,
     /// Whether the plan is applied.
     pub applies: bool,
     /// The plan without its changes: applied where the plan is not.
@@ -41,7 +49,8 @@ pub struct Prepared {
     pub notes: Vec<Note>,
     /// The outputs after the apply.
     pub outputs: Vec<Output>,
-    ghost few: { length lines.items < 2 ^ 32 },
-    ghost in_time: { list_all is_in_time lines.items ≡ true },
+    ghost counted: { event_count ≡ length (time_line (planning_work told.items) lanes) },
+    ghost few: { 1 + event_count + length plan_lines.items < 2 ^ 32 },
+    ghost in_time: { list_all is_in_time plan_lines.items ≡ true },
     ghost short: { took ≤ max_took },
 }

@@ -3,13 +3,14 @@
 //! Every `Err` means that memory was refused, or that there are more lines before the apply than any
 //! plan of 64 MiB can have.
 
-ghost use Rattle.std.specs.Prelude.{◌≡◌, ◌<◌, ◌≤◌, ◌&&◌, map, true, IfOk, List};
+ghost use Rattle.std.specs.Prelude.{◌≡◌, ◌<◌, ◌≤◌, ◌&&◌, length, map, true, IfOk, List};
 ghost use Rattle.std.specs.List.{filter_map, list_any};
 ghost use Rattle.apply_model.specs.declared.details.note.Note.{Note};
-ghost use Rattle.apply_events.specs.Waits.Merging.{time_line};
-ghost use Rattle.apply_planning.specs.PlanningWork.{max_seconds_in_all, planning_work, seconds_in_all};
+ghost use Rattle.apply_events.specs.declared.event.Event.{Event};
+ghost use Rattle.apply_planning.specs.PlanningWork.{max_seconds_in_all, seconds_in_all};
+ghost use Rattle.apply_planning.specs.Schedule.{IsScheduleOf};
 ghost use Rattle.apply_planning_failures.specs.LostObjects.{HasLost};
-ghost use Rattle.apply_planning_failures.specs.Planning as failures;
+ghost use Rattle.apply_planning_failures.specs.Planning.{AreBegun};
 ghost use Rattle.apply_planning_failures.specs.PlansPart.{details_at, kept};
 ghost use Rattle.apply_text_planning.specs.Totals.{planned_totals};
 ghost use Rattle.apply_writer.specs.Stream.Terraform.{is_error};
@@ -19,21 +20,23 @@ ghost use Rattle.apply_command.specs.Notes as specs;
 ghost use Rattle.apply_command.specs.Prepared.{command_view, IsPrepared};
 
 use crate::command_notes::command_notes;
-use crate::head_lines::{MAX_TOOK, head_lines};
+use crate::head_lines::plan_lines;
 use crate::prepared::Prepared;
 use crate::read_command::ReadCommand;
-use apply_events::Event;
 use apply_model::{ChangeDetails, Plan, Script, Text};
 use apply_plan_terraform::{Details, PlanDetails, PlanNote, written_outputs};
 use apply_planning::{MAX_TOLD, Schedule, Told};
 use apply_planning_failures::{
-    LostObjects, end_of, failure_notes, has_error, kept_changes, kept_drifts, totals_of,
+    Course, LostObjects, course_of, has_error, kept_changes, kept_drifts, totals_of,
 };
 use apply_prior::{Drift, PlannedOutput};
 use apply_run::{ReadBytes, ReadStated};
 use apply_text_planning::PlanTotals;
 use apply_text_terraform::Command;
 use std::alloc::{AllocError, Global};
+
+/// The longest planning, in seconds.
+const MAX_TOOK: u64 = 864_000_000;
 
 /// Prepares what the command prints and applies, with the planning in 1 to 64 lanes.
 pub(crate) fn prepare(
@@ -59,16 +62,20 @@ pub(crate) fn prepare(
         },
         mut extras,
     } = stated;
-    let events = events_of(alloc, &told, lanes)?;
-    let failures = failure_notes(alloc, &told, &events)?;
+    let schedule = schedule_of(alloc, &told, lanes)?;
+    let Course {
+        notes: failures,
+        begun,
+        event_count,
+    } = course_of(alloc, &schedule, &told)?;
     let is_severe = has_error(&failures);
     let failed = has_failed(note, is_severe);
     let applies = applies(command, failed);
     let is_told = tells_plan(command, failed, is_severe, is_bare(&plan, &planned_outputs));
-    let part = told_plan(alloc, failed, &told, &events, &plan, &changes, &drifts)?;
-    let lines = head_lines(
+    let part = told_plan(alloc, failed, &told, &begun, &plan, &changes, &drifts)?;
+    let plan_lines = plan_lines(
         alloc,
-        &events,
+        event_count,
         is_told,
         &part.drifts,
         &part.changes,
@@ -84,7 +91,7 @@ pub(crate) fn prepare(
         extras.take_notes(alloc),
     )?;
     let no_changes = Plan::new(Text::new(alloc, plan.version())?, Vec::new(alloc));
-    let took = took_by(&events)?;
+    let took = schedule.ends_at();
     Ok(Prepared {
         plan,
         script,
@@ -94,7 +101,10 @@ pub(crate) fn prepare(
         told,
         totals: part.totals,
         took,
-        lines,
+        lanes,
+        schedule,
+        event_count,
+        plan_lines,
         applies,
         no_changes,
         no_script: Script::empty(),
@@ -103,21 +113,16 @@ pub(crate) fn prepare(
     })
 }
 
-/// The events of the planning in so many lanes, in the order of time.
-fn events_of(alloc: Global, told: &[Told], lanes: u8) -> Result<Vec<Event>, AllocError>
+/// When the told objects are refreshed and read, in so many lanes.
+fn schedule_of(alloc: Global, told: &[Told], lanes: u8) -> Result<Schedule, AllocError>
     requires { 0 < lanes }
-    ensures { IfOk result (λ events. events.items ≡ time_line (planning_work told.now) lanes) }
+    ensures planned { IfOk result (λ schedule. IsScheduleOf told.now schedule) }
+    ensures lanes { IfOk result (λ schedule. schedule.lanes ≡ lanes) }
 {
     if told.len() > MAX_TOLD || !are_short(told) {
         return Err(AllocError);
     }
-    let schedule = Schedule::new(alloc, told, lanes)?;
-    let mut events_to_come = schedule.events(alloc, told)?;
-    let mut events = Vec::new(alloc);
-    while let Some(event) = events_to_come.next() {
-        events.push(event)?;
-    }
-    Ok(events)
+    Schedule::new(alloc, told, lanes)
 }
 
 /// Whether all objects together take at most 864,000,000 seconds. A script states no more.
@@ -133,18 +138,6 @@ fn are_short(told: &[Told]) -> bool
         left -= seconds;
     }
     true
-}
-
-/// When the planning ends, in seconds from its start.
-fn took_by(events: &[Event]) -> Result<u64, AllocError>
-    ensures end { IfOk result (λ took. took ≡ failures.end_of events.now) }
-    ensures short { IfOk result (λ took. took ≤ max_took) }
-{
-    let took = end_of(events);
-    if took > MAX_TOOK {
-        return Err(AllocError);
-    }
-    Ok(took)
 }
 
 /// Whether the planning failed.
@@ -184,12 +177,14 @@ fn lost_of<'a>(
     alloc: Global,
     failed: bool,
     told: &'a [Told],
-    events: &[Event],
+    begun: &[bool],
 ) -> Result<Option<LostObjects<'a>>, AllocError>
-    ensures { IfOk result (HasLost failed (record { told = told.now; events = events.now })) }
+    requires { length told.now ≤ length begun.now }
+    ensures { IfOk result (λ lost. (events : List Event) → AreBegun (record { told = told.now; events = events }) begun.now
+        → HasLost failed (record { told = told.now; events = events }) lost) }
 {
     if failed {
-        Ok(Some(LostObjects::of(alloc, told, events)?))
+        Ok(Some(LostObjects::of(alloc, told, begun)?))
     } else {
         Ok(None)
     }
@@ -203,24 +198,26 @@ struct ToldPlan {
     totals: PlanTotals,
 }
 
-/// What is told of a plan, where the planning had these events.
+/// What is told of a plan, where the planning began these objects.
 fn told_plan(
     alloc: Global,
     failed: bool,
     told: &[Told],
-    events: &[Event],
+    begun: &[bool],
     plan: &Plan,
     details: &[ChangeDetails],
     drifts: &[Drift],
 ) -> Result<ToldPlan, AllocError>
-    ensures drifts { IfOk result (λ part. part.drifts.items
-        ≡ kept failed (record { told = told.now; events = events.now }) (map (λ drift. drift.change) drifts.now)) }
-    ensures changes { IfOk result (λ part. part.changes.items
-        ≡ kept failed (record { told = told.now; events = events.now }) plan.now.changes) }
-    ensures totals { IfOk result (λ part. part.totals ≡ planned_totals (filter_map (details_at plan.now.changes details.now)
-        (kept failed (record { told = told.now; events = events.now }) plan.now.changes))) }
+    requires { length told.now ≤ length begun.now }
+    ensures drifts { IfOk result (λ part. (events : List Event) → AreBegun (record { told = told.now; events = events }) begun.now
+        → part.drifts.items ≡ kept failed (record { told = told.now; events = events }) (map (λ drift. drift.change) drifts.now)) }
+    ensures changes { IfOk result (λ part. (events : List Event) → AreBegun (record { told = told.now; events = events }) begun.now
+        → part.changes.items ≡ kept failed (record { told = told.now; events = events }) plan.now.changes) }
+    ensures totals { IfOk result (λ part. (events : List Event) → AreBegun (record { told = told.now; events = events }) begun.now
+        → part.totals ≡ planned_totals (filter_map (details_at plan.now.changes details.now)
+        (kept failed (record { told = told.now; events = events }) plan.now.changes))) }
 {
-    let lost = lost_of(alloc, failed, told, events)?;
+    let lost = lost_of(alloc, failed, told, begun)?;
     Ok(ToldPlan {
         drifts: kept_drifts(alloc, &lost, drifts)?,
         changes: kept_changes(alloc, &lost, plan)?,

@@ -1,4 +1,4 @@
-pub mod Events
+pub mod Courses
 pub mod Items
 pub mod Lost
 pub mod ToldChanges

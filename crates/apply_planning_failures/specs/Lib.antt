@@ -1,3 +1,4 @@
+pub mod Course
 pub mod LostObjects
 pub mod Planning
 pub mod PlansPart

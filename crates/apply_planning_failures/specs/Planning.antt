@@ -1,5 +1,5 @@
 -- The planning of a command: what is refreshed and read before anything is applied.
-use Rattle.std.specs.Prelude.{ℕ, ◌==◌, List, [], ◌∷◌, Bool, true, false, not, ◌&&◌, ◌||◌, if◌then◌else◌, flat_map, max, slice_get, Option}
+use Rattle.std.specs.Prelude.{◌≡◌, ◌<◌, ℕ, ◌==◌, List, [], ◌∷◌, Bool, true, false, not, ◌&&◌, ◌||◌, if◌then◌else◌, flat_map, length, slice_get, slice_index_or, Option}
 use Rattle.std.specs.List.{enumerate_from, list_any}
 use Rattle.std.specs.Option.{option_map_or}
 use Rattle.apply_model.specs.declared.details.note.Note.{Note}
@@ -41,6 +41,11 @@ abbrev pub planning_notes : Planning → List Note
 planning_notes planning =
     flat_map (λ (e : Event). if is_note e.what then failure_of (slice_get planning.told e.change) else []) planning.events
 
+-- each told object of a planning is flagged if it has an event
+abbrev pub AreBegun : Planning → (flags : List Bool) → Type 0
+AreBegun planning flags = (length flags ≡ length planning.told) × ((number : ℕ) → number < length planning.told
+    → slice_index_or flags number false ≡ list_any (λ (e : Event). e.change == number) planning.events)
+
 -- the told object with that number failed with an error, or waited in vain for one that did
 abbrev pub is_never_done : Planning → ℕ × Told → Bool
 is_never_done planning p =
@@ -51,10 +56,3 @@ abbrev pub is_lost : Planning → (address : List ℕ) (deposed : Option (List �
 is_lost planning address deposed =
     list_any (λ p. is_never_done planning p && name_one_object p.1.object.address p.1.object.deposed address deposed)
     (enumerate_from 0 planning.told)
-
--- ---- when it ends
-
--- the greatest second of an event; 0 where there is none
-abbrev pub end_of : List Event → ℕ
-end_of [] = 0
-end_of (event ∷ events) = max event.at (end_of events)

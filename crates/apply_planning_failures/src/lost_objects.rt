@@ -2,15 +2,15 @@
 //!
 //! Every `Err` means that memory was refused.
 
-ghost use Rattle.std.specs.Prelude.{◌≡◌, ◌&&◌, true, if◌then◌else◌, is_some, IfOk, OnOk};
+ghost use Rattle.std.specs.Prelude.{◌≡◌, ◌≤◌, ◌&&◌, List, length, true, if◌then◌else◌, is_some, IfOk, OnOk};
 ghost use Rattle.std.specs.Map.{lookup};
 ghost use Rattle.std.specs.Option.{option_copied};
 ghost use Rattle.apply_resolve.specs.ObjectIds.{is_same_id};
-ghost use Rattle.apply_planning_failures.specs.Planning.{is_lost};
+ghost use Rattle.apply_events.specs.declared.event.Event.{Event};
+ghost use Rattle.apply_planning_failures.specs.Planning.{AreBegun, is_lost};
 ghost use Rattle.apply_planning_failures.specs.LostObjects.{has_object};
 
-use crate::failures::{begun_flags, has_failed};
-use apply_events::Event;
+use crate::failures::has_failed;
 use apply_planning::Told;
 use apply_resolve::ObjectId;
 use std::alloc::{AllocError, Global};
@@ -23,16 +23,16 @@ pub struct LostObjects<'a> {
 }
 
 impl<'a> LostObjects<'a> {
-    /// The objects of a planning with these events.
+    /// The objects of a planning. `begun` says of each told object whether it has an event.
     pub fn of(
         alloc: Global,
         told: &'a [Told],
-        events: &[Event],
+        begun: &[bool],
     ) -> Result<LostObjects<'a>, AllocError>
-        ensures { IfOk result (λ lost. (id : _) → has_object lost id
-            ≡ is_lost (record { told = told.now; events = events.now }) id.address.now (option_copied id.deposed)) }
+        requires { length told.now ≤ length begun.now }
+        ensures { IfOk result (λ lost. (events : List Event) → AreBegun (record { told = told.now; events = events }) begun.now → (id : _) → has_object lost id
+            ≡ is_lost (record { told = told.now; events = events }) id.address.now (option_copied id.deposed)) }
     {
-        let begun = begun_flags(alloc, told.len(), events)?;
         let mut ids = BTreeMap::new(alloc);
         for number in 0..told.len() {
             let one = &told[number];
