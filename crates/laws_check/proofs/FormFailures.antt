@@ -169,7 +169,7 @@ failing a k seconds ms later e few stand = record {
     counted p = sum_by-cons (λ m. cond (fails_where p m) 1 0) (step a k (Errored seconds)) ms
 
 -- a provisioner leaves failures as they are
-provision_keeps : (a : List ℕ) (stage : Stage) (ms : List Message) (b : List ℕ) → (state_of b (provision a stage ∷ ms)).failures ≡ (state_of b ms).failures
+pub provision_keeps : (a : List ℕ) (stage : Stage) (ms : List Message) (b : List ℕ) → (state_of b (provision a stage ∷ ms)).failures ≡ (state_of b ms).failures
 unfolding state_of
 provision_keeps a stage ms b = of_test (bytes_eq a b)
   where

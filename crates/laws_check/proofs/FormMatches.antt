@@ -19,7 +19,7 @@ use Rattle.stream_check.specs.Lines.{after_version, is_beyond_plan, next, within
 use Rattle.stream_check.specs.Message.{Message, diagnostic, step}
 use Rattle.stream_check.specs.Results.{◌>>=◌}
 use Rattle.stream_check.specs.AddressState.{failures_cleared, may_provision, pending_at, state_of, step_on, unless_provisioner_left, failed_by, with_pending}
-use Rattle.stream_check.specs.Tally.{begins, is_begin, is_plan_summary, is_summary, is_version, line_of}
+use Rattle.stream_check.specs.Tally.{begins, is_begin, is_summary, is_version, line_of}
 use Rattle.stream_check.specs.Words.{same_action}
 use Rattle.stream_check.proofs.Actions.{same_is}
 use Rattle.stream_check.proofs.WholeStream.{bind_ok}
@@ -41,7 +41,7 @@ pub record WasStepped (k : Action) (stage : TimedStage) (line : ℕ) (s : Addres
   pub is : after k stage line (pending_at k s) ≡ Ok pending
   pub within : is_some s.provisioner ≡ true → may_provision (step_in k stage line pending s) ≡ true
 
-stepped_by : (k : Action) (stage : TimedStage) (line : ℕ) (s t : AddressState) → step_on k stage line s ≡ Ok t → WasStepped k stage line s
+pub stepped_by : (k : Action) (stage : TimedStage) (line : ℕ) (s t : AddressState) → step_on k stage line s ≡ Ok t → WasStepped k stage line s
 stepped_by k stage line s t e = of_after (after k stage line (pending_at k s)) refl e
   where
     of_left : (p : Option Pending) (o : Option ℕ) → unless_provisioner_left o (step_in k stage line p s) ≡ Ok t → is_some o ≡ true → may_provision (step_in k stage line p s) ≡ true
@@ -83,7 +83,6 @@ was_stepped a k stage ms later e =
 pub record AreAlike (ms ns : List Message) : Type 0 where
   pub begun : is_some (line_of is_version ns) ≡ true
   pub unsummed : line_of is_summary ns ≡ None
-  pub unforeseen : line_of is_plan_summary ns ≡ None
   pub state : (a : List ℕ) → AreMatched (state_of a ms) (state_of a ns)
   pub reads : (a : List ℕ) → held (state_of a ns).read ≤ count_by (begins Read) ns
 
@@ -148,7 +147,7 @@ none_progressed seconds line (Some (One b t l)) = either (nat_lt t seconds)
 none_progressed seconds line (Some (Several b n)) = omega arith
 
 -- one read more stands open at most, where one begins
-grown_by : (stage : TimedStage) (line : ℕ) (p q : Option Pending) → after Read stage line p ≡ Ok q → held q ≤ held p + cond (is_begin stage) 1 0
+pub grown_by : (stage : TimedStage) (line : ℕ) (p q : Option Pending) → after Read stage line p ≡ Ok q → held q ≤ held p + cond (is_begin stage) 1 0
 grown_by stage line p q e = of_answer (after Read stage line p) e (at stage)
   where
     of_answer : (r : Result (Option Pending) Fault) → r ≡ Ok q → LeavesMost (held p + cond (is_begin stage) 1 0) r → held q ≤ held p + cond (is_begin stage) 1 0
@@ -248,7 +247,7 @@ module _ (a : List ℕ) (k : Action) (stage : TimedStage) (ms ns : List Message)
   both_step fits =
       let too = stepped_too in (
         next_step fits too.0 too.1 too.2,
-        record { begun = alike.begun; unsummed = alike.unsummed; unforeseen = alike.unforeseen; state = stands too.0 too.1 too.2; reads = reads_here too.0 too.1 too.2 },
+        record { begun = alike.begun; unsummed = alike.unsummed; state = stands too.0 too.1 too.2; reads = reads_here too.0 too.1 too.2 },
       )
 
 -- ---- a read that failed: only the default form has its end
@@ -257,7 +256,6 @@ pub silent_step : (a : List ℕ) (seconds : ℕ) (ms ns : List Message) → AreA
 silent_step a seconds ms ns alike was = record {
   begun = alike.begun;
   unsummed = alike.unsummed;
-  unforeseen = alike.unforeseen;
   reads = alike.reads;
   state = by_address (λ b. AreMatched (state_of b (step a Read (Errored seconds) ∷ ms)) (state_of b ns)) a
       (subst (λ (x : AddressState). AreMatched x (state_of a ns)) (sym (step_there a Read (Errored seconds) new ms (step_is Read (Errored seconds) (length ms + 1) was.pending (state_of a ms) was.within was.is)))
@@ -293,7 +291,6 @@ both_diagnostic a e noted ms ns alike = (
   record {
     begun = alike.begun;
     unsummed = alike.unsummed;
-    unforeseen = alike.unforeseen;
     state = λ b. explained_both b (seen_default b) (seen_form noted b);
     reads = λ b. let before = alike.reads b in let same = read_same noted b in let all = sum_by-cons (λ m. cond (begins Read m) 1 0) (diagnostic e noted) ns in omega arith;
   },

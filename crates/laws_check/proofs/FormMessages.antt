@@ -16,7 +16,7 @@ use Rattle.apply_model.specs.Script.Outcome.{first_diag}
 use Rattle.apply_model.specs.Script.OutcomeMap.{OutcomeMap, outcome_of}
 use Rattle.stream_check.specs.declared.messages.action.Action.{Action}
 use Rattle.stream_check.specs.Message.{Message, diagnostic}
-use Rattle.stream_check.specs.Tally.{completes, is_error, is_error_without_address}
+use Rattle.stream_check.specs.Tally.{completes, is_error, is_error_without_address, is_plan_summary}
 use Rattle.apply_events.specs.declared.event.Event.{Event}
 use Rattle.apply_events.specs.declared.what.What.{What}
 use Rattle.apply_events.specs.declared.what.What.TheVariants.{Start, Progress, Complete, Errored, ErrorNote, WarnNote, Halted, ProvisionStart, ProvisionOutput, ProvisionComplete, ProvisionErrored}
@@ -127,6 +127,28 @@ module _ (plan : SavedPlan) (script : OutcomeMap) where
   errors_as_read_back es =
       any_counted is_error (flat_map (event_read_back_in_form plan script) es) ∙ ap (nat_lt 0) (as_read_back is_error (alike is_error (λ severe o p. refl)) (λ a k seconds. refl) es)
       ∙ sym (any_counted is_error (events_read_back plan es))
+
+  -- no event has the summary of a plan
+  pub no_sums : (es : List Event) → count_by is_plan_summary (flat_map (event_read_back_in_form plan script) es) ≡ 0
+  no_sums [] = refl
+  no_sums (e ∷ es) =
+      let rest = no_sums es in
+      let here = told_by (λ ms. count_by is_plan_summary ms ≡ 0) e refl (λ change does is. of_what change does (outcome_of script e.change e.step) e.what) in
+      let both = sum_by-append (λ m. cond (is_plan_summary m) 1 0) (event_read_back_in_form plan script e) (flat_map (event_read_back_in_form plan script) es) in
+      omega arith
+    where
+      of_what : (change : ResourceChange) (does : StepKind) (outcome : Outcome) (what : What) → count_by is_plan_summary (read_back_in_form change does outcome what ∷ []) ≡ 0
+      of_what change does outcome Start = refl
+      of_what change does outcome (Progress s) = refl
+      of_what change does outcome (Complete s) = refl
+      of_what change does outcome (Errored s) = refl
+      of_what change does outcome ErrorNote = refl
+      of_what change does outcome WarnNote = refl
+      of_what change does outcome (Halted phase hook) = refl
+      of_what change does outcome (ProvisionStart i) = refl
+      of_what change does outcome (ProvisionOutput i line) = refl
+      of_what change does outcome (ProvisionComplete i) = refl
+      of_what change does outcome (ProvisionErrored i) = refl
 
   -- ---- hook messages, and notes
 

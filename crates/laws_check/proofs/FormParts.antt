@@ -1,12 +1,14 @@
 -- Parts of the messages of a whole stream in Terraform's form.
-use Rattle.std.proofs.Common.{◌≡◌, ◌≢◌, List, [], ◌∷◌, cond, count_by, filter, map, Bool, true, false, Option, Some, None, refl, ap, ◌∙◌}
+use Rattle.std.proofs.Common.{◌≡◌, ◌≢◌, ℕ, ◌+◌, List, [], ◌∷◌, cond, count_by, filter, length, map, Bool, true, false, Option, Some, None, refl, ap, ◌∙◌, arith}
 use Rattle.std.specs.Prelude.{◌||◌, nat_lt, not}
 use Rattle.std.specs.List.{list_any}
+use Rattle.std.proofs.lemmas.List.Sums.{sum_by-cons}
 use Rattle.apply_model.specs.declared.details.note.Note.{Note}
 use Rattle.stream_check.specs.declared.messages.action.Action.{Action}
 use Rattle.stream_check.specs.declared.messages.action.Action.TheVariants.{Create, Update, Delete, Read, Refresh}
 use Rattle.stream_check.specs.declared.rules.pending.Pending.{Pending}
-use Rattle.stream_check.specs.Tally.{is_error}
+use Rattle.stream_check.specs.Message.{Message}
+use Rattle.stream_check.specs.Tally.{is_error, line_of}
 use Rattle.apply_events.specs.declared.event.Event.{Event}
 use Rattle.apply_events.specs.Diagnostics.{is_note}
 use Rattle.apply_text.specs.Order.{hook_messages_of}
@@ -27,6 +29,18 @@ notes_err (note ∷ notes) = ap (λ (b : Bool). form.is_error note || b) (notes_
 
 pub none_counted : {X : Type 0} (q : X → Bool) (xs : List X) → count_by q xs ≡ 0 → list_any q xs ≡ false
 none_counted q xs none = any_counted q xs ∙ ap (nat_lt 0) none
+
+-- a message that is not there has no line
+pub none_on : (q : Message → Bool) (ms : List Message) → count_by q ms ≡ 0 → line_of q ms ≡ None
+none_on q [] none = refl
+none_on q (m ∷ ms) none =
+    let all = sum_by-cons (λ x. cond (q x) 1 0) m ms in
+    let rest : line_of q ms ≡ None = none_on q ms (omega arith) in
+    first (q m) rest (omega arith)
+  where
+    first : (b : Bool) → line_of q ms ≡ None → cond {A = ℕ} b 1 0 ≡ 0 → cond b (Some (length ms + 1)) (line_of q ms) ≡ None
+    first true rest e = absurd (omega arith)
+    first false rest e = rest
 
 pub none_too : (k : Action) → k ≢ Read → (p q : Option Pending) → Matches k p q → p ≡ None → q ≡ None
 none_too k other (Some p) q h e = absurd cc

@@ -43,7 +43,7 @@ text_sound : (name : List ℕ) → IsUtf8 name → (o : Option (List ℕ)) → I
 text_sound name named None h ms all = all
 text_sound name named (Some text) h ms all = (named, h, all)
 
-previous_sound : (o : Option PreviousResource) → IfSome o HasPreviousTexts → (ms : Members) → AreSoundMembers ms → AreSoundMembers (previous_member o ms)
+pub previous_sound : (o : Option PreviousResource) → IfSome o HasPreviousTexts → (ms : Members) → AreSoundMembers ms → AreSoundMembers (previous_member o ms)
 unfolding previous_object
 previous_sound None h ms all = all
 previous_sound (Some previous) h ms all = (
@@ -108,7 +108,7 @@ change_sound change word details has texts is = (
 
 -- ---- what is read
 
-previous_tree : PreviousResource → Data
+pub previous_tree : PreviousResource → Data
 previous_tree previous =
     object
     (member (codes "addr") (string previous.address)
@@ -119,7 +119,7 @@ previous_tree previous =
     (member (codes "resource_name") (string previous.name)
     (member (codes "resource_type") (string previous.kind_name) no_members)))))))
 
-previous_read : (previous : PreviousResource) → IsSound (key_data previous.key) → IsReadOf 1 (previous_object previous) (previous_tree previous)
+pub previous_read : (previous : PreviousResource) → IsSound (key_data previous.key) → IsReadOf 1 (previous_object previous) (previous_tree previous)
 unfolding previous_object previous_tree
 previous_read previous h = let k = key_back previous.key h in (rw k.0 refl, omega (arith, k.1))
 
@@ -181,7 +181,7 @@ change_read change word (Some previous) (Some reason) (Some None) (Some generate
 change_read change word (Some previous) (Some reason) (Some (Some id)) None level says moment sound key = let r = key_of change sound in let p = previous_read previous key in (rw (r.0, p.0) refl, omega (arith, r.1, p.1))
 change_read change word (Some previous) (Some reason) (Some (Some id)) (Some generated) level says moment sound key = let r = key_of change sound in let p = previous_read previous key in (rw (r.0, p.0) refl, omega (arith, r.1, p.1))
 
-key_of_previous : (o : Option PreviousResource) → IfSome o HasPreviousTexts → IfSome o (λ p. IsSound (key_data p.key))
+pub key_of_previous : (o : Option PreviousResource) → IfSome o HasPreviousTexts → IfSome o (λ p. IsSound (key_data p.key))
 key_of_previous None h = tt
 key_of_previous (Some previous) h = h.key
 
@@ -203,7 +203,7 @@ message_sound level says moment name type_name body how text at named sound type
   ),
 )
 
-line_is_read_back : (change : ResourceChange) (word : List ℕ) (details : ChangeDetails) (seconds : ℕ) → HasChangeTexts change → HasDetailTexts details → IsUtf8 word
+pub line_is_read_back : (change : ResourceChange) (word : List ℕ) (details : ChangeDetails) (seconds : ℕ) → HasChangeTexts change → HasDetailTexts details → IsUtf8 word
     → IsReadBackAs (message_line seconds (planned_message change word details)) (planned (intent_named word) (Some change.address))
 line_is_read_back change word details seconds has texts is =
     let says = change.address ++ codes ": Plan to " ++ word in

@@ -159,16 +159,20 @@ module _ (plan : SavedPlan) (details : List ChangeDetails) (whole : ChangesAreWh
   pub deletes_planned : count_by plans_delete (flat_map (planned_read_back_at details) (enumerate_from 0 plan.changes)) ≡ cap_of plan action.Delete
   deletes_planned = planned_share plans_delete action.Delete (λ steps ms are. are.deletes)
 
-pub few_reads : (plan : SavedPlan) → ChangesAreWhole plan → cap_of plan action.Read ≤ length plan.changes
-few_reads plan whole =
-    let most = total_most 0 (length plan.changes) (λ c. count_by (does_so action.Read) (kinds_of plan c)) (λ c. 1) (λ c above below. of_change c (slice_get plan.changes c) refl) in
-    let all = ones 0 (length plan.changes) in
-    omega arith
+-- each change reads at most once
+pub few_reads_of : (plan : SavedPlan) → ChangesAreWhole plan → (c : ℕ) → count_by (does_so action.Read) (kinds_of plan c) ≤ 1
+few_reads_of plan whole c = of_change (slice_get plan.changes c) refl
   where
-    of_change : (c : ℕ) (o : Option ResourceChange) → slice_get plan.changes c ≡ o → count_by (does_so action.Read) (option_map_or (λ (change : ResourceChange). change.steps) (slice_get plan.changes c) []) ≤ 1
-    of_change c None is = let none : count_by (does_so action.Read) (option_map_or (λ (change : ResourceChange). change.steps) (slice_get plan.changes c) []) ≡ 0 = ap (λ (o : Option ResourceChange). count_by (does_so action.Read) (option_map_or (λ (change : ResourceChange). change.steps) o [])) is in omega arith
-    of_change c (Some change) is =
+    of_change : (o : Option ResourceChange) → slice_get plan.changes c ≡ o → count_by (does_so action.Read) (option_map_or (λ (change : ResourceChange). change.steps) (slice_get plan.changes c) []) ≤ 1
+    of_change None is = let none : count_by (does_so action.Read) (option_map_or (λ (change : ResourceChange). change.steps) (slice_get plan.changes c) []) ≡ 0 = ap (λ (o : Option ResourceChange). count_by (does_so action.Read) (option_map_or (λ (change : ResourceChange). change.steps) o [])) is in omega arith
+    of_change (Some change) is =
         let same : count_by (does_so action.Read) (option_map_or (λ (change : ResourceChange). change.steps) (slice_get plan.changes c) []) ≡ count_by (does_so action.Read) change.steps =
         ap (λ (o : Option ResourceChange). count_by (does_so action.Read) (option_map_or (λ (change : ResourceChange). change.steps) o [])) is in
         let one = one_at_most action.Read change.steps (whole c change is) in
         omega arith
+
+pub few_reads : (plan : SavedPlan) → ChangesAreWhole plan → cap_of plan action.Read ≤ length plan.changes
+few_reads plan whole =
+    let most = total_most 0 (length plan.changes) (λ c. count_by (does_so action.Read) (kinds_of plan c)) (λ c. 1) (λ c above below. few_reads_of plan whole c) in
+    let all = ones 0 (length plan.changes) in
+    omega arith

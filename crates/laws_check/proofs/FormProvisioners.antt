@@ -76,7 +76,6 @@ both_provision a given ms ns alike was =
       record {
         begun = alike.begun;
         unsummed = alike.unsummed;
-        unforeseen = alike.unforeseen;
         state = by_address (λ b. AreMatched (state_of b (provision a given ∷ ms)) (state_of b (provision a given ∷ ns))) a
             (subst (λ (x : AddressState). AreMatched x (state_of a (provision a given ∷ ns))) (sym one)
             (subst (λ (x : AddressState). AreMatched (provisioner_in was.running s) x) (sym other)

@@ -40,7 +40,7 @@ use Rattle.laws_check.specs.WholeSteps.{IsOfWholeSteps}
 use Rattle.laws_check.proofs.Errors.{IsPlanned, any_both, as_many_noted, errors_read_back, few_fail, is_error_note}
 use Rattle.laws_check.proofs.FormFailures.{AllStand, AreDiagnostics, all_named, all_stand, anywhere, at_version, diagnostics_both, diagnostics_keep, fails_where, first_accepted, left_at_end, lines_keep, names, no_error_names, none_told, not_named, nowhere}
 use Rattle.laws_check.proofs.FormMatches.{AreAlike}
-use Rattle.laws_check.proofs.FormMessages.{all_alone, all_fail, completed_as_read_back, errors_as_read_back, hooks_are_fine, notes_are_diagnostics}
+use Rattle.laws_check.proofs.FormMessages.{all_alone, all_fail, completed_as_read_back, errors_as_read_back, hooks_are_fine, no_sums, notes_are_diagnostics}
 use Rattle.laws_check.proofs.FormNothingPlanned.{happened_nothing, planned_few}
 use Rattle.laws_check.proofs.FormUnbegun.{IsWaiting, PlanNothing, all_begin, all_wait, at_version_waits, diagnostics_nothing, diagnostics_start_none, plans_here, starts_here}
 use Rattle.laws_check.proofs.FormUnstarted.{unstarted_waits, waits_unstarted}
@@ -51,12 +51,12 @@ use Rattle.laws_check.proofs.Standings.{next_after}
 use Rattle.laws_check.proofs.Tallies.{are_planned, count_written, is_within, same_whole, totals_written, whole_steps_run}
 use Rattle.laws_check.proofs.Turning.{Runs, followed_by, followed_by_both, joined}
 use Rattle.laws_check.proofs.Whole.{any_followed_by, closed_but, counts_followed_by, length_followed_by, next_summary, none_stands, planned_end, summed_up, whole_end}
-use Rattle.laws_check.proofs.FormParts.{each_verbatim, hooks_filtered, none_counted, none_too, not_true, notes_are_errors, notes_err}
+use Rattle.laws_check.proofs.FormParts.{each_verbatim, hooks_filtered, none_counted, none_on, none_too, not_true, notes_are_errors, notes_err}
 
 -- ---- the end
 
 -- where nothing but reads stands open, and no failure
-closes : (ms : List Message) → ((k : Action) → k ≢ Read → (a : List ℕ) → pending_at k (state_of a ms) ≡ None) → failures_stand ms ≡ false → any_open ms ≡ false
+pub closes : (ms : List Message) → ((k : Action) → k ≢ Read → (a : List ℕ) → pending_at k (state_of a ms) ≡ None) → failures_stand ms ≡ false → any_open ms ≡ false
 closes ms none stand =
     not_any_open ms (λ a.
     ap (λ (f : Bool). stands_open (refreshes_matter ms) f (state_of a ms)) stand
@@ -71,35 +71,34 @@ still_stand m ms fine same =
     ap₂ (λ (a b : ℕ). nat_lt a b) count same
 
 -- the end of a stream after other messages
-record EndSo (ms end : List Message) : Type 0 where
-  accepted : with_all ms end ≡ Ok (followed_by ms end)
-  closed : any_open (followed_by ms end) ≡ false
-  no_plan : is_plan_stream (followed_by ms end) ≡ false
-  ends : (list_any is_summary (followed_by ms end) || list_any is_error (followed_by ms end)) ≡ true
-  totals : completed_totals (followed_by ms end) ≡ completed_totals ms
-  errors : list_any is_error (followed_by ms end) ≡ list_any is_error ms
+pub record EndSo (ms end : List Message) : Type 0 where
+  pub accepted : with_all ms end ≡ Ok (followed_by ms end)
+  pub closed : any_open (followed_by ms end) ≡ false
+  pub no_plan : is_plan_stream (followed_by ms end) ≡ false
+  pub ends : (list_any is_summary (followed_by ms end) || list_any is_error (followed_by ms end)) ≡ true
+  pub totals : completed_totals (followed_by ms end) ≡ completed_totals ms
+  pub errors : list_any is_error (followed_by ms end) ≡ list_any is_error ms
 
 -- what is open, and what was read back
-record MayEnd (ms : List Message) : Type 0 where
-  begun : is_some (line_of is_version ms) ≡ true
-  unsummed : line_of is_summary ms ≡ None
-  unforeseen : line_of is_plan_summary ms ≡ None
-  pending : (k : Action) → k ≢ Read → (a : List ℕ) → pending_at k (state_of a ms) ≡ None
-  stand : failures_stand ms ≡ false
+pub record MayEnd (ms : List Message) : Type 0 where
+  pub begun : is_some (line_of is_version ms) ≡ true
+  pub unsummed : line_of is_summary ms ≡ None
+  pub pending : (k : Action) → k ≢ Read → (a : List ℕ) → pending_at k (state_of a ms) ≡ None
+  pub stand : failures_stand ms ≡ false
 
 -- with an error alone
-with_error : (ms : List Message) → MayEnd ms → list_any is_error ms ≡ true → EndSo ms []
-with_error ms sound error = record {
+with_error : (ms : List Message) → MayEnd ms → line_of is_plan_summary ms ≡ None → list_any is_error ms ≡ true → EndSo ms []
+with_error ms sound unforeseen error = record {
   accepted = refl;
   closed = closes ms sound.pending sound.stand;
-  no_plan = ap (λ (o : Option ℕ). is_some o && (not (is_some (line_of is_summary ms)) && same_totals (begun_totals ms) no_totals)) sound.unforeseen;
+  no_plan = ap (λ (o : Option ℕ). is_some o && (not (is_some (line_of is_summary ms)) && same_totals (begun_totals ms) no_totals)) unforeseen;
   ends = ap (λ (b : Bool). list_any is_summary ms || b) error ∙ or-true (list_any is_summary ms);
   totals = refl;
   errors = refl;
 }
 
 -- with the summary, and the outputs of an apply
-summed : (operation : Operation) (t : Totals) (ms : List Message) → MayEnd ms → t ≡ completed_totals ms → EndSo ms (summary t ∷ outputs_read_back operation)
+pub summed : (operation : Operation) (t : Totals) (ms : List Message) → MayEnd ms → t ≡ completed_totals ms → EndSo ms (summary t ∷ outputs_read_back operation)
 unfolding state_of failures_left
 summed operation t ms sound same = of_operation operation
   where
@@ -157,7 +156,7 @@ module _ (work : Work) (extras : StreamExtras) (events : List Event) (ordinary :
   runs : Runs (length work.plan.changes) (address_of work.plan) Anywhere (Does work.plan) (Provides work.plan) (version ∷ []) (events_read_back work.plan (as_written events))
   runs = whole_steps_run work events ordinary provisioned reads steps
 
-  all_taken : (with_all (version ∷ []) front ≡ Ok (followed_by (version ∷ []) front)) × AreAlike (followed_by (version ∷ []) (events_read_back work.plan (as_written events))) (followed_by (followed_by (version ∷ []) ps) happened)
+  pub all_taken : (with_all (version ∷ []) front ≡ Ok (followed_by (version ∷ []) front)) × AreAlike (followed_by (version ∷ []) (events_read_back work.plan (as_written events))) (followed_by (followed_by (version ∷ []) ps) happened)
   all_taken = taken work extras events (omega (arith, ordinary.few)) whole as_many within steps.whole (followed_by (version ∷ []) (events_read_back work.plan (as_written events))) runs.0
 
   intents : AreIntents ps
@@ -239,11 +238,21 @@ module _ (work : Work) (extras : StreamExtras) (events : List Event) (ordinary :
       (none_stands (length work.plan.changes) (address_of work.plan) (Does work.plan) (Provides work.plan) runs.1.0 (followed_by (version ∷ []) (events_read_back work.plan (as_written events))) runs.1.1 runs.1.2 k other a) in
       ap (λ (l : List Message). pending_at k (state_of a l)) (sym after_all) ∙ diagnostics_keep k a loose (followed_by (followed_by (version ∷ []) ps) happened) (notes_are_errors extras.notes) ∙ before
 
-  sound : MayEnd (followed_by (version ∷ []) front)
+  unforeseen : line_of is_plan_summary (followed_by (version ∷ []) front) ≡ None
+  unforeseen = none_on is_plan_summary (followed_by (version ∷ []) front) (
+      let all = counts_followed_by is_plan_summary (version ∷ []) front in
+      let first : count_by is_plan_summary (version ∷ []) ≡ 0 = refl in
+      let parts = sum_by-append (λ m. cond (is_plan_summary m) 1 0) ps (happened ++ loose) in
+      let more = sum_by-append (λ m. cond (is_plan_summary m) 1 0) happened loose in
+      let none = none_planned is_plan_summary (λ intent address. refl) ps intents in
+      let no_event = no_sums work.plan work.script (as_written events) in
+      let no_more = none_told is_plan_summary (λ severe o. refl) loose (notes_are_errors extras.notes) in
+      omega arith)
+
+  pub sound : MayEnd (followed_by (version ∷ []) front)
   sound = record {
     begun = ap (λ (l : List Message). is_some (line_of is_version l)) (sym after_all) ∙ ap is_some (preserved is_version (λ severe o. refl)) ∙ all_taken.1.begun;
     unsummed = ap (line_of is_summary) (sym after_all) ∙ preserved is_summary (λ severe o. refl) ∙ all_taken.1.unsummed;
-    unforeseen = ap (line_of is_plan_summary) (sym after_all) ∙ preserved is_plan_summary (λ severe o. refl) ∙ all_taken.1.unforeseen;
     pending = pending_none;
     stand = le-ltb (count_by is_error_without_address (followed_by (version ∷ []) front)) (failures_left (followed_by (version ∷ []) front)) few_left;
   }
@@ -252,7 +261,7 @@ module _ (work : Work) (extras : StreamExtras) (events : List Event) (ordinary :
           → line_of q (followed_by (followed_by (followed_by (version ∷ []) ps) happened) loose) ≡ line_of q (followed_by (followed_by (version ∷ []) ps) happened)
       preserved q none = lines_keep q none loose (followed_by (followed_by (version ∷ []) ps) happened) (notes_are_errors extras.notes)
 
-  totals_are : completed_totals (followed_by (version ∷ []) front) ≡ totals_of_counts (totals_of work.plan events)
+  pub totals_are : completed_totals (followed_by (version ∷ []) front) ≡ totals_of_counts (totals_of work.plan events)
   totals_are = same_counts (counted Create) (counted Update) (counted Delete) ∙ sym (totals_written work.plan events)
     where
       counted : (k : Action) → count_by (completes k) (followed_by (version ∷ []) front) ≡ count_by (completes k) (followed_by (version ∷ []) (events_read_back work.plan (as_written events)))
@@ -266,7 +275,7 @@ module _ (work : Work) (extras : StreamExtras) (events : List Event) (ordinary :
           let same = completed_as_read_back work.plan work.script k (as_written events) in
           omega arith
 
-  errors_are : list_any is_error (followed_by (version ∷ []) front) ≡ contains_error extras.notes (totals_of work.plan events)
+  pub errors_are : list_any is_error (followed_by (version ∷ []) front) ≡ contains_error extras.notes (totals_of work.plan events)
   errors_are =
       any_followed_by is_error (version ∷ []) front
       ∙ any_both is_error ps (happened ++ loose)
@@ -281,7 +290,7 @@ module _ (work : Work) (extras : StreamExtras) (events : List Event) (ordinary :
   ended operation = at (contains_error extras.notes (totals_of work.plan events)) refl
     where
       at : (b : Bool) → contains_error extras.notes (totals_of work.plan events) ≡ b → EndSo (followed_by (version ∷ []) front) (cond b [] (summary (totals_of_counts (totals_of work.plan events)) ∷ outputs_read_back operation))
-      at true is = with_error (followed_by (version ∷ []) front) sound (errors_are ∙ is)
+      at true is = with_error (followed_by (version ∷ []) front) sound unforeseen (errors_are ∙ is)
       at false is = summed operation (totals_of_counts (totals_of work.plan events)) (followed_by (version ∷ []) front) sound (sym totals_are)
 
   -- ---- planned creates that never begin
@@ -321,7 +330,7 @@ module _ (work : Work) (extras : StreamExtras) (events : List Event) (ordinary :
           of_error false Apply = refl
           of_error false Destroy = refl
 
-  finds : (operation : Operation) → FindsUnstarted work.plan events (followed_by (followed_by (version ∷ []) front) (end_read_back extras operation (totals_of work.plan events)))
+  pub finds : (operation : Operation) → FindsUnstarted work.plan events (followed_by (followed_by (version ∷ []) front) (end_read_back extras operation (totals_of work.plan events)))
   finds operation a =
       let waiting = left_waiting a operation in
       let counts = unstarted_waits work extras.details events whole as_many within steps.whole a in

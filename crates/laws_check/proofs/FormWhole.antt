@@ -49,7 +49,7 @@ fine l = Ok l
 
 at_first : AreAlike (version ∷ []) (version ∷ [])
 unfolding state_of
-at_first = record { begun = refl; unsummed = refl; unforeseen = refl; state = λ a. record { pending = none_open; provisioner = refl }; reads = λ a. omega arith }
+at_first = record { begun = refl; unsummed = refl; state = λ a. record { pending = none_open; provisioner = refl }; reads = λ a. omega arith }
   where
     none_open : (k : Action) → Matches k (pending_at k idle) (pending_at k idle)
     none_open Create = tt
@@ -87,7 +87,6 @@ one_planned intent address ms ns alike = (
   record {
     begun = alike.begun;
     unsummed = alike.unsummed;
-    unforeseen = alike.unforeseen;
     state = alike.state;
     reads = λ a. let before = alike.reads a in let all = sum_by-cons (λ m. cond (begins Read m) 1 0) (planned intent address) ns in omega arith;
   },

@@ -3,7 +3,7 @@ mod BareTexts
 pub mod BetweenSteps
 pub mod Bytes
 pub mod ChangeDeeds
-mod ChangeSums
+pub mod ChangeSums
 pub mod Content
 pub mod Counting
 pub mod Cuts
@@ -16,9 +16,9 @@ pub mod EscapedTokens
 pub mod EscapedTrees
 pub mod Fitting
 mod FormAccepted
-mod FormCounts
+pub mod FormCounts
 pub mod FormEnds
-mod FormFailures
+pub mod FormFailures
 pub mod FormFeeds
 pub mod FormReadBack
 pub mod FormLines
@@ -30,16 +30,16 @@ pub mod FormObjects
 mod FormOutputs
 pub mod FormPendings
 pub mod FormPlanned
-mod FormPlans
+pub mod FormPlans
 pub mod FormProvisioners
 mod FormRead
 mod FormRuns
-mod FormStream
-mod FormMessages
-mod FormUnbegun
+pub mod FormStream
+pub mod FormMessages
+pub mod FormUnbegun
 mod FormUnstarted
-mod FormVerdict
-mod FormWhole
+pub mod FormVerdict
+pub mod FormWhole
 pub mod Given
 pub mod ReadBackEvents
 pub mod JsonTexts
@@ -82,6 +82,6 @@ pub mod StepDeeds
 pub mod Tallies
 pub mod Tokens
 pub mod TurnParts
-mod Turning
+pub mod Turning
 pub mod WhatWasRead
 pub mod Whole

@@ -1,0 +1,4 @@
+pub mod CommandAccepted
+pub mod FewTold
+pub mod HeadReadBack
+pub mod HeadTexts
