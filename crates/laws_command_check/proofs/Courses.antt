@@ -49,25 +49,19 @@ module _ (told : List Told) (c : ℕ) (one : Told) (is : slice_get told c ≡ So
 
 -- an object has no events, or those of one start
 pub its_part : (told : List Told) (c : ℕ) (one : Told) → slice_get told c ≡ Some one → (es : List Event) → AreOfSteps (steps_of (planning_work told) c) es
-    → (es ≡ []) ⊎ ((turn : StartedTurn) × (es ≡ events_of one turn))
+    → (es ≡ []) ⊎ ((turn : StartedTurn) × (turn.turn.change ≡ c) × (es ≡ events_of one turn))
 its_part told c one is es are =
     ⊎_elim
     (λ (none : es ≡ []). inl none)
     (λ (some : (worker : ℕ) × (begin : ℕ) × (rest : List Event) × (es ≡ step_events worker (step_of (planning_work told) c 0 kind.Read) begin ++ rest) × (goes_on (step_of (planning_work told) c 0 kind.Read) ≡ true → rest ≡ []) × (goes_on (step_of (planning_work told) c 0 kind.Read) ≡ false → rest ≡ [])).
     let at : LaneTime = record { second = some.1; round = 0 } in
-    inr (record { turn = single c 0; lane = some.0; begin = at },
+    inr (record { turn = single c 0; lane = some.0; begin = at }, refl,
     some.3 ∙ ap (λ (l : List Event). step_events some.0 (step_of (planning_work told) c 0 kind.Read) some.1 ++ l) (no_more (goes_on (step_of (planning_work told) c 0 kind.Read)) some.2 some.4 some.5) ∙ append-nil (step_events some.0 (step_of (planning_work told) c 0 kind.Read) some.1) ∙ of_step told c one is some.0 at))
     (subst (λ (steps : List Step). AreOfSteps steps es) (one_step told c one is) are)
   where
     no_more : (b : Bool) (rest : List Event) → (b ≡ true → rest ≡ []) → (b ≡ false → rest ≡ []) → rest ≡ []
     no_more true rest on off = on refl
     no_more false rest on off = off refl
-
--- ---- what is so after all events of an object
-
--- an object that does not fail has ended
-abbrev pub HasEnded : Told → Option ℕ → Type 0
-HasEnded one o = one.failure ≡ None → o ≡ None
 
 abbrev seconds_of : Phase → ℕ
 seconds_of between = 0
@@ -96,37 +90,46 @@ module _ (told : List Told) (one : Told) (turn : StartedTurn) where
   abbrev ends_at : (fails warns : Bool) → List Event
   ends_at fails warns = map (λ what. told_event turn (turn.begin.second + one.seconds) what) (ends one.seconds fails warns)
 
-  refresh_ends : (o : Option Note) → Course told (λ x. o ≡ None → x ≡ None) Managed (Some 0) (ends_at (is_error o) (is_some o))
-  refresh_ends None = (refl, λ none. refl)
-  refresh_ends (Some note) = of_test (is_error (Some note))
-    where
-      of_test : (b : Bool) → Course told (λ x. Some note ≡ None → x ≡ None) Managed (Some 0) (ends_at b true)
-      of_test true = (tt, (tt, λ none. absurd cc))
-      of_test false = (tt, λ none. absurd cc)
+  module _ (After : Option ℕ → Type 0) (ended : After None) where
+    -- where the object failed, it stays open
+    abbrev StaysOpen : Option Note → Type 0
+    StaysOpen o = (note : Note) → o ≡ Some note → (last : ℕ) → After (Some last)
 
-  read_ends : (low : ℕ) → low ≤ one.seconds → (o : Option Note) → Course told (λ x. o ≡ None → x ≡ None) DataSource (Some low) (ends_at (is_error o) (is_some o))
-  read_ends low few None = ((low, refl, few), λ none. refl)
-  read_ends low few (Some note) = of_test (is_error (Some note))
-    where
-      of_test : (b : Bool) → Course told (λ x. Some note ≡ None → x ≡ None) DataSource (Some low) (ends_at b true)
-      of_test true = (tt, (tt, λ none. absurd cc))
-      of_test false = (tt, λ none. absurd cc)
+    refresh_ends : (o : Option Note) → StaysOpen o → Course told After Managed (Some 0) (ends_at (is_error o) (is_some o))
+    refresh_ends None open_so = (refl, ended)
+    refresh_ends (Some note) open_so = of_test (is_error (Some note))
+      where
+        of_test : (b : Bool) → Course told After Managed (Some 0) (ends_at b true)
+        of_test true = (tt, (tt, open_so note refl 0))
+        of_test false = (tt, open_so note refl 0)
 
-  its_course : (m : Mode) → Course told (HasEnded one) m None (events_of one turn)
-  its_course Managed = (refl, refresh_goes_on (HasEnded one) (times_within one.seconds 0 one.seconds) (ends_at (is_error one.failure) (is_some one.failure)) (refresh_ends one.failure))
-  its_course DataSource =
-      let along = along_goes ⊥ Read one.seconds 0 [] (inl refl) (omega arith) in
-      (refl, read_goes_on (HasEnded one) (times_within one.seconds 0 one.seconds) 0 along.0 (ends_at (is_error one.failure) (is_some one.failure)) along.2 (read_ends along.0 along.1 one.failure))
+    read_ends : (low : ℕ) → low ≤ one.seconds → (o : Option Note) → StaysOpen o → Course told After DataSource (Some low) (ends_at (is_error o) (is_some o))
+    read_ends low few None open_so = ((low, refl, few), ended)
+    read_ends low few (Some note) open_so = of_test (is_error (Some note))
+      where
+        of_test : (b : Bool) → Course told After DataSource (Some low) (ends_at b true)
+        of_test true = (tt, (tt, open_so note refl low))
+        of_test false = (tt, open_so note refl low)
+
+    pub its_course : (m : Mode) → StaysOpen one.failure → Course told After m None (events_of one turn)
+    its_course Managed open_so = (refl, refresh_goes_on After (times_within one.seconds 0 one.seconds) (ends_at (is_error one.failure) (is_some one.failure)) (refresh_ends one.failure open_so))
+    its_course DataSource open_so =
+        let along = along_goes ⊥ Read one.seconds 0 [] (inl refl) (omega arith) in
+        (refl, read_goes_on After (times_within one.seconds 0 one.seconds) 0 along.0 (ends_at (is_error one.failure) (is_some one.failure)) along.2 (read_ends along.0 along.1 one.failure open_so))
 
 -- ---- all objects
 
+-- all courses, whatever is so in the end
+abbrev pub Anyhow : Told → Option ℕ → Type 0
+Anyhow one o = Unit {0}
+
 pub all_courses : (told : List Told) (events : List Event) → ((c : ℕ) → c < length (planning_work told).plan.changes → AreOfSteps (steps_of (planning_work told) c) (events_of_change c events))
-    → Courses told HasEnded (λ c. None) events
+    → Courses told Anyhow (λ c. None) events
 all_courses told events whole c one is =
     let known : c < length (planning_work told).plan.changes = slice_get_within (planning_work told).plan.changes c (change_of one) (slice_get-map change_of told c ∙ ap (option_map change_of) is) in
     ⊎_elim
-    (λ (none : events_of_change c events ≡ []). subst (Course told (HasEnded one) one.object.mode None) (sym none) (λ fails. refl))
-    (λ (some : (turn : StartedTurn) × (events_of_change c events ≡ events_of one turn)). subst (Course told (HasEnded one) one.object.mode None) (sym some.1) (its_course told one some.0 one.object.mode))
+    (λ (none : events_of_change c events ≡ []). subst (Course told (Anyhow one) one.object.mode None) (sym none) tt)
+    (λ (some : (turn : StartedTurn) × (turn.turn.change ≡ c) × (events_of_change c events ≡ events_of one turn)). subst (Course told (Anyhow one) one.object.mode None) (sym some.2) (its_course told one some.0 (Anyhow one) tt one.object.mode (λ note failure last. tt)))
     (its_part told c one is (events_of_change c events) (whole c known))
 
 -- each event is of an object
@@ -184,5 +187,5 @@ all_small told events short steps =
     let known : c < length (planning_work told).plan.changes = slice_get_within (planning_work told).plan.changes c (change_of found.0) (slice_get-map change_of told c ∙ ap (option_map change_of) found.1) in
     ⊎_elim
     (λ (none : events_of_change c events ≡ []). subst (Each (λ e. IsSmall e.what)) (sym none) tt)
-    (λ (some : (turn : StartedTurn) × (events_of_change c events ≡ events_of found.0 turn)). subst (Each (λ e. IsSmall e.what)) (sym some.1) (its_small found.0 some.0 (short c found.0 found.1)))
+    (λ (some : (turn : StartedTurn) × (turn.turn.change ≡ c) × (events_of_change c events ≡ events_of found.0 turn)). subst (Each (λ e. IsSmall e.what)) (sym some.2) (its_small found.0 some.0 (short c found.0 found.1)))
     (its_part told c found.0 found.1 (events_of_change c events) (steps.whole c known)))

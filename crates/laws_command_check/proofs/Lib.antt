@@ -6,3 +6,5 @@ mod PlanEnds
 mod Planning
 mod ReadsOnce
 mod ApplyEnds
+mod Ended
+mod CommandHead

@@ -290,7 +290,7 @@ module _ (told : List Told) where
         let rest = counted_most xs (low + 1) h (λ k. subst (λ (n : ℕ). weight (h n) ≤ share (slice_get xs k)) (let e : low + suc k ≡ low + 1 + k = omega arith in e) (each (suc k))) in
         omega arith
 
-    few_shown : (m : Mode) (opens : ℕ → Option ℕ) → counted (shown_in m opens a) 0 (length told) ≤ count_by (is_told_at a) told
+    pub few_shown : (m : Mode) (opens : ℕ → Option ℕ) → counted (shown_in m opens a) 0 (length told) ≤ count_by (is_told_at a) told
     few_shown m opens = counted_most told 0 (shown_in m opens a) (λ k. subst (λ (n : ℕ). weight (shown_in m opens a n) ≤ share (slice_get told k)) (let e : k ≡ 0 + k = omega arith in e) (of_found (slice_get told k) (opens k)))
       where
         of_open : (o : Option ℕ) → weight o ≤ 1
