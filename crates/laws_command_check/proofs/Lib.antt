@@ -8,3 +8,4 @@ mod ReadsOnce
 mod ApplyEnds
 mod Ended
 mod CommandHead
+mod CommandTaken

@@ -75,7 +75,7 @@ plan_closed ms quiet ends = not_any_open ms (λ a. stands_closed (refreshes_matt
 -- ---- the verdict
 
 -- a message that is there has a line
-on_line : (q : Message → Bool) (ms : List Message) → is_some (line_of q ms) ≡ nat_lt 0 (count_by q ms)
+pub on_line : (q : Message → Bool) (ms : List Message) → is_some (line_of q ms) ≡ nat_lt 0 (count_by q ms)
 on_line q [] = refl
 on_line q (m ∷ ms) = of_test (q m) (on_line q ms) (sum_by-cons (λ x. cond (q x) 1 0) m ms)
   where

@@ -55,3 +55,17 @@ pub record IsApplyAnswered (plan : SavedPlan) (events : List Event) (plans error
   pub is_whole : (errors ≡ true) ⊎ EachStarts plan events
       → (is_plan : Bool) × (answer ≡ Ok (whole_of_command is_plan planned counted errors lines)) × (is_plan ≡ true → (plans ≡ true) × (errors ≡ true))
   pub leaves : errors ≡ false → (address : List ℕ) → NeverStarts plan events address → answer ≡ Err left_out
+
+-- the answer about the stream of a command, whose plan is applied or not
+abbrev pub IsCommandAnswered : (applies : Bool) → SavedPlan → List Event → (plans told errors : Bool) → (planned counted : Totals) → (lines : ℕ) → (E : Type 0) → (left_out : E) → Result Whole E → Type 0
+IsCommandAnswered true plan events plans told errors planned counted lines E left_out answer = IsApplyAnswered plan events plans errors planned counted lines E left_out answer
+IsCommandAnswered false plan events plans told errors planned counted lines E left_out answer = IsPlanAnswered plans told errors planned lines E answer
+
+-- The messages of the stream are accepted up to its end, with that answer. `told`: the plan is told.
+pub record IsCommandTaken (plans told : Bool) (inputs : HeadInputs) (lines : List HeadLine) (applies : Bool) (plan : SavedPlan) (script : OutcomeMap) (extras : StreamExtras) (operation : Operation) (events : List Event) : Type 0 where
+  -- the messages, the latest first
+  pub messages : List Message
+  pub accepted : with_all [] (command_stream_read_back inputs lines applies plan script extras operation events) ≡ Ok messages
+  pub as_many : length messages ≡ length (command_stream_read_back inputs lines applies plan script extras operation events)
+  pub answer : IsCommandAnswered applies plan events plans told (contains_error extras.notes (totals_of plan events)) (totals_of_plan inputs.totals) (totals_of_counts (totals_of plan events))
+      (length (command_stream_read_back inputs lines applies plan script extras operation events)) Fault Planned (end_of (plain plans) messages)
