@@ -56,11 +56,11 @@ step None f y e = absurd cc
 step (Some x) f y e = (x, refl, e)
 
 -- what is read of the plan
-record HasDetails (details : DetailsOfPlan) : Type 0 where
-  changes : AllByRecursion HasDetailTexts details.changes
-  known : AreOutputs details.outputs.known
+pub record HasDetails (details : DetailsOfPlan) : Type 0 where
+  pub changes : AllByRecursion HasDetailTexts details.changes
+  pub known : AreOutputs details.outputs.known
 
-plan_details : (bytes : List ℕ) (details : DetailsOfPlan) → details_of bytes ≡ Some details → HasDetails details
+pub plan_details : (bytes : List ℕ) (details : DetailsOfPlan) → details_of bytes ≡ Some details → HasDetails details
 plan_details bytes details e =
     let value = step (json_of bytes) _ details e in
     let whole = step (of_json value.0) _ details value.2 in
@@ -100,11 +100,11 @@ script_tree plan bytes script e j is = of_size (nat_lt max_bytes (length bytes))
     of_size false e = of_tree (mixed_tree_of is_verbatim_name bytes) refl e
 
 -- what is read of the script
-record HasExtras (extras : ExtrasOfScript) : Type 0 where
-  outputs : AreOutputs extras.outputs
-  notes : AllByRecursion HasNoteTexts extras.notes
+pub record HasExtras (extras : ExtrasOfScript) : Type 0 where
+  pub outputs : AreOutputs extras.outputs
+  pub notes : AllByRecursion HasNoteTexts extras.notes
 
-script_extras : (plan : SavedPlan) (known : OutputsOfPlan) (bytes : Option (List ℕ)) (script : OutcomeMap) (extras : ExtrasOfScript) → given_script plan bytes ≡ Ok script → given_extras known bytes ≡ Ok extras → HasExtras extras
+pub script_extras : (plan : SavedPlan) (known : OutputsOfPlan) (bytes : Option (List ℕ)) (script : OutcomeMap) (extras : ExtrasOfScript) → given_script plan bytes ≡ Ok script → given_extras known bytes ≡ Ok extras → HasExtras extras
 script_extras plan known None script extras read e = subst HasExtras (let same : (let none : ExtrasOfScript = record { outputs = no_members; notes = [] } in none) ≡ extras = cc in same) (record { outputs = tt; notes = tt })
 script_extras plan known (Some bytes) script extras read e = of_value (json_of bytes) refl e
   where

@@ -52,7 +52,7 @@ none_read_back = inl (refl, refl)
 -- ---- planned changes
 
 -- what holds of each element by its number holds of all
-by_number : {X : Type 0} (P : X → Type 0) (xs : List X) → ((n : ℕ) (x : X) → slice_get xs n ≡ Some x → P x) → AllByRecursion P xs
+pub by_number : {X : Type 0} (P : X → Type 0) (xs : List X) → ((n : ℕ) (x : X) → slice_get xs n ≡ Some x → P x) → AllByRecursion P xs
 by_number P [] holds = tt
 by_number P (x ∷ xs) holds = (holds zero x refl, by_number P xs (λ n y is. holds (suc n) y is))
 
@@ -122,10 +122,10 @@ module _ (plan : SavedPlan) (script : OutcomeMap) (extras : StreamExtras) (start
       of_change None is = none_read_back
       of_change (Some change) is = of_step change (has.texts.changes e.change change is) (slice_get change.steps e.step)
 
-  abbrev line_of : ℕ → Event → List ℕ
+  abbrev pub line_of : ℕ → Event → List ℕ
   line_of latest e = (terraform_form plan script extras start operation).line latest e
 
-  all_events : (latest : ℕ → ℕ) (n : ℕ) (es : List Event) → AllByRecursion (λ (e : Event). IsSmall e.what) es
+  pub all_events : (latest : ℕ → ℕ) (n : ℕ) (es : List Event) → AllByRecursion (λ (e : Event). IsSmall e.what) es
       → AreReadBackAs (map (λ p. line_of (latest (p.0 + 1)) p.1) (enumerate_from n es)) (flat_map (event_read_back_in_form plan script) es)
   all_events latest n [] small = refl
   all_events latest n (e ∷ es) small =
@@ -134,11 +134,11 @@ module _ (plan : SavedPlan) (script : OutcomeMap) (extras : StreamExtras) (start
 
   -- ---- the end
 
-  all_notes : (latest : ℕ) (notes : List Note) → AllByRecursion HasNoteTexts notes → AreReadBackAs (map (note_text start latest) notes) (map diagnostic_read_back notes)
+  pub all_notes : (latest : ℕ) (notes : List Note) → AllByRecursion HasNoteTexts notes → AreReadBackAs (map (note_text start latest) notes) (map diagnostic_read_back notes)
   all_notes latest [] texts = refl
   all_notes latest (note ∷ notes) texts = inr (diagnostic_read_back note, map diagnostic_read_back notes, refl, diagnostic_line_read_back note start latest texts.0, all_notes latest notes texts.1)
 
-  abbrev outputs_lines : Operation → (latest : ℕ) → List (List ℕ)
+  abbrev pub outputs_lines : Operation → (latest : ℕ) → List (List ℕ)
   outputs_lines Apply latest = outputs_text start latest extras.outputs ∷ []
   outputs_lines Destroy latest = []
 
@@ -151,15 +151,15 @@ module _ (plan : SavedPlan) (script : OutcomeMap) (extras : StreamExtras) (start
   outputs_joined Destroy latest = refl
 
   -- the summary and the outputs, or neither
-  abbrev end_lines : (none : Bool) → (latest : ℕ) → Counts → List (List ℕ)
+  abbrev pub end_lines : (none : Bool) → (latest : ℕ) → Counts → List (List ℕ)
   end_lines none latest counts = cond none [] (summary_text start latest operation counts (imported_in extras.details) ∷ outputs_lines operation latest)
 
-  end_line_read_back : (none : Bool) (latest : ℕ) (counts : Counts) → AreSmall counts → AreReadBackAs (end_lines none latest counts) (cond none [] (summary (totals_of_counts counts) ∷ outputs_read_back operation))
+  pub end_line_read_back : (none : Bool) (latest : ℕ) (counts : Counts) → AreSmall counts → AreReadBackAs (end_lines none latest counts) (cond none [] (summary (totals_of_counts counts) ∷ outputs_read_back operation))
   end_line_read_back true latest counts small = refl
   end_line_read_back false latest counts small =
       inr (summary (totals_of_counts counts), outputs_read_back operation, refl, summary_line_read_back start latest operation counts (imported_in extras.details) small has.few_imports, outputs_read_back_so operation latest)
 
-  end_joined : (none : Bool) (latest : ℕ) (counts : Counts)
+  pub end_joined : (none : Bool) (latest : ℕ) (counts : Counts)
       → cond none [] (summary_text start latest operation counts (imported_in extras.details) ++ outputs_of_apply operation start latest extras.outputs) ≡ concat (end_lines none latest counts)
   end_joined true latest counts = refl
   end_joined false latest counts = ap (λ (l : List ℕ). summary_text start latest operation counts (imported_in extras.details) ++ l) (outputs_joined operation latest)

@@ -15,7 +15,7 @@ pub mod Errors
 pub mod EscapedTokens
 pub mod EscapedTrees
 pub mod Fitting
-mod FormAccepted
+pub mod FormAccepted
 pub mod FormCounts
 pub mod FormEnds
 pub mod FormFailures
@@ -32,7 +32,7 @@ pub mod FormPendings
 pub mod FormPlanned
 pub mod FormPlans
 pub mod FormProvisioners
-mod FormRead
+pub mod FormRead
 mod FormRuns
 pub mod FormStream
 pub mod FormMessages
@@ -65,9 +65,9 @@ mod PreviousTexts
 pub mod ReadBack
 pub mod ReadBytes
 mod ReadDetails
-mod ReadNotes
+pub mod ReadNotes
 pub mod ReadNumbers
-mod ReadOutputs
+pub mod ReadOutputs
 pub mod ReadTexts
 pub mod RunEvents
 mod Schedules

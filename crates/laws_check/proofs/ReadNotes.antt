@@ -132,7 +132,7 @@ script_notes d comes =
 
 -- ---- the diagnostic of a plan
 
-plan_note : (note : PlanNote) → HasNoteTexts (note_of_plan note)
+pub plan_note : (note : PlanNote) → HasNoteTexts (note_of_plan note)
 plan_note Partial = record {
   diag = record { summary = IsUtf8-are_ascii (note_of_plan Partial).diag.summary refl; detail = IsUtf8-are_ascii (note_of_plan Partial).diag.detail refl };
   address = tt;

@@ -9,3 +9,4 @@ mod ApplyEnds
 mod Ended
 mod CommandHead
 mod CommandTaken
+mod Commanded

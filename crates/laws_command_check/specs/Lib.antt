@@ -1,4 +1,5 @@
 pub mod CommandAccepted
+pub mod Commands
 pub mod FewTold
 pub mod HeadReadBack
 pub mod HeadTexts
