@@ -10,3 +10,4 @@ mod Ended
 mod CommandHead
 mod CommandTaken
 mod Commanded
+mod CommandTexts

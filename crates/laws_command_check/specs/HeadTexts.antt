@@ -10,15 +10,18 @@ use Rattle.apply_text_planning.specs.declared.plan_totals.PlanTotals.{PlanTotals
 use Rattle.apply_command.specs.declared.head_line.HeadLine.{HeadLine}
 use Rattle.apply_command.specs.declared.head_line.HeadLine.TheVariants as line
 use Rattle.apply_command.specs.Head.{HeadInputs}
+use Rattle.apply_command.specs.Reading.{CommandInputs}
 use Rattle.laws_check.specs.Plans.{IsChange}
-use Rattle.laws_check.specs.ReadBackInForm.{HasDetailTexts}
+use Rattle.laws_check.specs.ReadBackInForm.{HasDetailTexts, HasNoteTexts}
 use Rattle.laws_check.specs.Texts.{HasChangeTexts, IsSmall}
 
--- the texts of an object that is refreshed or read
+-- the texts of an object that is refreshed or read, and the number of its seconds
 pub record HasToldTexts (told : Told) : Type 0 where
   pub object : HasChangeTexts told.object
   pub id_before : IfSome told.id_before IsUtf8
   pub id_after : IfSome told.id_after IsUtf8
+  pub failure : IfSome told.failure HasNoteTexts
+  pub seconds : told.seconds < 2 ^ 64
 
 -- the texts of a drift
 pub record HasDriftTexts (drift : Drift) : Type 0 where
@@ -50,3 +53,9 @@ IsSmallLine (line.Drift number) = ⊤
 IsSmallLine (line.Planned number) = ⊤
 IsSmallLine line.Summary = ⊤
 IsSmallLine line.Outputs = ⊤
+
+-- what a command reads beyond a saved plan and its script has such texts
+pub record HasPlanningTexts (read : CommandInputs) : Type 0 where
+  pub told : AllByRecursion HasToldTexts read.told
+  pub drifts : AllByRecursion HasDriftTexts read.drifts
+  pub outputs : AllByRecursion (λ (output : PlannedOutput). IsUtf8 output.name) read.outputs
