@@ -11,3 +11,4 @@ mod CommandHead
 mod CommandTaken
 mod Commanded
 mod CommandTexts
+mod CommandStream
