@@ -33,7 +33,7 @@ use Rattle.laws_check.proofs.Delivered.{stream_is}
 
 -- ---- a line for each message
 
-as_many_lines : (lines : List (List ℕ)) (ms : List Message) → AreReadBackAs lines ms → length (cut_lines (concat lines)) ≡ length ms
+pub as_many_lines : (lines : List (List ℕ)) (ms : List Message) → AreReadBackAs lines ms → length (cut_lines (concat lines)) ≡ length ms
 as_many_lines [] ms none = sym (ap (λ (l : List Message). length l) none)
 as_many_lines (line ∷ lines) ms say =
     ⊎_elim
@@ -67,7 +67,7 @@ accepted_as_stated plans stated operation events as_many law = of_note (is_unfin
 
 -- ---- the bytes
 
-abbrev at_planned : ℕ → Result Whole Finding
+abbrev pub at_planned : ℕ → Result Whole Finding
 at_planned line = Err (record { line = line; fault = Planned; passed = None })
 
 -- the verdict on the messages, as one on lines

@@ -1,5 +1,5 @@
 pub mod AppliedKinds
-mod BareTexts
+pub mod BareTexts
 pub mod BetweenSteps
 pub mod Bytes
 pub mod ChangeDeeds
@@ -70,7 +70,7 @@ pub mod ReadNumbers
 pub mod ReadOutputs
 pub mod ReadTexts
 pub mod RunEvents
-mod Schedules
+pub mod Schedules
 pub mod ScriptTexts
 pub mod Scripts
 pub mod SmallNumbers

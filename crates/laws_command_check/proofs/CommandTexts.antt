@@ -184,14 +184,14 @@ small_totals changes details numbers whole few =
 
 -- ---- small lines
 
-small_lines : (events : List Event) → AllByRecursion (λ (e : Event). IsSmall e.what) events → (plan : List HeadLine) → AllByRecursion IsSmallLine plan → AllByRecursion IsSmallLine (head_lines events plan)
+pub small_lines : (events : List Event) → AllByRecursion (λ (e : Event). IsSmall e.what) events → (plan : List HeadLine) → AllByRecursion IsSmallLine plan → AllByRecursion IsSmallLine (head_lines events plan)
 small_lines events small plan others = (tt, all_both IsSmallLine (map line.Planning events) plan (of_events events small) others)
   where
     of_events : (es : List Event) → AllByRecursion (λ (e : Event). IsSmall e.what) es → AllByRecursion IsSmallLine (map line.Planning es)
     of_events [] h = tt
     of_events (e ∷ es) h = (h.0, of_events es h.1)
 
-small_plan : (is_told : Bool) (drifts changes : List ℕ) (outputs : List PlannedOutput) → AllByRecursion IsSmallLine (plan_lines is_told drifts changes outputs)
+pub small_plan : (is_told : Bool) (drifts changes : List ℕ) (outputs : List PlannedOutput) → AllByRecursion IsSmallLine (plan_lines is_told drifts changes outputs)
 small_plan false drifts changes outputs = tt
 small_plan true drifts changes outputs =
     all_both IsSmallLine (map line.Drift drifts ++ map line.Planned changes) (sums outputs) (all_both IsSmallLine (map line.Drift drifts) (map line.Planned changes) (of_drifts drifts) (of_changes changes)) (of_sums outputs)

@@ -12,3 +12,5 @@ mod CommandTaken
 mod Commanded
 mod CommandTexts
 mod CommandStream
+mod CommandRead
+mod CommandJudged

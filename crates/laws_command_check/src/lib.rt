@@ -4,6 +4,11 @@
 //! its own law follows from. No program links this crate.
 #![tactic(auto)]
 
+mod commands;
 mod heads;
 
+pub use commands::{
+    a_planning_is_of_whole_steps, every_line_of_a_command_is_read_back,
+    every_message_of_a_command_is_accepted, every_stream_of_a_command_is_accepted,
+};
 pub use heads::every_line_before_an_apply_is_read_back;
