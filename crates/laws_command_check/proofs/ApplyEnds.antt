@@ -1,11 +1,10 @@
 -- The end of a stream of an apply that planned itself: as that of a saved plan.
-use Rattle.std.proofs.Common.{◌≡◌, ◌≢◌, ℕ, ◌+◌, ◌<◌, ◌≤◌, List, [], ◌∷◌, ◌++◌, append_assoc, append-nil, length, map, flat_map, Bool, true, false, cond, Option, Some, None, Result, Ok, Err, refl, sym, ap, ap₂, ◌∙◌, subst, ⊎_elim, ◌⊎◌, is_some, count_by, arith, nat_lt, slice_get}
-use Rattle.std.specs.Prelude.{◌&&◌, ◌||◌, ◌↔◌, not}
+use Rattle.std.proofs.Common.{◌≡◌, ℕ, List, [], ◌∷◌, ◌++◌, append_assoc, append-nil, length, map, flat_map, Bool, true, false, cond, Option, Some, None, Result, Ok, Err, refl, sym, ap, ap₂, ◌∙◌, subst, ⊎_elim, ◌⊎◌, is_some, count_by, nat_lt, slice_get}
+use Rattle.std.specs.Prelude.{◌&&◌, ◌||◌, not}
 use Rattle.std.specs.List.{enumerate_from, list_any}
 use Rattle.std.specs.Option.{option_map_or}
 use Rattle.std.proofs.Math.Bool.{and-false, or-true}
 use Rattle.std.proofs.lemmas.Bool.{and_parts, cases_Bool}
-use Rattle.std.proofs.lemmas.List.Sums.{sum_by-append, sum_by-cons}
 use Rattle.apply_model.specs.declared.details.note.Note.{Note}
 use Rattle.apply_model.specs.declared.plan.step_kind.StepKind.{StepKind}
 use Rattle.apply_model.specs.declared.script.outcome.Outcome.{Outcome}
@@ -13,18 +12,16 @@ use Rattle.apply_model.specs.Plan.ResourceChange.{ResourceChange}
 use Rattle.apply_model.specs.Plan.SavedPlan.{SavedPlan}
 use Rattle.apply_model.specs.Script.OutcomeMap.{OutcomeMap, outcome_of}
 use Rattle.stream_check.specs.declared.messages.action.Action.{Action}
-use Rattle.stream_check.specs.declared.messages.action.Action.TheVariants.{Create, Update, Delete, Read}
+use Rattle.stream_check.specs.declared.messages.action.Action.TheVariants.{Create, Update, Delete}
 use Rattle.stream_check.specs.declared.messages.totals.Totals.{Totals}
 use Rattle.stream_check.specs.declared.rules.fault.Fault.{Fault}
 use Rattle.stream_check.specs.declared.rules.fault.Fault.TheVariants.{Planned}
 use Rattle.stream_check.specs.declared.rules.pending.Pending.{Pending}
-use Rattle.stream_check.specs.declared.verdict.whole.Whole.{Whole}
 use Rattle.stream_check.specs.AddressState.{pending_at, state_of}
 use Rattle.stream_check.specs.Lines.{apply_end, end_of, is_plan_stream, leaves_planned, next, no_end_of, whole_of, whole_plan_of}
 use Rattle.stream_check.specs.Message.{Message, version, step, provision, planned, plan_summary, summary, diagnostic, outputs, other, foreign}
 use Rattle.stream_check.specs.Open.{any_open}
-use Rattle.stream_check.specs.Results.{◌>>=◌}
-use Rattle.stream_check.specs.Tally.{completed_totals, completes, failures_left, failures_stand, is_completion, is_error, is_error_without_address, is_plan_summary, is_summary, is_version, line_of, planned_totals, plans_create, plans_delete, plans_update}
+use Rattle.stream_check.specs.Tally.{completed_totals, completes, is_completion, is_error, is_error_without_address, is_summary, planned_totals, plans_create, plans_delete, plans_update}
 use Rattle.stream_check.specs.Unbegun.{any_unbegun, unbegun_at}
 use Rattle.stream_check.proofs.Counting.{same_counts}
 use Rattle.stream_check.proofs.Unbegun.{none_waits, some_waits}
@@ -43,14 +40,14 @@ use Rattle.apply_writer.specs.Stream.Terraform.{StreamExtras, contains_error}
 use Rattle.laws_check.specs.Accepted.{totals_of_counts}
 use Rattle.laws_check.specs.Passing.{plain, with_all}
 use Rattle.laws_check.specs.Plans.{ChangesAreWhole, IsOrdinary, ProvisionsCreates, WarnsOfReads}
-use Rattle.laws_check.specs.ReadBackInForm.{diagnostic_read_back, end_read_back, event_read_back_in_form, outputs_read_back, planned_read_back_at, read_back_before_end, read_back_in_form}
-use Rattle.laws_check.specs.Unstarted.{EachStarts, FindsUnstarted, NeverStarts}
+use Rattle.laws_check.specs.ReadBackInForm.{diagnostic_read_back, end_read_back, event_read_back_in_form, outputs_read_back, planned_read_back_at, read_back_in_form}
+use Rattle.laws_check.specs.Unstarted.{EachStarts, FindsUnstarted}
 use Rattle.laws_check.specs.WholeSteps.{IsOfWholeSteps}
 use Rattle.laws_check.proofs.Errors.{any_counted}
 use Rattle.laws_check.proofs.FormFailures.{first_accepted}
 use Rattle.laws_check.proofs.FormParts.{none_too}
 use Rattle.laws_check.proofs.FormPendings.{IsSame}
-use Rattle.laws_check.proofs.FormVerdict.{EndSo, MayEnd, all_taken, closes, errors_are, finds, sound, summed, totals_are}
+use Rattle.laws_check.proofs.FormVerdict.{MayEnd, all_taken, closes, errors_are, finds, sound, summed, totals_are}
 use Rattle.laws_check.proofs.Turning.{followed_by, followed_by_both, joined}
 use Rattle.laws_check.proofs.Whole.{planned_end, whole_end}
 use Rattle.laws_command_check.specs.CommandAccepted.{IsApplyAnswered, whole_of_command}

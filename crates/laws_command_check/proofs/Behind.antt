@@ -1,11 +1,11 @@
 -- Two streams that are alike, but for messages that a checker passes over in the second. What is
 -- accepted after the first is accepted after the second.
-use Rattle.std.proofs.Common.{◌≡◌, ◌≢◌, ℕ, ◌+◌, ◌-◌, ◌<◌, ◌≤◌, List, [], ◌∷◌, length, Bool, true, false, cond, Option, Some, None, Result, Ok, Err, refl, sym, ap, ap₂, ◌∙◌, subst, ⊎_elim, ◌⊎◌, is_some, count_by, nat_lt, arith, bytes_eq}
-use Rattle.std.specs.Prelude.{◌&&◌, ◌||◌, ◌==◌}
+use Rattle.std.proofs.Common.{◌≡◌, ℕ, ◌+◌, ◌-◌, ◌≤◌, List, [], ◌∷◌, length, Bool, true, false, cond, Option, Some, None, Result, Ok, Err, refl, sym, ap, ap₂, ◌∙◌, subst, ⊎_elim, ◌⊎◌, count_by, nat_lt, arith, bytes_eq}
+use Rattle.std.specs.Prelude.{◌&&◌, ◌==◌}
 use Rattle.std.specs.List.{list_any}
 use Rattle.std.specs.Option.{option_map_or}
 use Rattle.std.proofs.Math.Bool.{and-false}
-use Rattle.std.proofs.lemmas.Bool.{and_right, cases_Bool}
+use Rattle.std.proofs.lemmas.Bool.{cases_Bool}
 use Rattle.std.proofs.lemmas.List.Sums.{sum_by-cons}
 use Rattle.stream_check.specs.declared.messages.action.Action.{Action}
 use Rattle.stream_check.specs.declared.messages.action.Action.TheVariants.{Create, Update, Delete, Read, Refresh}
@@ -36,11 +36,11 @@ use Rattle.stream_check.proofs.Counting.{same_counts}
 use Rattle.stream_check.proofs.WholeStream.{bind_ok, one_next}
 use Rattle.laws_check.specs.Passing.{with_all}
 use Rattle.laws_check.proofs.FormFailures.{count_most, provision_keeps}
-use Rattle.laws_check.proofs.FormMatches.{AreAlike, AreMatched, WasStepped, before_end, behind_version, both_diagnostic, both_step, grown_by, stepped_by, was_stepped}
+use Rattle.laws_check.proofs.FormMatches.{AreAlike, before_end, behind_version, both_diagnostic, both_step, grown_by, stepped_by, was_stepped}
 use Rattle.laws_check.proofs.FormPendings.{HasRoom, IsSame, held}
 use Rattle.laws_check.proofs.FormProvisioners.{both_provision, was_provisioned}
 use Rattle.laws_check.proofs.Moves.{by_address}
-use Rattle.laws_check.proofs.Standings.{diagnostic_elsewhere, diagnostic_there, explained_keeps, failures_same, next_after, pending_other, pending_same, same_itself, same_text, step_elsewhere, step_in, step_is, step_there}
+use Rattle.laws_check.proofs.Standings.{diagnostic_elsewhere, diagnostic_there, explained_keeps, failures_same, next_after, pending_other, pending_same, same_text, step_elsewhere, step_in, step_is, step_there}
 use Rattle.laws_check.proofs.Turning.{followed_by}
 
 abbrev fine : {A : Type 0} → A → Result A Fault

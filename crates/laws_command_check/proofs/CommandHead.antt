@@ -1,19 +1,17 @@
 -- The checker accepts all messages before an apply: the planning, and the plan where it is told.
-use Rattle.std.proofs.Common.{◌≡◌, ◌≢◌, ℕ, zero, suc, ◌+◌, ◌<◌, ◌≤◌, List, [], ◌∷◌, ◌++◌, append-nil, append_assoc, length, map, flat_map, Bool, true, false, cond, Option, Some, None, Result, Ok, Err, refl, sym, ap, ap₂, ◌∙◌, subst, ⊎_elim, ◌⊎◌, inl, inr, is_some, count_by, arith, nat_lt, slice_get}
-use Rattle.std.specs.Prelude.{◌&&◌, ◌||◌}
+use Rattle.std.proofs.Common.{◌≡◌, ℕ, ◌+◌, ◌<◌, ◌≤◌, List, [], ◌∷◌, ◌++◌, append-nil, length, map, flat_map, Bool, true, false, cond, Option, Some, None, Result, Ok, refl, sym, ap, ap₂, ◌∙◌, subst, ⊎_elim, ◌⊎◌, count_by, arith, slice_get}
+use Rattle.std.specs.Prelude.{◌&&◌}
 use Rattle.std.specs.List.{enumerate_from, filter_map, list_any}
 use Rattle.std.specs.Option.{option_map_or}
 use Rattle.std.proofs.Math.Bool.{and-false}
 use Rattle.std.proofs.lemmas.Grind.{flat_map-append}
-use Rattle.std.proofs.lemmas.List.Sums.{sum_by-append, sum_by-cons}
-use Rattle.apply_model.specs.declared.details.change_details.ChangeDetails.{ChangeDetails}
+use Rattle.std.proofs.lemmas.List.Sums.{sum_by-append}
 use Rattle.apply_model.specs.declared.plan.mode.Mode.{Mode}
 use Rattle.apply_model.specs.declared.plan.mode.Mode.TheVariants.{Managed, DataSource}
 use Rattle.apply_model.specs.declared.plan.step_kind.StepKind.TheVariants as kind
 use Rattle.apply_model.specs.Plan.ResourceChange.{ResourceChange}
 use Rattle.stream_check.specs.declared.messages.action.Action.{Action}
 use Rattle.stream_check.specs.declared.messages.action.Action.TheVariants.{Create, Update, Delete, Read, Refresh}
-use Rattle.stream_check.specs.declared.messages.intent.Intent.TheVariants.{Nothing}
 use Rattle.stream_check.specs.declared.messages.timed_stage.TimedStage.{TimedStage}
 use Rattle.stream_check.specs.declared.messages.totals.Totals.{Totals}
 use Rattle.stream_check.specs.declared.rules.fault.Fault.{Fault}
@@ -21,10 +19,9 @@ use Rattle.stream_check.specs.declared.rules.pending.Pending.{Pending}
 use Rattle.stream_check.specs.declared.rules.pending.Pending.TheVariants.{One, Several}
 use Rattle.stream_check.specs.AddressState.{pending_at, state_of}
 use Rattle.stream_check.specs.Intents.{creates, deletes, updates}
-use Rattle.stream_check.specs.Lines.{next}
 use Rattle.stream_check.specs.Message.{Message, version, step, provision, planned, plan_summary, summary, diagnostic, outputs, other, foreign}
 use Rattle.stream_check.specs.Results.{◌>>=◌}
-use Rattle.stream_check.specs.Tally.{begins, begun_totals, completed_totals, completes, is_begin, is_completion, is_error, is_plan_summary, is_step, is_summary, line_of, no_totals, planned_totals, plans_create, plans_delete, plans_update}
+use Rattle.stream_check.specs.Tally.{begins, begun_totals, completed_totals, completes, is_begin, is_completion, is_error, is_plan_summary, is_step, line_of, no_totals, planned_totals, plans_create, plans_delete, plans_update}
 use Rattle.stream_check.specs.Words.{same_action}
 use Rattle.stream_check.proofs.Counting.{same_counts}
 use Rattle.apply_events.specs.declared.event.Event.{Event}
@@ -37,7 +34,6 @@ use Rattle.apply_planning_failures.specs.PlansPart.{details_at}
 use Rattle.apply_prior.specs.declared.drift.Drift.{Drift}
 use Rattle.apply_prior.specs.declared.planned_output.PlannedOutput.{PlannedOutput}
 use Rattle.apply_text_planning.specs.Totals as plan_sums
-use Rattle.apply_command.specs.declared.head_line.HeadLine.{HeadLine}
 use Rattle.apply_command.specs.declared.head_line.HeadLine.TheVariants as line
 use Rattle.apply_command.specs.Head.{HeadInputs, head_lines, plan_lines, sums}
 use Rattle.apply_writer.specs.Stream.Terraform as form
@@ -52,12 +48,12 @@ use Rattle.laws_check.proofs.Fitting.{MatchesPending}
 use Rattle.laws_check.proofs.Turning.{followed_by, followed_by_both, joined}
 use Rattle.laws_check.proofs.Whole.{counts_followed_by}
 use Rattle.laws_command_check.specs.FewTold.{FewShareAnAddress, OnlyReadsWarn, is_told_at}
-use Rattle.laws_command_check.specs.HeadReadBack.{command_read_back, drift_read_back_at, head_read_back, line_read_back, planning_read_back, told_read_back, totals_of_plan}
+use Rattle.laws_command_check.specs.HeadReadBack.{drift_read_back_at, head_read_back, line_read_back, planning_read_back, told_read_back, totals_of_plan}
 use Rattle.laws_command_check.proofs.Behind.{IsBehind, ignores_plans, more_other, more_outputs, more_summary, one_less}
 use Rattle.laws_command_check.proofs.Courses.{all_courses, all_known}
 use Rattle.laws_command_check.proofs.Ended.{all_ended}
 use Rattle.laws_command_check.proofs.HeadTaken.{ArePassed, ArePlain, IsGoing, after_planning, all_behind, all_ignored, all_plain, all_planned_so, by_numbers, command_at, counts_as, forgetting, message_at, plain_both, plain_planned, planning_passed, puts_out, sums_up}
-use Rattle.laws_command_check.proofs.Planning.{IsQuiet, Stands, all_closed, all_run, at_begin, few_shown}
+use Rattle.laws_command_check.proofs.Planning.{Stands, all_closed, all_run, at_begin, few_shown}
 
 abbrev fine : {A : Type 0} → A → Result A Fault
 fine x = Ok x

@@ -1,5 +1,5 @@
 -- The verdict on the lines of a command is the answer about its messages, as the report has it.
-use Rattle.std.proofs.Common.{◌≡◌, ℕ, List, [], length, Bool, true, false, Option, Some, None, Result, Ok, Err, refl, sym, ap, ◌∙◌, subst}
+use Rattle.std.proofs.Common.{◌≡◌, ℕ, List, [], length, Bool, true, false, Option, Some, None, Result, sym, ap, ◌∙◌, subst}
 use Rattle.std.specs.List.{concat}
 use Rattle.stream_lines.specs.Cut.{cut_lines}
 use Rattle.stream_check.specs.declared.messages.totals.Totals.{Totals}

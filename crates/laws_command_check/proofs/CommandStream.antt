@@ -1,5 +1,5 @@
 -- A stream of a command is lines, and each line is read back as its message.
-use Rattle.std.proofs.Common.{◌≡◌, ℕ, ◌+◌, List, [], ◌∷◌, ◌++◌, append-nil, append_assoc, cond, flat_map, length, map, Bool, true, false, not, refl, sym, ap, ap₂, ◌∙◌}
+use Rattle.std.proofs.Common.{◌≡◌, ℕ, ◌+◌, List, [], ◌++◌, append-nil, append_assoc, cond, flat_map, length, map, Bool, true, false, not, refl, sym, ap, ap₂, ◌∙◌}
 use Rattle.std.specs.List.{AllByRecursion, concat, enumerate_from}
 use Rattle.std.proofs.lemmas.List.Folds.{concat-append}
 use Rattle.apply_model.specs.Plan.SavedPlan.{SavedPlan}

@@ -1,29 +1,25 @@
 -- The checker accepts all messages of a command.
-use Rattle.std.proofs.Common.{All, ◌≡◌, ◌≢◌, ℕ, zero, suc, ◌+◌, ◌<◌, ◌≤◌, List, [], ◌∷◌, ◌++◌, append-nil, append_assoc, length, map, flat_map, Bool, true, false, cond, Option, Some, None, Result, Ok, Err, refl, sym, ap, ap₂, ◌∙◌, subst, ⊎_elim, ◌⊎◌, inl, inr, is_some, count_by, arith, nat_lt, slice_get}
+use Rattle.std.proofs.Common.{All, ◌≡◌, ℕ, ◌<◌, List, [], ◌∷◌, ◌++◌, append-nil, length, map, flat_map, Bool, true, false, cond, Option, None, Result, Ok, refl, sym, ap, ◌∙◌, subst, ⊎_elim, ◌⊎◌, inl, inr, is_some, count_by, arith, nat_lt}
 use Rattle.std.specs.Prelude.{◌&&◌, ◌||◌, not}
 use Rattle.std.specs.List.{enumerate_from, filter_map, list_any}
-use Rattle.std.proofs.Math.Bool.{and-false, or-true}
-use Rattle.std.proofs.lemmas.Bool.{cases_Bool, or_parts, or_left, or_right}
+use Rattle.std.proofs.lemmas.Bool.{or_parts}
 use Rattle.std.proofs.lemmas.List.{length-map}
-use Rattle.std.proofs.lemmas.List.Elements.{All-head}
-use Rattle.std.proofs.lemmas.List.Sums.{sum_by-append, sum_by-cons}
+use Rattle.std.proofs.lemmas.List.Sums.{sum_by-append}
 use Rattle.apply_model.specs.declared.details.note.Note.{Note}
 use Rattle.apply_model.specs.Plan.ResourceChange.{ResourceChange}
 use Rattle.apply_model.specs.Plan.SavedPlan.{SavedPlan}
 use Rattle.apply_model.specs.Script.OutcomeMap.{OutcomeMap}
 use Rattle.apply_hooks.specs.declared.rule.Rule.{Rule}
-use Rattle.stream_check.specs.declared.messages.action.Action.TheVariants.{Create, Update, Delete, Read, Refresh}
+use Rattle.stream_check.specs.declared.messages.action.Action.TheVariants.{Create, Update, Delete, Refresh}
 use Rattle.stream_check.specs.declared.messages.totals.Totals.{Totals}
 use Rattle.stream_check.specs.declared.rules.address_state.AddressState.{AddressState}
 use Rattle.stream_check.specs.declared.rules.fault.Fault.{Fault}
 use Rattle.stream_check.specs.declared.rules.fault.Fault.TheVariants.{Planned}
-use Rattle.stream_check.specs.declared.rules.pending.Pending.{Pending}
 use Rattle.stream_check.specs.declared.verdict.whole.Whole.{Whole}
 use Rattle.stream_check.specs.AddressState.{pending_at, state_of}
-use Rattle.stream_check.specs.Course.{max_overlap}
 use Rattle.stream_check.specs.Lines.{end_of}
 use Rattle.stream_check.specs.Message.{Message, diagnostic, version}
-use Rattle.stream_check.specs.Tally.{begins, begun_totals, completed_totals, completes, is_begin, is_completion, is_error, is_plan_summary, is_summary, line_of, no_totals, planned_totals, plans_create, plans_delete, plans_update}
+use Rattle.stream_check.specs.Tally.{begins, begun_totals, completed_totals, completes, is_error, is_plan_summary, is_summary, line_of, no_totals, planned_totals, plans_create, plans_delete, plans_update}
 use Rattle.stream_check.proofs.Counting.{same_counts}
 use Rattle.apply_events.specs.declared.event.Event.{Event}
 use Rattle.apply_events.specs.Step.{Work}
@@ -35,35 +31,34 @@ use Rattle.apply_text_terraform.specs.declared.command.Command.{Command}
 use Rattle.apply_text_terraform.specs.declared.command.Command.TheVariants as command_is
 use Rattle.apply_plan_terraform.specs.declared.plan_notes.PlanNote.{PlanNote}
 use Rattle.apply_planning.specs.PlanningWork.{planning_work}
-use Rattle.apply_planning_failures.specs.Planning.{planning_notes}
 use Rattle.apply_planning_failures.specs.PlansPart.{details_at}
 use Rattle.apply_run.specs.Read.{is_unfinished}
 use Rattle.apply_text_planning.specs.Notes.{unfinished_note}
 use Rattle.apply_text_planning.specs.Totals as plan_sums
 use Rattle.apply_command.specs.declared.head_line.HeadLine.{HeadLine}
 use Rattle.apply_command.specs.Head.{HeadInputs, head_lines, plan_lines}
-use Rattle.apply_command.specs.Notes.{applies, command_notes, has_failed, plan_notes, tells_plan, with_unfinished}
+use Rattle.apply_command.specs.Notes.{applies, command_notes, has_failed, plan_notes, tells_plan}
 use Rattle.apply_writer.specs.Stream.Terraform as form
 use Rattle.apply_writer.specs.Stream.Terraform.{StreamExtras, contains_error}
 use Rattle.laws_check.specs.Accepted.{totals_of_counts}
 use Rattle.laws_check.specs.Passing.{plain, with_all}
-use Rattle.laws_check.specs.Plans.{AreStepsOfOne, ChangesAreWhole, IsOrdinary, ProvisionsCreates, WarnsOfReads}
-use Rattle.laws_check.specs.ReadBackInForm.{diagnostic_read_back, event_read_back_in_form, planned_read_back_at}
+use Rattle.laws_check.specs.Plans.{ChangesAreWhole, IsOrdinary, ProvisionsCreates, WarnsOfReads}
+use Rattle.laws_check.specs.ReadBackInForm.{diagnostic_read_back, event_read_back_in_form}
 use Rattle.laws_check.specs.WholeSteps.{IsOfWholeSteps}
 use Rattle.laws_check.proofs.Errors.{IsPlanned, any_both, any_counted}
 use Rattle.laws_check.proofs.FormFailures.{diagnostics_keep, none_told}
-use Rattle.laws_check.proofs.FormParts.{none_counted, none_on, notes_are_errors, notes_err}
+use Rattle.laws_check.proofs.FormParts.{notes_are_errors, notes_err}
 use Rattle.laws_check.proofs.FormPendings.{held}
 use Rattle.laws_check.proofs.Parts.{each_weaker}
 use Rattle.laws_check.proofs.Tallies.{are_planned, is_within}
-use Rattle.laws_check.proofs.Turning.{followed_by, followed_by_both, joined}
+use Rattle.laws_check.proofs.Turning.{followed_by, joined}
 use Rattle.laws_check.proofs.Whole.{any_followed_by, counts_followed_by, length_followed_by}
 use Rattle.laws_command_check.specs.CommandAccepted.{IsApplyAnswered, IsCommandTaken, command_stream_read_back, whole_of_command}
-use Rattle.laws_command_check.specs.FewTold.{FewShareAnAddress, OnlyReadsWarn}
+use Rattle.laws_command_check.specs.FewTold.{FewShareAnAddress}
 use Rattle.laws_command_check.specs.HeadReadBack.{head_read_back, planning_read_back, totals_of_plan}
 use Rattle.laws_command_check.proofs.ApplyEnds.{later_is, taken_behind}
 use Rattle.laws_command_check.proofs.Behind.{HasRooms, begins_at}
-use Rattle.laws_command_check.proofs.CommandHead.{head_begins_none, head_behind, head_completes_none, head_has_no_error, head_is, head_taken, planning_closed, planning_held, planning_ran, plan_messages}
+use Rattle.laws_command_check.proofs.CommandHead.{head_begins_none, head_behind, head_completes_none, head_has_no_error, head_is, head_taken, planning_held, planning_ran, plan_messages}
 use Rattle.laws_command_check.proofs.HeadTaken.{forgetting}
 use Rattle.laws_command_check.proofs.PlanEnds.{all_noted, on_line, plan_closed, plan_ends}
 use Rattle.laws_command_check.proofs.Planning.{IsQuiet}

@@ -1,6 +1,6 @@
 -- The texts that a stream of a command contains can be read back.
-use Rattle.std.proofs.Common.{◌≡◌, ℕ, zero, suc, ◌+◌, ◌<◌, ◌≤◌, ◌^◌, List, [], ◌∷◌, ◌++◌, codes, length, map, flat_map, IsUtf8, Bool, true, false, cond, Option, Some, None, refl, sym, ap, ap₂, ◌∙◌, subst, is_some, count_by, arith, slice_get, option_map}
-use Rattle.std.specs.Prelude.{IfSome, ◌&&◌, not, option_and_then}
+use Rattle.std.proofs.Common.{◌≡◌, ℕ, suc, ◌<◌, ◌≤◌, ◌^◌, List, [], ◌∷◌, ◌++◌, codes, length, map, flat_map, IsUtf8, Bool, true, false, cond, Option, Some, None, refl, is_some, arith, slice_get}
+use Rattle.std.specs.Prelude.{IfSome, ◌&&◌, not}
 use Rattle.std.specs.List.{AllByRecursion, cons_option, enumerate_from, filter_map, list_any}
 use Rattle.std.specs.Option.{option_map_or}
 use Rattle.std.proofs.lemmas.List.FromFn.{length-enumerate_from}
@@ -13,18 +13,16 @@ use Rattle.apply_model.specs.declared.details.note.Note.{Note}
 use Rattle.apply_model.specs.declared.details.note.Severity.{Severity}
 use Rattle.apply_model.specs.declared.plan.step_kind.StepKind.TheVariants as kind
 use Rattle.apply_model.specs.Plan.ResourceChange.{ResourceChange}
-use Rattle.apply_model.specs.Plan.SavedPlan.{SavedPlan}
-use Rattle.apply_model.specs.Script.OutcomeMap.{OutcomeMap, outcome_of}
-use Rattle.stream_check.specs.Message.{Message, intent_named, planned}
+use Rattle.apply_model.specs.Script.OutcomeMap.{outcome_of}
+use Rattle.stream_check.specs.Message.{intent_named, planned}
 use Rattle.stream_check.specs.Tally.{plans_create, plans_delete, plans_update}
 use Rattle.apply_events.specs.declared.event.Event.{Event}
 use Rattle.apply_planning.specs.declared.told.Told.{Told}
-use Rattle.apply_planning_failures.specs.Planning.{Planning, failure_of, is_note, planning_notes}
+use Rattle.apply_planning_failures.specs.Planning.{failure_of, is_note, planning_notes}
 use Rattle.apply_planning_failures.specs.PlansPart.{details_at, is_kept}
 use Rattle.apply_plan_terraform.specs.declared.plan_notes.PlanNote.{PlanNote}
 use Rattle.apply_plan_terraform.specs.declared.plan_notes.PlanNote.TheVariants.{Partial}
 use Rattle.apply_plan_terraform.specs.Notes.{note_of_plan}
-use Rattle.apply_plan_terraform.specs.Outputs.{written_outputs}
 use Rattle.apply_run.specs.Bytes.{Inputs, IsRead}
 use Rattle.apply_run.specs.Read.{IsStated, is_unfinished}
 use Rattle.apply_text_planning.specs.Notes.{forgotten_at, forgotten_in, forgotten_line, forgotten_lines, forgotten_note_of, note_of_lines, targeting_note, unfinished_note}
@@ -33,17 +31,17 @@ use Rattle.apply_text_planning.specs.Words.{command_word}
 use Rattle.apply_text_terraform.specs.declared.command.Command.{Command}
 use Rattle.apply_command.specs.declared.head_line.HeadLine.{HeadLine}
 use Rattle.apply_command.specs.declared.head_line.HeadLine.TheVariants as line
-use Rattle.apply_command.specs.Head.{HeadInputs, head_lines, plan_lines, sums}
-use Rattle.apply_command.specs.Notes.{command_notes, is_partial, note_if, option_list, plan_notes, with_unfinished}
-use Rattle.apply_command.specs.Reading.{CommandInputs, applied_plan, applied_script, extras, failed, head_inputs, is_applied, kept_changes, lines, planning}
+use Rattle.apply_command.specs.Head.{head_lines, plan_lines, sums}
+use Rattle.apply_command.specs.Notes.{command_notes, is_partial, note_if, option_list, plan_notes}
+use Rattle.apply_command.specs.Reading.{CommandInputs, applied_plan, applied_script, extras, failed, head_inputs, is_applied, kept_changes, planning}
 use Rattle.apply_prior.specs.declared.planned_output.PlannedOutput.{PlannedOutput}
 use Rattle.apply_writer.specs.Stream.Terraform as form
 use Rattle.apply_writer.specs.Stream.Terraform.{StreamExtras, imported_in}
 use Rattle.laws_run.specs.Plans.{HasRelativeAddress}
 use Rattle.laws_check.specs.FormTexts.{HasFormTexts, HasVerbatimDiagnostics}
-use Rattle.laws_check.specs.Plans.{AreStepsOfOne, ChangesAreWhole, IsChange}
+use Rattle.laws_check.specs.Plans.{AreStepsOfOne, ChangesAreWhole}
 use Rattle.laws_check.specs.ReadBackInForm.{HasDetailTexts, HasNoteTexts}
-use Rattle.laws_check.specs.Texts.{HasChangeTexts, HasDiagTexts, HasTexts, IsSmall}
+use Rattle.laws_check.specs.Texts.{HasChangeTexts, HasTexts, IsSmall}
 use Rattle.laws_check.proofs.FormRead.{plan_details, script_extras}
 use Rattle.laws_check.proofs.FormStream.{by_number}
 use Rattle.laws_check.proofs.Given.{held_at}
@@ -51,7 +49,7 @@ use Rattle.laws_check.proofs.PlanTexts.{IsReadablePlan}
 use Rattle.laws_check.proofs.ReadNotes.{plan_note}
 use Rattle.laws_check.proofs.ReadOutputs.{outputs_read_back}
 use Rattle.laws_check.proofs.ReadTexts.{read_texts, read_verbatim}
-use Rattle.laws_check.proofs.ScriptTexts.{IsReadableScript, nothing_readable}
+use Rattle.laws_check.proofs.ScriptTexts.{nothing_readable}
 use Rattle.laws_check.proofs.SoundObjects.{all_both}
 use Rattle.laws_check.proofs.WhatWasRead.{the_plan, the_script}
 use Rattle.laws_command_check.specs.HeadReadBack.{command_read_back}

@@ -1,27 +1,25 @@
 -- The events of a planning, object by object: each object that is told starts once, and ends once or
 -- fails.
-use Rattle.std.proofs.Common.{◌≡◌, ◌≢◌, ℕ, zero, suc, ◌+◌, ◌-◌, ◌<◌, ◌≤◌, ◌^◌, ◌==◌, List, [], ◌∷◌, ◌++◌, append-nil, append_assoc, length, map, filter, Bool, true, false, cond, Option, Some, None, refl, sym, ap, ◌∙◌, subst, ⊎_elim, ◌⊎◌, inl, inr, is_some, arith, nat_lt, nat_le, slice_get, eq-eqb, ne_eqb}
+use Rattle.std.proofs.Common.{◌≡◌, ℕ, ◌+◌, ◌<◌, ◌≤◌, ◌^◌, ◌==◌, List, [], ◌∷◌, ◌++◌, append-nil, length, map, filter, Bool, true, false, cond, Option, Some, None, refl, sym, ap, ◌∙◌, subst, ⊎_elim, ◌⊎◌, inl, inr, is_some, arith, nat_lt, nat_le, slice_get, eq-eqb}
 use Rattle.std.specs.Prelude.{◌&&◌, option_map}
 use Rattle.std.specs.List.{AllByRecursion}
-use Rattle.std.specs.Option.{option_map_or}
-use Rattle.std.proofs.lemmas.Bool.{and_parts, cases_eq, leb-true}
+use Rattle.std.proofs.lemmas.Bool.{and_parts, leb-true}
 use Rattle.std.proofs.lemmas.Option.{slice_get-map, slice_get_within}
 use Rattle.std.proofs.lemmas.List.{length-map}
 use Rattle.apply_model.specs.declared.details.note.Note.{Note}
 use Rattle.apply_model.specs.declared.plan.mode.Mode.{Mode}
 use Rattle.apply_model.specs.declared.plan.mode.Mode.TheVariants.{Managed, DataSource}
 use Rattle.apply_model.specs.declared.plan.step_kind.StepKind.TheVariants as kind
-use Rattle.apply_model.specs.Plan.ResourceChange.{ResourceChange}
 use Rattle.stream_check.specs.declared.messages.action.Action.TheVariants.{Read}
 use Rattle.apply_events.specs.declared.event.Event.{Event}
 use Rattle.apply_events.specs.declared.lanes.lane_time.LaneTime.{LaneTime}
 use Rattle.apply_events.specs.declared.lanes.turn.StartedTurn.{StartedTurn}
 use Rattle.apply_events.specs.declared.what.What.{What}
-use Rattle.apply_events.specs.declared.what.What.TheVariants.{Start, Progress, Complete, Errored, ErrorNote, WarnNote}
+use Rattle.apply_events.specs.declared.what.What.TheVariants.{Progress}
 use Rattle.apply_events.specs.ChangeEvents.{in_turn}
 use Rattle.apply_events.specs.ProgressTimes.{progress_times}
 use Rattle.apply_events.specs.Provisions.{times_within}
-use Rattle.apply_events.specs.Step.{Step, Work, kinds_of, step_of, steps_of}
+use Rattle.apply_events.specs.Step.{Step, step_of, steps_of}
 use Rattle.apply_events.specs.StepEvents.{goes_on, step_events, step_time}
 use Rattle.apply_events.specs.Waits.Turn.{single}
 use Rattle.apply_planning.specs.declared.told.Told.{Told}
@@ -55,8 +53,11 @@ its_part told c one is es are =
     (λ (none : es ≡ []). inl none)
     (λ (some : (worker : ℕ) × (begin : ℕ) × (rest : List Event) × (es ≡ step_events worker (step_of (planning_work told) c 0 kind.Read) begin ++ rest) × (goes_on (step_of (planning_work told) c 0 kind.Read) ≡ true → rest ≡ []) × (goes_on (step_of (planning_work told) c 0 kind.Read) ≡ false → rest ≡ [])).
     let at : LaneTime = record { second = some.1; round = 0 } in
-    inr (record { turn = single c 0; lane = some.0; begin = at }, refl,
-    some.3 ∙ ap (λ (l : List Event). step_events some.0 (step_of (planning_work told) c 0 kind.Read) some.1 ++ l) (no_more (goes_on (step_of (planning_work told) c 0 kind.Read)) some.2 some.4 some.5) ∙ append-nil (step_events some.0 (step_of (planning_work told) c 0 kind.Read) some.1) ∙ of_step told c one is some.0 at))
+    inr (
+      record { turn = single c 0; lane = some.0; begin = at },
+      refl,
+      some.3 ∙ ap (λ (l : List Event). step_events some.0 (step_of (planning_work told) c 0 kind.Read) some.1 ++ l) (no_more (goes_on (step_of (planning_work told) c 0 kind.Read)) some.2 some.4 some.5) ∙ append-nil (step_events some.0 (step_of (planning_work told) c 0 kind.Read) some.1) ∙ of_step told c one is some.0 at,
+    ))
     (subst (λ (steps : List Step). AreOfSteps steps es) (one_step told c one is) are)
   where
     no_more : (b : Bool) (rest : List Event) → (b ≡ true → rest ≡ []) → (b ≡ false → rest ≡ []) → rest ≡ []

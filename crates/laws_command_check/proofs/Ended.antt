@@ -1,25 +1,23 @@
 -- The refreshes of a planning that did not fail have ended.
-use Rattle.std.proofs.Common.{◌≡◌, ◌≢◌, ℕ, zero, suc, ◌+◌, ◌<◌, ◌≤◌, ◌==◌, List, [], ◌∷◌, ◌++◌, length, map, filter, flat_map, Bool, true, false, cond, Option, Some, None, refl, sym, ap, ◌∙◌, subst, ⊎_elim, ◌⊎◌, inl, inr, is_some, arith, slice_get, option_map}
+use Rattle.std.proofs.Common.{◌≡◌, ℕ, ◌+◌, ◌<◌, ◌==◌, List, [], ◌∷◌, ◌++◌, length, map, filter, flat_map, Bool, true, false, cond, Option, Some, None, refl, sym, ap, ◌∙◌, subst, ⊎_elim, is_some, slice_get, option_map}
 use Rattle.std.specs.Prelude.{◌||◌}
 use Rattle.std.specs.List.{list_any}
 use Rattle.std.specs.Option.{option_map_or}
-use Rattle.std.proofs.lemmas.Bool.{cases_Bool, or_parts}
+use Rattle.std.proofs.lemmas.Bool.{or_parts}
 use Rattle.std.proofs.lemmas.Option.{slice_get-map, slice_get_within}
 use Rattle.apply_model.specs.declared.details.note.Note.{Note}
 use Rattle.apply_model.specs.declared.details.note.Severity.{Severity}
 use Rattle.apply_model.specs.declared.details.note.Severity.TheVariants.{Error, Warning}
-use Rattle.apply_model.specs.declared.plan.mode.Mode.{Mode}
-use Rattle.apply_model.specs.declared.plan.mode.Mode.TheVariants.{Managed, DataSource}
+use Rattle.apply_model.specs.declared.plan.mode.Mode.TheVariants.{Managed}
 use Rattle.apply_events.specs.declared.event.Event.{Event}
 use Rattle.apply_events.specs.declared.lanes.turn.StartedTurn.{StartedTurn}
-use Rattle.apply_events.specs.declared.what.What.{What}
-use Rattle.apply_events.specs.declared.what.What.TheVariants.{Errored, ErrorNote, Progress}
+use Rattle.apply_events.specs.declared.what.What.TheVariants.{Progress}
 use Rattle.apply_events.specs.Provisions.{times_within}
 use Rattle.apply_events.specs.Step.{steps_of}
 use Rattle.apply_planning.specs.declared.told.Told.{Told}
 use Rattle.apply_planning.specs.PlanningWork.{change_of, is_error, is_severe, planning_work}
-use Rattle.apply_planning.specs.ToldEvents.{ends, events_of, running, told_event}
-use Rattle.apply_planning_failures.specs.Planning.{Planning, failure_of, is_note, planning_notes}
+use Rattle.apply_planning.specs.ToldEvents.{ends, events_of, told_event}
+use Rattle.apply_planning_failures.specs.Planning.{failure_of, is_note, planning_notes}
 use Rattle.apply_writer.specs.Stream.Terraform as form
 use Rattle.laws_check.specs.WholeSteps.{AreOfSteps, events_of_change}
 use Rattle.laws_check.proofs.Errors.{any_both}

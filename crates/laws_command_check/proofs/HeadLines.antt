@@ -1,5 +1,5 @@
 -- What a checker reads back from the lines before an apply.
-use Rattle.std.proofs.Common.{◌≡◌, ℕ, ◌+◌, ◌<◌, ◌≤◌, ◌^◌, ◌==◌, List, [], ◌∷◌, ◌++◌, codes, cond, decimal, flat_map, length, map, IsUtf8, Bool, true, false, Option, Some, None, Ok, inl, inr, refl, ap, subst, slice_get, suc, arith}
+use Rattle.std.proofs.Common.{◌≡◌, ℕ, ◌+◌, ◌<◌, ◌≤◌, ◌^◌, ◌==◌, List, [], ◌∷◌, ◌++◌, codes, cond, decimal, length, map, IsUtf8, Bool, true, false, Option, Some, None, Ok, inl, inr, refl, slice_get, arith}
 use Rattle.std.specs.Prelude.{IfSome, is_some}
 use Rattle.std.specs.List.{AllByRecursion}
 use Rattle.std.specs.Option.{option_map_or}
@@ -16,14 +16,13 @@ use Rattle.apply_model.specs.declared.plan.mode.Mode.{Mode}
 use Rattle.apply_model.specs.declared.plan.mode.Mode.TheVariants.{Managed, DataSource}
 use Rattle.apply_model.specs.declared.plan.step_kind.StepKind.{StepKind}
 use Rattle.apply_model.specs.declared.plan.step_kind.StepKind.TheVariants as kind
-use Rattle.apply_model.specs.declared.script.outcome.Outcome.{Outcome}
 use Rattle.apply_model.specs.Plan.ResourceChange.{ResourceChange}
 use Rattle.apply_model.specs.Script.Outcome.{default_outcome}
 use Rattle.stream_check.specs.declared.messages.action.Action.TheVariants.{Read, Refresh}
 use Rattle.stream_check.specs.declared.messages.timed_stage.TimedStage.TheVariants as stage
 use Rattle.stream_check.specs.declared.rules.fault.Fault.TheVariants.{NotJson}
 use Rattle.stream_check.specs.Lines.{tree_message}
-use Rattle.stream_check.specs.Message.{Message, intent_named, other, outputs, plan_summary, planned, refresh_of, step, summary_of, typed_message, version}
+use Rattle.stream_check.specs.Message.{Message, intent_named, other, outputs, plan_summary, planned, refresh_of, step, summary_of, typed_message}
 use Rattle.stream_check.specs.Results.{◌>>=◌, or_refuse}
 use Rattle.apply_events.specs.declared.event.Event.{Event}
 use Rattle.apply_events.specs.declared.what.What.{What}
@@ -36,7 +35,6 @@ use Rattle.apply_planning.specs.declared.told.Told.{Told}
 use Rattle.apply_text.specs.Lines.{message_object, typed}
 use Rattle.apply_text.specs.Message.{id_suffix}
 use Rattle.apply_text.specs.Objects.{key_data, resource_object as plain_resource}
-use Rattle.apply_text.specs.Words.{action_word}
 use Rattle.apply_text_terraform.specs.Details.{planned_word}
 use Rattle.apply_text_terraform.specs.Lines.{message_line}
 use Rattle.apply_text_terraform.specs.Message.{planned_message}
@@ -45,13 +43,12 @@ use Rattle.apply_text_terraform.specs.UtcTimestamp.{precise_timestamp_text}
 use Rattle.apply_text_planning.specs.declared.plan_totals.PlanTotals.{PlanTotals}
 use Rattle.apply_text_planning.specs.Lines.{command_text}
 use Rattle.apply_text_planning.specs.Message.{drift_message, plan_outputs_message, plan_summary_message, read_complete_message, read_progress_message, read_start_message, refresh_complete_message, refresh_start_message, to_import_text}
-use Rattle.apply_text_planning.specs.Objects.{drift_object, output_members, output_object, plan_changes_object, refresh_object}
+use Rattle.apply_text_planning.specs.Objects.{drift_object, output_members, plan_changes_object, refresh_object}
 use Rattle.apply_text_planning.specs.Words.{bookkeeping_word, command_word, drift_word, output_word}
 use Rattle.apply_command.specs.declared.head_line.HeadLine.{HeadLine}
 use Rattle.apply_command.specs.declared.head_line.HeadLine.TheVariants as line
-use Rattle.apply_command.specs.Head.{HeadInputs, drift_at, event_text, line_text, planned_at, told_text}
+use Rattle.apply_command.specs.Head.{HeadInputs, line_text, told_text}
 use Rattle.laws_check.specs.Objects.{object_at}
-use Rattle.laws_check.specs.Plans.{IsChange}
 use Rattle.laws_check.specs.ReadBackInForm.{AreReadBackAs, HasDetailTexts, HasPreviousTexts, IsReadBackAs}
 use Rattle.laws_check.specs.Sound.{AreSoundMembers, IsSound}
 use Rattle.laws_check.specs.Texts.{HasChangeTexts, HasOutcomeTexts, IsSmall}
@@ -59,13 +56,13 @@ use Rattle.laws_check.proofs.BareTexts.{decimal_utf8}
 use Rattle.laws_check.proofs.FormEnds.{version_line_read_back}
 use Rattle.laws_check.proofs.FormLines.{event_read}
 use Rattle.laws_check.proofs.FormObjects.{key_of, resource_moved}
-use Rattle.laws_check.proofs.FormPlanned.{key_of_previous, line_is_read_back, message_sound, previous_read, previous_sound, previous_tree}
+use Rattle.laws_check.proofs.FormPlanned.{key_of_previous, line_is_read_back, message_sound, previous_read, previous_sound}
 use Rattle.laws_check.proofs.FormReadBack.{event_is_read_back, line_reads, says}
 use Rattle.laws_check.proofs.Given.{first_of_two, held_at}
 use Rattle.laws_check.proofs.LinesAccepted.{all_read_back_both}
-use Rattle.laws_check.proofs.SoundParts.{action_utf8, note_utf8, resource_sound, three, two}
+use Rattle.laws_check.proofs.SoundParts.{action_utf8, note_utf8, resource_sound, two}
 use Rattle.laws_check.proofs.Sounds.{fine_utf8, number_utf8}
-use Rattle.laws_command_check.specs.HeadReadBack.{command_read_back, drift_read_back_at, head_read_back, line_read_back, planned_read_back_at, planning_read_back, told_read_back, totals_of_plan}
+use Rattle.laws_command_check.specs.HeadReadBack.{command_read_back, head_read_back, line_read_back, told_read_back, totals_of_plan}
 use Rattle.laws_command_check.specs.HeadTexts.{AreSmallTotals, HasDriftTexts, HasHeadTexts, HasToldTexts, IsSmallLine}
 
 one_line : (text : List ℕ) (message : Message) → IsReadBackAs text message → AreReadBackAs (text ∷ []) (message ∷ [])

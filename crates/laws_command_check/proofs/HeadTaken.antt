@@ -1,7 +1,7 @@
 -- The checker accepts the messages before an apply, and passes over them then.
-use Rattle.std.proofs.Common.{◌≡◌, ◌≢◌, ℕ, zero, suc, ◌+◌, ◌<◌, ◌≤◌, List, [], ◌∷◌, ◌++◌, codes, length, map, flat_map, Bool, true, false, cond, Option, Some, None, Result, Ok, Err, refl, sym, ap, ap₂, ◌∙◌, subst, ⊎_elim, ◌⊎◌, inl, inr, is_some, count_by, option_map, arith, bytes_eq, eq-eqb, slice_get}
-use Rattle.std.specs.Prelude.{◌&&◌, ◌||◌, ◌==◌, option_and_then}
-use Rattle.std.specs.List.{cons_option, enumerate_from, filter_map, list_any, sum_by}
+use Rattle.std.proofs.Common.{◌≡◌, ℕ, zero, suc, ◌+◌, List, [], ◌∷◌, ◌++◌, codes, length, map, flat_map, Bool, true, false, cond, Option, Some, None, Result, Ok, Err, refl, sym, ap, ap₂, ◌∙◌, subst, ⊎_elim, inl, inr, is_some, count_by, option_map, arith, bytes_eq, eq-eqb, slice_get}
+use Rattle.std.specs.Prelude.{◌&&◌, ◌==◌, option_and_then}
+use Rattle.std.specs.List.{cons_option, enumerate_from, filter_map}
 use Rattle.std.specs.Option.{option_map_or, option_or}
 use Rattle.std.proofs.lemmas.List.Sums.{sum_by-append, sum_by-cons}
 use Rattle.std.proofs.lemmas.Option.{slice_get-map}
@@ -28,7 +28,7 @@ use Rattle.stream_check.specs.Intents.{creates}
 use Rattle.stream_check.specs.Lines.{next, plan_summed}
 use Rattle.stream_check.specs.Message.{Message, version, step, provision, planned, plan_summary, summary, diagnostic, outputs, other, foreign, intent_named}
 use Rattle.stream_check.specs.Results.{◌>>=◌}
-use Rattle.stream_check.specs.Tally.{begun_totals, failures_left, is_plan_summary, is_planned, is_summary, is_version, line_of, planned_totals, plans_create, plans_delete, plans_update, same_totals}
+use Rattle.stream_check.specs.Tally.{begun_totals, failures_left, is_plan_summary, is_summary, is_version, line_of, planned_totals, plans_create, plans_delete, plans_update, same_totals}
 use Rattle.stream_check.specs.Unbegun.{one_begun, one_planned, starts_create, unbegun_at}
 use Rattle.apply_events.specs.declared.event.Event.{Event}
 use Rattle.apply_events.specs.declared.what.What.{What}
@@ -42,13 +42,12 @@ use Rattle.apply_text_terraform.specs.Details.{planned_word}
 use Rattle.laws_check.specs.Passing.{with_all}
 use Rattle.laws_check.specs.Plans.{AreStepsOfOne}
 use Rattle.laws_check.specs.ReadBackInForm.{planned_read_back, planned_read_back_at}
-use Rattle.laws_check.proofs.FormMatches.{AreAlike}
 use Rattle.laws_check.proofs.FormPendings.{IsSame, Matches}
 use Rattle.laws_check.proofs.Standings.{next_after}
-use Rattle.laws_check.proofs.Turning.{followed_by, followed_by_both, joined}
+use Rattle.laws_check.proofs.Turning.{followed_by, followed_by_both}
 use Rattle.laws_command_check.specs.HeadReadBack.{command_read_back, planning_read_back, told_read_back}
 use Rattle.laws_command_check.proofs.Behind.{Ignores, IsBehind, IsPassed, SameFailures, fewer_at, few_held, more_planned, one_less, planned_before}
-use Rattle.laws_command_check.proofs.Planning.{IsQuiet, Stands}
+use Rattle.laws_command_check.proofs.Planning.{Stands}
 
 abbrev fine : {A : Type 0} → A → Result A Fault
 fine x = Ok x

@@ -1,33 +1,25 @@
 -- The end of a stream of a plan, or of an apply whose planning failed: diagnostics, and nothing else.
-use Rattle.std.proofs.Common.{◌≡◌, ◌≢◌, ℕ, ◌+◌, ◌<◌, ◌≤◌, List, [], ◌∷◌, ◌++◌, length, map, Bool, true, false, cond, Option, Some, None, Result, Ok, Err, refl, sym, ap, ap₂, ◌∙◌, subst, ⊎_elim, ◌⊎◌, is_some, count_by, arith, nat_lt, lt-ltb}
-use Rattle.std.specs.Prelude.{◌&&◌, ◌||◌, not}
+use Rattle.std.proofs.Common.{◌≡◌, ℕ, ◌+◌, List, [], ◌∷◌, length, Bool, true, false, cond, Option, Some, None, Result, Ok, refl, sym, ap, ◌∙◌, subst, ⊎_elim, ◌⊎◌, is_some, count_by, arith, nat_lt, lt-ltb}
+use Rattle.std.specs.Prelude.{◌&&◌, not}
 use Rattle.std.specs.List.{list_any}
-use Rattle.std.specs.Option.{option_map_or}
 use Rattle.std.proofs.Math.Bool.{and-false}
 use Rattle.std.proofs.lemmas.List.Sums.{sum_by-cons}
-use Rattle.apply_model.specs.declared.details.note.Note.{Note}
-use Rattle.stream_check.specs.declared.messages.action.Action.{Action}
-use Rattle.stream_check.specs.declared.messages.action.Action.TheVariants.{Create, Update, Delete, Read, Refresh}
+use Rattle.stream_check.specs.declared.messages.action.Action.TheVariants.{Refresh}
 use Rattle.stream_check.specs.declared.messages.totals.Totals.{Totals}
 use Rattle.stream_check.specs.declared.rules.address_state.AddressState.{AddressState}
 use Rattle.stream_check.specs.declared.rules.fault.Fault.{Fault}
 use Rattle.stream_check.specs.declared.rules.pending.Pending.{Pending}
-use Rattle.stream_check.specs.declared.verdict.whole.Whole.{Whole}
 use Rattle.stream_check.specs.AddressState.{failures_cleared, pending_at, state_of}
-use Rattle.stream_check.specs.Lines.{apply_end, end_of, is_plan_stream, leaves_planned, next, whole_of, whole_plan_of}
+use Rattle.stream_check.specs.Lines.{apply_end, end_of, is_plan_stream, leaves_planned, next, whole_plan_of}
 use Rattle.stream_check.specs.Message.{Message, diagnostic}
 use Rattle.stream_check.specs.Open.{any_open, refreshes_matter, stands_open}
 use Rattle.stream_check.specs.Results.{◌>>=◌}
-use Rattle.stream_check.specs.Tally.{begins, begun_totals, completed_totals, completes, failures_stand, is_error, is_plan_summary, is_summary, line_of, no_totals, planned_totals, same_totals}
-use Rattle.stream_check.specs.Unbegun.{any_unbegun}
-use Rattle.stream_check.proofs.Counting.{same_counts}
+use Rattle.stream_check.specs.Tally.{begun_totals, completed_totals, failures_stand, is_error, is_plan_summary, is_summary, line_of, no_totals, planned_totals, same_totals}
 use Rattle.stream_check.proofs.OpenSteps.{not_any_open}
 use Rattle.laws_check.specs.Passing.{plain, with_all}
-use Rattle.laws_check.specs.ReadBackInForm.{diagnostic_read_back}
 use Rattle.laws_check.proofs.FormFailures.{AreDiagnostics}
-use Rattle.laws_check.proofs.FormParts.{none_counted, none_on}
 use Rattle.laws_check.proofs.Moves.{by_address}
-use Rattle.laws_check.proofs.Standings.{diagnostic_elsewhere, diagnostic_there, explained_keeps, next_after, provisioner_verbatim}
+use Rattle.laws_check.proofs.Standings.{diagnostic_elsewhere, diagnostic_there, next_after}
 use Rattle.laws_check.proofs.Turning.{followed_by}
 use Rattle.laws_command_check.specs.CommandAccepted.{whole_of_command}
 use Rattle.laws_command_check.proofs.HeadTaken.{IsGoing}

@@ -1,11 +1,11 @@
 -- The checker accepts the messages of a planning. What it holds open then is what the told objects
 -- have under way.
-use Rattle.std.proofs.Common.{◌≡◌, ◌≢◌, ℕ, zero, suc, ◌+◌, ◌-◌, ◌<◌, ◌≤◌, ◌==◌, List, [], ◌∷◌, ◌++◌, length, map, filter, flat_map, Bool, true, false, cond, Option, Some, None, Result, Ok, Err, refl, sym, ap, ap₂, ◌∙◌, subst, ⊎_elim, ◌⊎◌, inl, inr, is_some, count_by, nat_lt, arith, bytes_eq, slice_get, eq-eqb, ne_eqb}
+use Rattle.std.proofs.Common.{◌≡◌, ◌≢◌, ℕ, zero, suc, ◌+◌, ◌<◌, ◌≤◌, ◌==◌, List, [], ◌∷◌, ◌++◌, length, flat_map, Bool, true, false, cond, Option, Some, None, Result, Ok, Err, refl, sym, ap, ap₂, ◌∙◌, subst, ⊎_elim, is_some, count_by, arith, bytes_eq, slice_get, eq-eqb, ne_eqb}
 use Rattle.std.specs.Prelude.{◌&&◌}
 use Rattle.std.specs.List.{range_with_len}
 use Rattle.std.specs.Option.{option_map_or}
 use Rattle.std.proofs.Math.Bool.{and-false}
-use Rattle.std.proofs.lemmas.Bool.{cases_Bool, cases_eq, cases_lt, lt-ltb}
+use Rattle.std.proofs.lemmas.Bool.{cases_eq, lt-ltb}
 use Rattle.std.proofs.lemmas.List.Sums.{sum_by-cons}
 use Rattle.std.proofs.lemmas.Option.{same_Some, slice_get_within}
 use Rattle.apply_model.specs.declared.plan.mode.Mode.{Mode}
@@ -24,7 +24,6 @@ use Rattle.stream_check.specs.Course.{after, begun, max_overlap, may_overlap}
 use Rattle.stream_check.specs.Lines.{next}
 use Rattle.stream_check.specs.Message.{Message, step, version}
 use Rattle.stream_check.specs.Results.{◌>>=◌}
-use Rattle.stream_check.specs.Words.{same_action}
 use Rattle.apply_events.specs.declared.event.Event.{Event}
 use Rattle.apply_events.specs.declared.what.What.{What}
 use Rattle.apply_events.specs.declared.what.What.TheVariants.{Start, Progress, Complete, Errored, ErrorNote, WarnNote, Halted, ProvisionStart, ProvisionOutput, ProvisionComplete, ProvisionErrored}
@@ -374,15 +373,15 @@ module _ (told : List Told) where
         let ys = flat_map (planning_read_back told) es in
         let one = goes opens ms e.change t found.1 stands t.object.mode refl e.what course.0 in
         let rest = all_run After es one.then_open (followed_by ms xs) one.stands known.1 (λ c u is. ⊎_elim
-            (λ (here : c ≡ e.change).
-            let same : t ≡ u = same_Some t u (sym found.1 ∙ ap (slice_get told) (sym here) ∙ is) in
-            subst (λ (x : Told). Course (After x) x.object.mode (one.then_open c) (events_of_change c es)) same
-            (subst (λ (x : ℕ). Course (After t) t.object.mode (one.then_open x) (events_of_change x es)) (sym here)
-            (subst (λ (o : Option ℕ). Course (After t) t.object.mode o (events_of_change e.change es)) (sym one.here) course.1)))
-            (λ (elsewhere : c ≢ e.change).
-            let later : events_of_change c (e ∷ es) ≡ events_of_change c es = ap (λ (b : Bool). cond b (e ∷ events_of_change c es) (events_of_change c es)) (ne_eqb e.change c (λ f. elsewhere (sym f))) in
-            subst (λ (o : Option ℕ). Course (After u) u.object.mode o (events_of_change c es)) (sym (one.others c elsewhere)) (subst (Course (After u) u.object.mode (opens c)) later (courses c u is)))
-            (cases_eq c e.change)) in
+        (λ (here : c ≡ e.change).
+        let same : t ≡ u = same_Some t u (sym found.1 ∙ ap (slice_get told) (sym here) ∙ is) in
+        subst (λ (x : Told). Course (After x) x.object.mode (one.then_open c) (events_of_change c es)) same
+        (subst (λ (x : ℕ). Course (After t) t.object.mode (one.then_open x) (events_of_change x es)) (sym here)
+        (subst (λ (o : Option ℕ). Course (After t) t.object.mode o (events_of_change e.change es)) (sym one.here) course.1)))
+        (λ (elsewhere : c ≢ e.change).
+        let later : events_of_change c (e ∷ es) ≡ events_of_change c es = ap (λ (b : Bool). cond b (e ∷ events_of_change c es) (events_of_change c es)) (ne_eqb e.change c (λ f. elsewhere (sym f))) in
+        subst (λ (o : Option ℕ). Course (After u) u.object.mode o (events_of_change c es)) (sym (one.others c elsewhere)) (subst (Course (After u) u.object.mode (opens c)) later (courses c u is)))
+        (cases_eq c e.change)) in
         let same : followed_by (followed_by ms xs) ys ≡ followed_by ms (xs ++ ys) = followed_by_both ms xs ys in
         subst (λ (l : List Message). Ran After ms (l ++ ys)) (sym (ap (λ (o : Option Told). option_map_or (λ (x : Told). told_read_back x.object.mode x.object.address e.what) o []) found.1)) (
           joined ms (followed_by ms xs) xs ys one.accepted ∙ rest.0 ∙ ap (λ (l : List Message). fine l) same,

@@ -1,12 +1,10 @@
 -- What a checker reads back from the stream of a command, and its verdict on it.
-use Rattle.std.specs.Prelude.{◌≡◌, ◌⊎◌, ◌++◌, ◌&&◌, ℕ, List, [], Bool, true, false, flat_map, if◌then◌else◌, length, map, Option, None, Result, Ok, Err}
-use Rattle.stream_lines.specs.Cut.{cut_lines}
+use Rattle.std.specs.Prelude.{◌≡◌, ◌⊎◌, ◌++◌, ◌&&◌, ℕ, List, [], Bool, true, false, flat_map, if◌then◌else◌, length, map, None, Result, Ok, Err}
 use Rattle.stream_check.specs.declared.messages.totals.Totals.{Totals}
 use Rattle.stream_check.specs.declared.rules.fault.Fault.{Fault}
 use Rattle.stream_check.specs.declared.rules.fault.Fault.TheVariants.{Planned}
-use Rattle.stream_check.specs.declared.verdict.finding.Finding.{Finding}
 use Rattle.stream_check.specs.declared.verdict.whole.Whole.{Whole}
-use Rattle.stream_check.specs.Lines.{end_of, verdict_of}
+use Rattle.stream_check.specs.Lines.{end_of}
 use Rattle.stream_check.specs.Message.{Message}
 use Rattle.stream_check.specs.Tally.{no_totals}
 use Rattle.apply_model.specs.Plan.SavedPlan.{SavedPlan}
@@ -21,7 +19,7 @@ use Rattle.apply_writer.specs.Stream.Terraform.{StreamExtras, contains_error}
 use Rattle.laws_check.specs.Accepted.{totals_of_counts}
 use Rattle.laws_check.specs.Passing.{plain, with_all}
 use Rattle.laws_check.specs.ReadBackInForm.{diagnostic_read_back, end_read_back, event_read_back_in_form}
-use Rattle.laws_check.specs.Unstarted.{EachStarts, FindsUnstarted, NeverStarts}
+use Rattle.laws_check.specs.Unstarted.{EachStarts, NeverStarts}
 use Rattle.laws_command_check.specs.HeadReadBack.{head_read_back, totals_of_plan}
 
 -- all messages of the stream: those before the apply, those of events and of diagnostics of no step,

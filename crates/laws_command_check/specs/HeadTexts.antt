@@ -1,8 +1,7 @@
 -- The texts of inputs that the lines before an apply contain.
-use Rattle.std.specs.Prelude.{ℕ, ◌<◌, ◌^◌, List, IfSome, IsUtf8, ⊤}
+use Rattle.std.specs.Prelude.{ℕ, ◌<◌, ◌^◌, IfSome, IsUtf8, ⊤}
 use Rattle.std.specs.List.{AllByRecursion}
 use Rattle.apply_model.specs.Plan.ResourceChange.{ResourceChange}
-use Rattle.apply_events.specs.declared.event.Event.{Event}
 use Rattle.apply_prior.specs.declared.drift.Drift.{Drift}
 use Rattle.apply_prior.specs.declared.planned_output.PlannedOutput.{PlannedOutput}
 use Rattle.apply_planning.specs.declared.told.Told.{Told}
