@@ -43,8 +43,8 @@ pub mod FormWhole
 pub mod Given
 pub mod ReadBackEvents
 pub mod JsonTexts
-mod VerbatimDiagnostics
-mod VerbatimValues
+pub mod VerbatimDiagnostics
+pub mod VerbatimValues
 mod LeftOut
 pub mod Legible
 pub mod LinesAccepted
@@ -55,16 +55,16 @@ pub mod NumberTexts
 pub mod ObjectsBack
 pub mod ReadBackObjects
 pub mod Ordinary
-mod OwnMembers
+pub mod OwnMembers
 pub mod OwnTexts
 pub mod Parts
 pub mod Phases
 pub mod PlainNumbers
 pub mod PlanTexts
-mod PreviousTexts
+pub mod PreviousTexts
 pub mod ReadBack
 pub mod ReadBytes
-mod ReadDetails
+pub mod ReadDetails
 pub mod ReadNotes
 pub mod ReadNumbers
 pub mod ReadOutputs

@@ -59,7 +59,7 @@ whole_sound (unsigned n) h = of_test (nat_lt n (2 ^ 63))
 whole_sound (negative z) h = signed_sound z h
 whole_sound (float x) h = tt
 
-key_sound : (located : Option Data) → IfSome located IsLegible → IfSome (key_of located) (λ key. IsSound (key_data key))
+pub key_sound : (located : Option Data) → IfSome located IsLegible → IfSome (key_of located) (λ key. IsSound (key_data key))
 key_sound None h = tt
 key_sound (Some null) h = tt
 key_sound (Some (boolean b)) h = tt
@@ -101,7 +101,7 @@ element_texts d h =
 -- ---- parts of an address and of a type
 
 -- the rest after a module's address and a dot
-joined_utf8 : (module_address relative address : List ℕ) → IsUtf8 address → IsJoined module_address relative address → IsUtf8 relative
+pub joined_utf8 : (module_address relative address : List ℕ) → IsUtf8 address → IsJoined module_address relative address → IsUtf8 relative
 joined_utf8 [] relative address h is = subst IsUtf8 is h
 joined_utf8 (byte ∷ bytes) relative address h is = after (byte ∷ bytes) 46 relative (subst IsUtf8 is h) (omega arith)
 

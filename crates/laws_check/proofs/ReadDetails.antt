@@ -50,7 +50,7 @@ planned_id_utf8 (Some change) h = of_test (hides_id (member_of (codes "after_sen
 previous_texts : (d : Data) → IsLegible d → IfSome (previous_of d) HasPreviousTexts
 previous_texts d h = next_of IsUtf8 HasPreviousTexts (non_empty_text_of (codes "previous_address") d) previous_at (non_empty_utf8 (codes "previous_address") d h) previous_has_texts
 
-element_texts : (d : Data) → IsLegible d → HasDetailTexts (element_details d)
+pub element_texts : (d : Data) → IsLegible d → HasDetailTexts (element_details d)
 element_texts d h =
     let change = member_legible (codes "change") d h in
     let located = member_of (codes "change") d in
@@ -67,7 +67,7 @@ each_element : (ds : List Data) → AllByRecursion IsLegible ds → AllByRecursi
 each_element [] h = tt
 each_element (d ∷ ds) h = (element_texts d h.0, each_element ds h.1)
 
-elements_legible : (located : Option Items) → IfSome located AreLegible → AllByRecursion IsLegible (option_map_or list_of located [])
+pub elements_legible : (located : Option Items) → IfSome located AreLegible → AllByRecursion IsLegible (option_map_or list_of located [])
 elements_legible None h = tt
 elements_legible (Some ds) h = list_legible ds h
 

@@ -60,7 +60,7 @@ HasEndingTexts (Failed diag) = HasStatedDiagnostic diag
 HasEndingTexts (Warned diag) = HasStatedDiagnostic diag
 
 -- where the provider fails
-abbrev MayHaveFailure : Option Failure → Type 0
+abbrev pub MayHaveFailure : Option Failure → Type 0
 MayHaveFailure failure = IfSome failure (λ failure. HasStatedDiagnostic failure.diag)
 
 failure_texts : (d : Data) → IsHeld d → IfSome (failure_from d) (λ failure. HasStatedDiagnostic failure.diag)
@@ -69,7 +69,7 @@ failure_texts d h =
     next_of HasStatedDiagnostic Q (diag_from d) _ (diag_texts d h)
     (λ diag texts. next_of (λ _. Unit {0}) Q (only_warns_or_not (member_of (codes "severity") d)) _ (any_given (only_warns_or_not (member_of (codes "severity") d))) (λ only_warns u. texts))
 
-some_failure : (located : Option Data) → IfSome located IsHeld → IfSome (failure_or_none located) MayHaveFailure
+pub some_failure : (located : Option Data) → IfSome located IsHeld → IfSome (failure_or_none located) MayHaveFailure
 some_failure None h = tt
 some_failure (Some d) h = mapped (λ (failure : Failure). HasStatedDiagnostic failure.diag) MayHaveFailure Some (failure_from d) (λ failure texts. texts) (failure_texts d h)
 

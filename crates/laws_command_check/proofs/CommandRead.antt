@@ -1,5 +1,5 @@
 -- What a command read may be planned and applied, and its lines have small numbers.
-use Rattle.std.proofs.Common.{◌≡◌, ℕ, ◌≤◌, List, [], length, Bool, true, false, cond, Option, Some, None, sym, subst, slice_get, option_map, arith}
+use Rattle.std.proofs.Common.{◌≡◌, IsUtf8, ℕ, ◌≤◌, List, [], length, Bool, true, false, cond, Option, Some, None, sym, subst, slice_get, option_map, arith}
 use Rattle.std.specs.List.{AllByRecursion}
 use Rattle.std.specs.Option.{option_map_or}
 use Rattle.std.proofs.lemmas.Option.{slice_get-map}
@@ -8,11 +8,12 @@ use Rattle.apply_model.specs.Plan.ResourceChange.{ResourceChange}
 use Rattle.apply_events.specs.Laws.{IsWithinLimits}
 use Rattle.apply_events.specs.Waits.Merging.{time_line}
 use Rattle.apply_planning.specs.declared.told.Told.{Told}
+use Rattle.apply_prior.specs.declared.planned_output.PlannedOutput.{PlannedOutput}
 use Rattle.apply_planning.specs.PlanningWork.{change_of, planning_work}
 use Rattle.apply_run.specs.Bytes.{Inputs, IsRead}
 use Rattle.apply_run.specs.Read.{IsStated}
 use Rattle.apply_text_terraform.specs.declared.command.Command.{Command}
-use Rattle.apply_command.specs.Reading.{CommandInputs, applied_plan, applied_script, is_applied, kept_changes, kept_drifts, lines}
+use Rattle.apply_command.specs.Reading.{AreStated, CommandInputs, applied_plan, applied_script, is_applied, kept_changes, kept_drifts, lines, rules_of}
 use Rattle.laws_run.specs.Plans.{NamesEachObjectOnce}
 use Rattle.laws_run.specs.WaitingSteps.{HasFewSteps}
 use Rattle.laws_check.specs.Plans.{ChangesAreWhole}
@@ -22,9 +23,11 @@ use Rattle.laws_check.proofs.PlanTexts.{IsReadable, IsReadablePlan}
 use Rattle.laws_check.proofs.ScriptTexts.{nothing_readable}
 use Rattle.laws_check.proofs.WhatWasRead.{limits_of, provisions, the_plan, the_script, warnings}
 use Rattle.laws_command_check.specs.Commands.{IsPlannedSo, MayBePlanned, is_plan_told}
-use Rattle.laws_command_check.specs.HeadTexts.{HasToldTexts, IsSmallLine}
+use Rattle.laws_command_check.specs.HeadTexts.{HasDriftTexts, HasPlanningTexts, HasToldTexts, IsSmallLine}
 use Rattle.laws_command_check.proofs.CommandTexts.{small_lines, small_plan}
 use Rattle.laws_command_check.proofs.Courses.{all_small}
+use Rattle.laws_command_check.proofs.PriorTexts.{prior_has_texts}
+use Rattle.laws_command_check.proofs.ToldTexts.{told_have_texts}
 
 -- each object that is told is a change of one step
 pub told_in_one_step : (told : List Told) → HasFewSteps (planning_work told)
@@ -63,8 +66,18 @@ module _ (given : Inputs) (read : CommandInputs) (is : IsStated given.plan given
       of_applied true = limits_of (record { plan = read.stated.plan; script = read.stated.script; hooks = hooks }) readable (the_script given read.stated.plan read.stated.script was_read)
       of_applied false = limits_of (record { plan = record { version = read.stated.plan.version; changes = [] }; script = []; hooks = hooks }) (record { version = readable.version; changes = tt; few = omega arith }) nothing_readable
 
-  pub command_lines_small : (command : Command) (lanes : ℕ) → IsOfWholeSteps (planning_work read.told) (time_line (planning_work read.told) lanes) → AllByRecursion IsSmallLine (lines command lanes read)
-  command_lines_small command lanes steps =
+  pub command_lines_small : (command : Command) (lanes : ℕ) → HasPlanningTexts read → IsOfWholeSteps (planning_work read.told) (time_line (planning_work read.told) lanes) → AllByRecursion IsSmallLine (lines command lanes read)
+  command_lines_small command lanes texts steps =
       let events = time_line (planning_work read.told) lanes in
-      small_lines events (all_small read.told events (λ c one place. (is_given HasToldTexts (slice_get read.told c) one (held_at HasToldTexts read.told c so.texts.told) place).seconds) steps) _
+      small_lines events (all_small read.told events (λ c one place. (is_given HasToldTexts (slice_get read.told c) one (held_at HasToldTexts read.told c texts.told) place).seconds) steps) _
       (small_plan (is_plan_told command lanes read) (kept_drifts command lanes read) (kept_changes command lanes read) read.outputs)
+
+-- what the bytes state of the planning has such texts
+pub planning_texts : (command : Command) (refresh : Bool) (given : Inputs) (read : CommandInputs) → AreStated command refresh given read → HasPlanningTexts read
+planning_texts command refresh given read is =
+    let texts = prior_has_texts given.plan is.prior is.prior_is in
+    record {
+      told = told_have_texts (rules_of command refresh read.stated.details.note) (record { changes = read.stated.plan.changes; details = read.stated.details.changes; drifts = is.prior.drifts.items }) is.prior.objects.items given.script read.told texts.objects is.told_are;
+      drifts = subst (AllByRecursion HasDriftTexts) (sym is.drifts_are) texts.drifts;
+      outputs = subst (AllByRecursion (λ (output : PlannedOutput). IsUtf8 output.name)) (sym is.outputs_are) texts.outputs;
+    }

@@ -14,3 +14,5 @@ mod CommandTexts
 mod CommandStream
 mod CommandRead
 mod CommandJudged
+mod PriorTexts
+mod ToldTexts

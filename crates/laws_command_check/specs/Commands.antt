@@ -15,7 +15,6 @@ use Rattle.laws_check.specs.Plans.{ChangesAreWhole, DeletesDeposed, IsOrdinary, 
 use Rattle.laws_command_check.specs.CommandAccepted.{IsCommandAnswered}
 use Rattle.laws_command_check.specs.FewTold.{FewShareAnAddress, OnlyReadsWarn}
 use Rattle.laws_command_check.specs.HeadReadBack.{totals_of_plan}
-use Rattle.laws_command_check.specs.HeadTexts.{HasPlanningTexts}
 
 -- the stream tells of the plan
 abbrev pub is_plan_told : Command → (lanes : ℕ) → CommandInputs → Bool
@@ -38,7 +37,6 @@ pub record MayBePlanned (read : CommandInputs) : Type 0 where
 pub record IsPlannedSo (read : CommandInputs) : Type 0 where
   pub few : FewShareAnAddress read.told
   pub warns : OnlyReadsWarn read.told
-  pub texts : HasPlanningTexts read
   pub deleted : DeletesDeposed read.stated.plan
 
 -- The verdict on these lines, as the report has it: its totals, and an error if and only if the

@@ -27,6 +27,7 @@ ghost use Rattle.apply_command.specs.declared.head_line.HeadLine.{HeadLine};
 ghost use Rattle.apply_command.specs.Form.{command_form};
 ghost use Rattle.apply_command.specs.Head.{HeadInputs};
 ghost use Rattle.apply_command.specs.Reading.{
+  AreStated,
   CommandInputs,
   applied_plan,
   applied_script,
@@ -46,7 +47,7 @@ ghost use Rattle.laws_check.specs.Texts.{FitBits};
 ghost use Rattle.laws_check.specs.WholeSteps.{IsOfWholeSteps};
 ghost use Rattle.laws_command_check.specs.CommandAccepted.{IsCommandTaken, command_stream_read_back};
 ghost use Rattle.laws_command_check.specs.Commands.{IsCommandJudged, IsPlannedSo, MayBePlanned, is_plan_told};
-ghost use Rattle.laws_command_check.specs.HeadTexts.{HasHeadTexts, IsSmallLine};
+ghost use Rattle.laws_command_check.specs.HeadTexts.{HasHeadTexts, HasPlanningTexts, IsSmallLine};
 
 use laws_check::{
     a_run_is_of_whole_steps, events_that_can_happen_fit_bits, every_event_of_a_run_can_happen,
@@ -66,6 +67,13 @@ pub fn a_planning_is_of_whole_steps()
     there_is_a_time_line();
     a_run_is_of_whole_steps();
 }
+
+/// What a command reads beyond a saved plan and its script can be read back: the texts of what it
+/// tells while it plans, of drifts and of planned outputs are UTF-8. Seconds fit 64 bits.
+pub fn what_was_read_of_a_planning_can_be_read_back()
+    ensures { (command : Command) (refresh : Bool) (given : Inputs) (read : CommandInputs) → AreStated command refresh given read
+        → HasPlanningTexts read }
+{}
 
 /// The stream of a command is lines, and each line is read back as one message: those before an
 /// apply, then those of events, the diagnostics of no step, and the end where the plan is applied.
@@ -104,7 +112,7 @@ pub fn every_message_of_a_command_is_accepted()
 /// The verdict has the totals of the plan, or of the apply, an error if and only if the report has
 /// one, and the number of lines. The stream of a plan without an error is whole with `--plan`. There
 /// are at most as many hooks as a registry holds, and no line is longer than 64 MiB. Of what is told
-/// of a prior state the texts are UTF-8, few objects share an address, and only reads only warn.
+/// while the plan is made, few objects share an address, and only reads only warn.
 /// `bytes`: the sink knows its bytes and had none before; `check` accepts these bytes.
 pub fn every_stream_of_a_command_is_accepted()
     ensures stream { (plans : Bool) (schedule : Schedule) (command : Command) (refresh : Bool) (lanes : ℕ) (given : Inputs)
@@ -127,6 +135,7 @@ pub fn every_stream_of_a_command_is_accepted()
     all_but_no_ops_are_planned();
     each_object_is_named_once();
     relative_addresses_join_their_module();
+    what_was_read_of_a_planning_can_be_read_back();
     a_planning_is_of_whole_steps();
     a_run_is_of_whole_steps();
     every_event_of_a_run_can_happen();

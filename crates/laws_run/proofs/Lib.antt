@@ -33,7 +33,7 @@ mod ProvisionsFit
 mod Queued
 mod ReadPlans
 mod ReadScripts
-mod RelativeAddresses
+pub mod RelativeAddresses
 mod SecretBytes
 mod SecretChanges
 mod SecretOutputs
