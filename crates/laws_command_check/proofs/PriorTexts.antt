@@ -1,5 +1,5 @@
 -- The texts of the time before an apply, in a plan that was read, are UTF-8.
-use Rattle.std.proofs.Common.{◌≡◌, ℕ, zero, suc, List, [], ◌∷◌, ◌++◌, IsUtf8, codes, cond, flat_map, map, Bool, true, false, Option, Some, None, Ordering, Less, Equal, Greater, option_map, refl, subst}
+use Rattle.std.proofs.Common.{◌≡◌, ℕ, zero, suc, List, [], ◌∷◌, ◌++◌, IsUtf8, codes, cond, flat_map, map, Bool, true, false, Option, Some, None, Ordering, Less, Equal, Greater, refl}
 use Rattle.std.specs.Prelude.{⊤, IfSome, option_and_then}
 use Rattle.std.specs.Cmp.Lexicographic.{slice_cmp}
 use Rattle.std.specs.List.{AllByRecursion, cons_option, filter_map, list_any}
@@ -14,7 +14,6 @@ use Rattle.serde_json.specs.Data.{Data, null, boolean, number, string, array, ob
 use Rattle.serde_json.specs.Find.{as_array, as_object, get}
 use Rattle.serde_json.specs.Read.{max_depth, number_of, of_items, of_json, of_members, read}
 use Rattle.apply_json.specs.Tree.{◌>>=◌, member_of, non_empty_text_of, text_of, tree_of, unless_null}
-use Rattle.apply_model.specs.declared.details.change_details.ChangeDetails.{ChangeDetails}
 use Rattle.apply_model.specs.declared.plan.mode.Mode.{Mode}
 use Rattle.apply_model.specs.declared.plan.mode.Mode.TheVariants.{Managed, DataSource}
 use Rattle.apply_model.specs.Plan.Address.{relative_address}
@@ -24,19 +23,17 @@ use Rattle.apply_plan.specs.Plan.SavedPlan.{change_of}
 use Rattle.apply_plan.specs.Plan.Steps.{steps_of_actions}
 use Rattle.apply_plan_terraform.specs.Details.{element_details}
 use Rattle.apply_prior.specs.declared.drift.Drift.{Drift}
-use Rattle.apply_prior.specs.declared.planned_output.OutputAction.{OutputAction}
 use Rattle.apply_prior.specs.declared.planned_output.PlannedOutput.{PlannedOutput}
 use Rattle.apply_prior.specs.declared.prior.Prior.{Prior}
 use Rattle.apply_prior.specs.Drifts.{drift_of, drifted_of, drifts_of, is_still}
 use Rattle.apply_prior.specs.Elements.{Names, array_at, id_of, in_its_module, items_at, names_of}
 use Rattle.apply_prior.specs.Objects.{ObjectOfPlan, id_by_mode, last_id, max_modules, objects_of, placed_in, placed_object, placed_of, prior_object, root_module, state_object, vanished_by_mode, vanished_object, with_object, with_objects}
 use Rattle.apply_prior.specs.Outputs.{changes_of, output_action_of, output_of, outputs_in, planned_outputs_of}
-use Rattle.apply_prior.specs.Prior.{PriorOfPlan, prior_in, prior_of, prior_view}
+use Rattle.apply_prior.specs.Prior.{PriorOfPlan, prior_of, prior_view}
 use Rattle.apply_resolve.specs.ObjectName.{is_same_object, name_one_object}
 use Rattle.apply_text.specs.Objects.{key_data}
 use Rattle.laws_run.specs.Plans.{HasRelativeAddress}
 use Rattle.laws_run.proofs.RelativeAddresses.{relative_joins}
-use Rattle.laws_check.specs.ReadBackInForm.{HasDetailTexts}
 use Rattle.laws_check.specs.Sound.{IsSound}
 use Rattle.laws_check.specs.Texts.{HasChangeTexts}
 use Rattle.laws_check.proofs.Given.{any_given, both_given, gone_on, is_given, mapped, next_of}

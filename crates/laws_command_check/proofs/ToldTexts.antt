@@ -1,29 +1,26 @@
 -- The texts of what a stream tells while a plan is made are UTF-8, by the plan and the script that
 -- were read.
-use Rattle.std.proofs.Common.{◌≡◌, ℕ, ◌<◌, ◌≤◌, ◌^◌, List, [], ◌∷◌, ◌++◌, IsUtf8, codes, cond, flat_map, fold, length, map, nat_le, nat_lt, Bool, true, false, Option, Some, None, Result, Ok, Err, option_map, refl, sym, ap, subst, slice_get, unwrap_or, arith}
-use Rattle.std.specs.Prelude.{◌&&◌, ◌||◌, IfOk, IfSome, is_some, option_and_then}
+use Rattle.std.proofs.Common.{◌≡◌, ℕ, ◌<◌, ◌^◌, List, [], ◌∷◌, IsUtf8, codes, cond, flat_map, fold, length, map, nat_le, nat_lt, Bool, true, false, Option, Some, None, Ok, option_map, refl, ap, slice_get, unwrap_or, arith}
+use Rattle.std.specs.Prelude.{◌&&◌, ◌||◌, IfOk, IfSome, is_some}
 use Rattle.std.specs.List.{AllByRecursion}
 use Rattle.std.specs.Option.{option_map_or, option_or}
 use Rattle.std.proofs.lemmas.Bool.{ltb-false, or_parts}
 use Rattle.std.proofs.lemmas.Str.{IsUtf8-nil}
 use Rattle.serde_json.specs.Data.{Data}
 use Rattle.serde_json.specs.Find.{as_array}
-use Rattle.apply_address.specs.Modes.{mode_of}
 use Rattle.apply_address.specs.Parts.{Parts}
 use Rattle.apply_address.specs.Reading.{parts_in}
 use Rattle.apply_address.proofs.Relative.{relative_stands}
 use Rattle.apply_json.specs.Tree as json
 use Rattle.apply_json.specs.Tree.{items_or_empty, list_of, member_of, non_empty_text_of, text_or, unless_empty}
-use Rattle.apply_model.specs.declared.details.note.Note.{Note}
 use Rattle.apply_model.specs.declared.plan.mode.Mode.{Mode}
 use Rattle.apply_model.specs.declared.plan.mode.Mode.TheVariants.{DataSource, Managed}
 use Rattle.apply_model.specs.Plan.Address.{relative_address}
-use Rattle.apply_model.specs.Plan.ResourceChange.{ResourceChange}
 use Rattle.apply_model.specs.Script.Limits.{max_seconds}
-use Rattle.apply_plan.specs.Results.{◌>>=◌, or_refuse, unless_refused}
+use Rattle.apply_plan.specs.Results.{or_refuse, unless_refused}
 use Rattle.apply_plan.specs.Script.Entry.{Failure, failure_or_none, flag_or_false, is_verbatim_name, number_or_none}
 use Rattle.apply_plan.specs.declared.script.planning_error.PlanningError.{PlanningError}
-use Rattle.apply_plan.specs.declared.script.planning_error.PlanningError.TheVariants.{TooMany, Malformed}
+use Rattle.apply_plan.specs.declared.script.planning_error.PlanningError.TheVariants.{TooMany}
 use Rattle.apply_plan.specs.declared.script.script_error.ScriptError.{ScriptError}
 use Rattle.apply_plan.specs.declared.script.script_error.ScriptError.TheVariants.{BadShape, NotJson, Planning, TooLarge}
 use Rattle.apply_plan_terraform.specs.Details.{previous_at, with_parts}
@@ -31,10 +28,9 @@ use Rattle.apply_planning.specs.declared.told.Told.{Told}
 use Rattle.apply_planning_script.specs.declared.rules.PlanningRules.{PlanningRules}
 use Rattle.apply_planning_script.specs.Items.{Item, do_clash, item_of, item_with, object_of_item}
 use Rattle.apply_planning_script.specs.Objects.{ObjectName, number_in, object_of}
-use Rattle.apply_planning_script.specs.Planning.{ReadItems, and_element, and_element_by, checked, first_fault, is_known, items_in, max_items, nothing_read, said_in, said_in_option, said_in_tree, said_of, with_item}
+use Rattle.apply_planning_script.specs.Planning.{ReadItems, and_element, and_element_by, checked, first_fault, is_known, max_items, nothing_read, said_in_option, said_in_tree, said_of, with_item}
 use Rattle.apply_planning_script.specs.Rules.{PlannedObjects}
-use Rattle.apply_planning_script.specs.Told.{Object, ToldObject, failure_of, id_at_end, id_at_start, is_told, item_about, note_of, object_view, stated_id, told_at, told_by_script, told_if, told_known, told_of, told_unknown, told_unless, told_view, told_with, unknown_object, unknown_with}
-use Rattle.apply_prior.specs.declared.prior.Prior.{Prior}
+use Rattle.apply_planning_script.specs.Told.{Object, ToldObject, failure_of, id_at_end, id_at_start, is_told, item_about, note_of, object_view, stated_id, told_at, told_by_script, told_if, told_known, told_unknown, told_view, told_with, unknown_with}
 use Rattle.apply_prior.specs.declared.prior_object.PriorObject.{PriorObject}
 use Rattle.apply_prior.specs.Prior as prior
 use Rattle.laws_run.proofs.RelativeAddresses.{relative_joins}
@@ -49,7 +45,7 @@ use Rattle.laws_check.proofs.ScriptTexts.{MayHaveFailure, some_failure}
 use Rattle.laws_check.proofs.SoundObjects.{all_both}
 use Rattle.laws_check.proofs.VerbatimDiagnostics.{HasStatedDiagnostic}
 use Rattle.laws_command_check.specs.HeadTexts.{HasToldTexts}
-use Rattle.laws_command_check.proofs.PriorTexts.{HasObjectTexts, given_so, with_relative}
+use Rattle.laws_command_check.proofs.PriorTexts.{HasObjectTexts, with_relative}
 
 -- ---- an item
 
