@@ -10,6 +10,8 @@ use Rattle.apply_events.specs.Waits.Merging.{time_line}
 use Rattle.apply_planning.specs.declared.told.Told.{Told}
 use Rattle.apply_prior.specs.declared.planned_output.PlannedOutput.{PlannedOutput}
 use Rattle.apply_planning.specs.PlanningWork.{change_of, planning_work}
+use Rattle.apply_planning_script.specs.declared.rules.PlanningRules.{PlanningRules}
+use Rattle.apply_planning_script.specs.Rules.{PlannedObjects}
 use Rattle.apply_run.specs.Bytes.{Inputs, IsRead}
 use Rattle.apply_run.specs.Read.{IsStated}
 use Rattle.apply_text_terraform.specs.declared.command.Command.{Command}
@@ -23,9 +25,11 @@ use Rattle.laws_check.proofs.PlanTexts.{IsReadable, IsReadablePlan}
 use Rattle.laws_check.proofs.ScriptTexts.{nothing_readable}
 use Rattle.laws_check.proofs.WhatWasRead.{limits_of, provisions, the_plan, the_script, warnings}
 use Rattle.laws_command_check.specs.Commands.{IsPlannedSo, MayBePlanned, is_plan_told}
+use Rattle.laws_command_check.specs.FewTold.{OnlyReadsWarn}
 use Rattle.laws_command_check.specs.HeadTexts.{HasDriftTexts, HasPlanningTexts, HasToldTexts, IsSmallLine}
 use Rattle.laws_command_check.proofs.CommandTexts.{small_lines, small_plan}
 use Rattle.laws_command_check.proofs.Courses.{all_small}
+use Rattle.laws_command_check.proofs.OnlyReads.{only_reads_warn, prior_once}
 use Rattle.laws_command_check.proofs.PriorTexts.{prior_has_texts}
 use Rattle.laws_command_check.proofs.ToldTexts.{told_have_texts}
 
@@ -48,10 +52,10 @@ module _ (given : Inputs) (read : CommandInputs) (is : IsStated given.plan given
   pub are_whole : ChangesAreWhole read.stated.plan
   are_whole c change place = (is_given IsReadable (slice_get read.stated.plan.changes c) change (held_at IsReadable read.stated.plan.changes c readable.changes) place).of_one
 
-  pub may_be_planned : NamesEachObjectOnce read.stated.plan.changes → length read.stated.details.changes ≡ length read.stated.plan.changes → MayBePlanned read
-  may_be_planned once as_many = record {
+  pub may_be_planned : OnlyReadsWarn read.told → NamesEachObjectOnce read.stated.plan.changes → length read.stated.details.changes ≡ length read.stated.plan.changes → MayBePlanned read
+  may_be_planned warns once as_many = record {
     few = so.few;
-    warns = so.warns;
+    warns = warns;
     whole = are_whole;
     as_many = as_many;
     ordinary = record { few = readable.few; once = once; deleted = so.deleted };
@@ -72,12 +76,22 @@ module _ (given : Inputs) (read : CommandInputs) (is : IsStated given.plan given
       small_lines events (all_small read.told events (λ c one place. (is_given HasToldTexts (slice_get read.told c) one (held_at HasToldTexts read.told c texts.told) place).seconds) steps) _
       (small_plan (is_plan_told command lanes read) (kept_drifts command lanes read) (kept_changes command lanes read) read.outputs)
 
--- what the bytes state of the planning has such texts
-pub planning_texts : (command : Command) (refresh : Bool) (given : Inputs) (read : CommandInputs) → AreStated command refresh given read → HasPlanningTexts read
-planning_texts command refresh given read is =
-    let texts = prior_has_texts given.plan is.prior is.prior_is in
-    record {
-      told = told_have_texts (rules_of command refresh read.stated.details.note) (record { changes = read.stated.plan.changes; details = read.stated.details.changes; drifts = is.prior.drifts.items }) is.prior.objects.items given.script read.told texts.objects is.told_are;
-      drifts = subst (AllByRecursion HasDriftTexts) (sym is.drifts_are) texts.drifts;
-      outputs = subst (AllByRecursion (λ (output : PlannedOutput). IsUtf8 output.name)) (sym is.outputs_are) texts.outputs;
-    }
+-- what the bytes state of the planning has such texts, and only reads only warn
+module _ (command : Command) (refresh : Bool) (given : Inputs) (read : CommandInputs) (is : AreStated command refresh given read) where
+  abbrev rules : PlanningRules
+  rules = rules_of command refresh read.stated.details.note
+
+  abbrev objects : PlannedObjects
+  objects = record { changes = read.stated.plan.changes; details = read.stated.details.changes; drifts = is.prior.drifts.items }
+
+  pub planning_texts : HasPlanningTexts read
+  planning_texts =
+      let texts = prior_has_texts given.plan is.prior is.prior_is in
+      record {
+        told = told_have_texts rules objects is.prior.objects.items given.script read.told texts.objects is.told_are;
+        drifts = subst (AllByRecursion HasDriftTexts) (sym is.drifts_are) texts.drifts;
+        outputs = subst (AllByRecursion (λ (output : PlannedOutput). IsUtf8 output.name)) (sym is.outputs_are) texts.outputs;
+      }
+
+  pub planning_warns : OnlyReadsWarn read.told
+  planning_warns = only_reads_warn rules objects is.prior.objects.items given.script read.told (prior_once given.plan is.prior is.prior_is) is.told_are

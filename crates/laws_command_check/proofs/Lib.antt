@@ -16,3 +16,4 @@ mod CommandRead
 mod CommandJudged
 mod PriorTexts
 mod ToldTexts
+mod OnlyReads

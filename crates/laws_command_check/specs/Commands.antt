@@ -32,11 +32,10 @@ pub record MayBePlanned (read : CommandInputs) : Type 0 where
   pub provisions : ProvisionsCreates read.stated.plan read.stated.script
   pub warnings : WarnsOfReads read.stated.plan read.stated.script
 
--- What the laws ask of a plan, its prior state and its script that were read. The plan only deletes
--- deposed objects.
+-- What the laws ask of a plan, its prior state and its script that were read: few objects share an
+-- address, and the plan only deletes deposed objects.
 pub record IsPlannedSo (read : CommandInputs) : Type 0 where
   pub few : FewShareAnAddress read.told
-  pub warns : OnlyReadsWarn read.told
   pub deleted : DeletesDeposed read.stated.plan
 
 -- The verdict on these lines, as the report has it: its totals, and an error if and only if the

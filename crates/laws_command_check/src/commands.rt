@@ -47,6 +47,7 @@ ghost use Rattle.laws_check.specs.Texts.{FitBits};
 ghost use Rattle.laws_check.specs.WholeSteps.{IsOfWholeSteps};
 ghost use Rattle.laws_command_check.specs.CommandAccepted.{IsCommandTaken, command_stream_read_back};
 ghost use Rattle.laws_command_check.specs.Commands.{IsCommandJudged, IsPlannedSo, MayBePlanned, is_plan_told};
+ghost use Rattle.laws_command_check.specs.FewTold.{OnlyReadsWarn};
 ghost use Rattle.laws_command_check.specs.HeadTexts.{HasHeadTexts, HasPlanningTexts, IsSmallLine};
 
 use laws_check::{
@@ -73,6 +74,13 @@ pub fn a_planning_is_of_whole_steps()
 pub fn what_was_read_of_a_planning_can_be_read_back()
     ensures { (command : Command) (refresh : Bool) (given : Inputs) (read : CommandInputs) → AreStated command refresh given read
         → HasPlanningTexts read }
+{}
+
+/// By a script that was read, only a read of a data source may fail with a warning. A refresh that
+/// fails ends with an error.
+pub fn only_reads_of_a_planning_warn()
+    ensures { (command : Command) (refresh : Bool) (given : Inputs) (read : CommandInputs) → AreStated command refresh given read
+        → OnlyReadsWarn read.told }
 {}
 
 /// The stream of a command is lines, and each line is read back as one message: those before an
@@ -111,8 +119,8 @@ pub fn every_message_of_a_command_is_accepted()
 ///
 /// The verdict has the totals of the plan, or of the apply, an error if and only if the report has
 /// one, and the number of lines. The stream of a plan without an error is whole with `--plan`. There
-/// are at most as many hooks as a registry holds, and no line is longer than 64 MiB. Of what is told
-/// while the plan is made, few objects share an address, and only reads only warn.
+/// are at most as many hooks as a registry holds, and no line is longer than 64 MiB. The plan only
+/// deletes deposed objects, and few objects that are told while it is made share an address.
 /// `bytes`: the sink knows its bytes and had none before; `check` accepts these bytes.
 pub fn every_stream_of_a_command_is_accepted()
     ensures stream { (plans : Bool) (schedule : Schedule) (command : Command) (refresh : Bool) (lanes : ℕ) (given : Inputs)
@@ -136,6 +144,7 @@ pub fn every_stream_of_a_command_is_accepted()
     each_object_is_named_once();
     relative_addresses_join_their_module();
     what_was_read_of_a_planning_can_be_read_back();
+    only_reads_of_a_planning_warn();
     a_planning_is_of_whole_steps();
     a_run_is_of_whole_steps();
     every_event_of_a_run_can_happen();

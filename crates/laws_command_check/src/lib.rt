@@ -10,6 +10,6 @@ mod heads;
 pub use commands::{
     a_planning_is_of_whole_steps, every_line_of_a_command_is_read_back,
     every_message_of_a_command_is_accepted, every_stream_of_a_command_is_accepted,
-    what_was_read_of_a_planning_can_be_read_back,
+    only_reads_of_a_planning_warn, what_was_read_of_a_planning_can_be_read_back,
 };
 pub use heads::every_line_before_an_apply_is_read_back;
