@@ -11,11 +11,9 @@ use Rattle.apply_address.specs.Modes.{mode_of}
 use Rattle.apply_address.specs.Parts.{Parts}
 use Rattle.apply_address.specs.Reading.{parts_in}
 use Rattle.apply_json.specs.Tree.{tree_of}
-use Rattle.apply_model.specs.declared.details.note.Note.{Note}
 use Rattle.apply_model.specs.declared.plan.mode.Mode.{Mode}
 use Rattle.apply_model.specs.declared.plan.mode.Mode.TheVariants.{Managed}
-use Rattle.apply_model.specs.Plan.ResourceChange.{ResourceChange}
-use Rattle.apply_plan.specs.Results.{◌>>=◌, unless_refused}
+use Rattle.apply_plan.specs.Results.{unless_refused}
 use Rattle.apply_plan.specs.Script.Entry.{Failure}
 use Rattle.apply_plan.specs.declared.script.planning_error.PlanningError.{PlanningError}
 use Rattle.apply_plan.specs.declared.script.planning_error.PlanningError.TheVariants.{Misfits, Repeated}
