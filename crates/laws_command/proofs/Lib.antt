@@ -1,0 +1,6 @@
+pub mod Beginnings
+pub mod CommandEnds
+pub mod HeadLevels
+pub mod SameReading
+pub mod SavedPlans
+pub mod ToldSteps

@@ -1,0 +1,3 @@
+pub mod Endings
+pub mod Streams
+pub mod Plannings
