@@ -1,3 +1,4 @@
+pub mod Alike
 pub mod Endings
-pub mod Streams
 pub mod Plannings
+pub mod Streams

@@ -8,6 +8,7 @@ mod endings;
 mod plannings;
 mod saved;
 mod streams;
+mod values;
 
 pub use endings::a_command_has_a_summary_or_an_error;
 pub use plannings::{
@@ -19,3 +20,4 @@ pub use streams::{
     an_apply_prints_what_that_of_a_saved_plan_prints, the_same_bytes_give_the_same_stream,
     the_stream_of_a_plan_begins_those_of_its_apply_and_destroy,
 };
+pub use values::of_a_prior_state_only_ids_are_told_that_are_not_sensitive;
