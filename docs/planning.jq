@@ -20,18 +20,21 @@ def second: ."@timestamp" | (.[:19] + "Z" | fromdate) + if .[20:21] >= "5" then 
     | .hook as {resource: {addr: $address}, id_value: $id}
     | (first($known[$address][]? | select(.before == $id or .after == $id)) // $known[$address][0] // {address: $address}) + {$place, message: .})
   | group_by(key) | map(.[(map(.message.type | endswith("_start")) | rindex(true)) // length:] | select(length > 0)) | sort_by(.[0].place)) as $started
-# Their entries. An object without an end takes an error of its address, a read also a warning of it; otherwise an error without an address.
-| ([$stream[].diagnostic | objects | {summary} + ({severity, address, detail, range, snippet} | filled)] | sort_by(.severity != "error")) as $diagnostics
+# Their entries. Without an end, a read takes a diagnostic of its address, and a refresh an error of it; otherwise they take an error without
+# an address. If an apply follows, no error is one of the planning, and a read has only warned.
+| any($stream[$until + 1:][]; .type == "apply_start" or .type == "change_summary") as $applied
+| [$stream[].diagnostic | objects | {summary} + ({severity, address, detail, range, snippet} | filled)] as $diagnostics
 | ($stream[:$until + 1][-1] | second) as $last
 | [foreach $started[] as $lines ({used: []};
     $lines[0] as {$address, $deposed, $mode, $after, message: $start} | ($start.type == "apply_start") as $reads
     | ($lines | map(.message | select(.type | endswith("_complete")))[0]) as $complete
-    | .reason = (if $complete then null else ($diagnostics - .used) | first(
-        (.[] | select(.address == $address and ($reads or .severity == "error"))), (.[] | select(.address == null and .severity == "error")), null) end)
+    | .reason = (if $complete then null else ($diagnostics - .used | sort_by(.severity != "error") | map(select(.severity != "error" or ($applied | not))))
+        | first((.[] | select(.address == $address and ($reads or .severity == "error"))), (.[] | select(.address == null and .severity == "error")),
+          (select($applied and $reads) | {summary: "failed", severity: "warning"}), null) end)
     | .used += [.reason | values]
     | .entry = ({address: $address, deposed: $deposed,
         seconds: ($complete.hook.elapsed_seconds // ((if $complete then $complete | second else $last end) - ($start | second))
-          | [., if $complete or ($reads | not) then 86400 else ($lines | map(.message.hook.elapsed_seconds // 0) | max) + 9 end] | [min, 0] | max),
+          | [., if $complete or ($reads | not) then 86400 else ($lines | map(.message.hook.elapsed_seconds // 0) | max) + 10 end] | [min, 0] | max),
         id: (if $mode then null else $complete.hook.id_value // $start.hook.id_value end),
         failed: (.reason | if . then del(.address) | del(.severity | select(. == "error")) else . end),
         gone: ($complete != null and $complete.hook.id_value == null and $start.hook.id_value != null)} | filled)
@@ -42,7 +45,7 @@ def second: ."@timestamp" | (.[:19] + "Z" | fromdate) + if .[20:21] >= "5" then 
 | ($started | map(.[0]) | by(key)) as $begun | any($begun[].message; .type == "refresh_start") as $refreshes
 | (map(select(.is_needed).entry) + [if $summary and all($used[]; .severity == "warning") then $objects[] else empty end
     | select($begun[key] == null and (.mode == "data" or $refreshes)) | {address, deposed, skipped: true} | filled]) as $planning
-# The two warnings that a plan has by itself are left out.
+# The two warnings that a run prints by itself are left out.
 | $script | .planning = $planning
-| (.diagnostics | values) |= map(select((. as $it | any($used[]; . == $it)) or .severity == "warning"
-    and (.summary == "Some objects will no longer be managed by Terraform" or $targeted and .summary == "Resource targeting is in effect") | not))
+| .diagnostics = (if $applied then .diagnostics // [] else $diagnostics - $used end | map(select(.severity == "warning"
+    and (.summary == "Some objects will no longer be managed by Terraform" or $targeted and .summary == "Resource targeting is in effect") | not)))
