@@ -52,8 +52,10 @@ _applystream() {
       --script) COMPREPLY=($(compgen -f -- "$word")); return ;;
       --parallelism) return ;;
       --form) COMPREPLY=($(compgen -W "applystream terraform" -- "$word")); return ;;
+      --command) COMPREPLY=($(compgen -W "saved plan apply destroy" -- "$word")); return ;;
+      --refresh) COMPREPLY=($(compgen -W "true false" -- "$word")); return ;;
     esac
-    COMPREPLY=($(compgen -W "--script --parallelism --form --help" -- "$word"))
+    COMPREPLY=($(compgen -W "--script --parallelism --form --command --refresh --help" -- "$word"))
     return
   fi
   case $before in

@@ -55,5 +55,7 @@ complete -c applystream -n '__fish_seen_subcommand_from record' -l run -x -d 'Ta
 complete -c applystream -n '__fish_seen_subcommand_from record' -s h -l help -d 'Print help'
 complete -c applystream -n '__fish_seen_subcommand_from validate' -l script -r -F -d 'The script to validate with the plan'
 complete -c applystream -n '__fish_seen_subcommand_from validate' -l parallelism -x -d 'Validate for a run with --parallelism N, 1 to 64. Without it no step of a script may wait for others'
-complete -c applystream -n '__fish_seen_subcommand_from validate' -l form -x -a 'applystream terraform' -d 'Validate for a run with this form: terraform also reads `outputs` and `diagnostics` at the top of the script [default: applystream] [possible values: applystream, terraform]'
+complete -c applystream -n '__fish_seen_subcommand_from validate' -l form -x -a 'applystream terraform' -d 'Validate for a run with this form: terraform also reads `outputs` and `diagnostics` at the top of the script. Without it the form is applystream [possible values: applystream, terraform]'
+complete -c applystream -n '__fish_seen_subcommand_from validate' -l command -x -a 'saved plan apply destroy' -d 'Validate for a run with this command: plan, apply and destroy also read `planning` at the top of the script, and imply --form terraform. Without it the command is saved [possible values: saved, plan, apply, destroy]'
+complete -c applystream -n '__fish_seen_subcommand_from validate' -l refresh -x -a 'true false' -d 'Validate for a run with this option, which changes no finding. Only with --command plan, apply or destroy [possible values: true, false]'
 complete -c applystream -n '__fish_seen_subcommand_from validate' -s h -l help -d 'Print help'

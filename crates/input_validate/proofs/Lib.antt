@@ -7,5 +7,6 @@ pub mod Named
 pub mod Options
 pub mod OutputsSoFar
 pub mod Places
+pub mod PriorNames
 pub mod Trees
 pub mod WaitsLeft

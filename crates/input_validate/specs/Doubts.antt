@@ -17,7 +17,7 @@ use Rattle.input_validate.specs.declared.findings.finding.Finding.{Finding}
 use Rattle.input_validate.specs.declared.findings.name.Name.TheVariants as name
 use Rattle.input_validate.specs.declared.findings.problem.Problem.TheVariants.{NeedlessSkip, UnheededFailure, ValuelessOutput}
 use Rattle.input_validate.specs.declared.form.Form.{Form}
-use Rattle.input_validate.specs.declared.form.Form.TheVariants.{Applystream, Terraform}
+use Rattle.input_validate.specs.declared.form.Form.TheVariants.{Applystream, Terraform, TerraformPlan, TerraformApply}
 use Rattle.input_validate.specs.declared.rules.violation.Violation.{Violation}
 use Rattle.input_validate.specs.AgainstPlan.{change_at, kind_of, object_named, only_warns}
 use Rattle.input_validate.specs.Findings.{finding_here}
@@ -153,10 +153,16 @@ doubts_for lanes (Err refusal) d = []
 abbrev pub tree_within : List ℕ → Option Data
 tree_within bytes = if nat_lt max_bytes (length bytes) then None else tree_of bytes
 
--- the doubts about outputs, which only a run in Terraform's form reads
+-- the doubts about outputs, by the bytes of the plan
+abbrev pub valueless_in : (plan : List ℕ) → Data → List Finding
+valueless_in plan d = option_map_or (λ tree. valueless_output tree d) (tree_within plan) []
+
+-- the same for a run in this form: only an apply in Terraform's form prints values of outputs
 abbrev pub output_doubts : Form → (plan : List ℕ) → Data → List Finding
 output_doubts Applystream plan d = []
-output_doubts Terraform plan d = option_map_or (λ tree. valueless_output tree d) (tree_within plan) []
+output_doubts Terraform plan d = valueless_in plan d
+output_doubts TerraformPlan plan d = []
+output_doubts TerraformApply plan d = valueless_in plan d
 
 -- all doubts about a script
 abbrev pub doubts_of : Form → (lanes : Bool) → (plan : List ℕ) → Data → List Finding

@@ -1,10 +1,11 @@
 -- What values have to be, as the readers of plans and scripts have it.
-use Rattle.std.specs.Prelude.{Bool, true, false, ◌||◌, not, codes, is_some, nat_eq, Option, Some, None, option_and_then}
+use Rattle.std.specs.Prelude.{Bool, true, false, ◌||◌, not, codes, is_some, nat_eq, nat_le, Option, Some, None, option_and_then}
 use Rattle.std.specs.List.{starts_with}
 use Rattle.std.specs.Option.{option_map_or}
 use Rattle.serde_json.specs.Data.{Data}
 use Rattle.serde_json.specs.Find.{as_array, as_bool, as_number, as_object, as_str, as_u64}
 use Rattle.apply_json.specs.Tree.{is_empty, is_word}
+use Rattle.apply_model.specs.Script.Limits.{max_seconds}
 use Rattle.apply_plan.specs.Plan.Element.{key_of}
 use Rattle.input_validate.specs.declared.findings.expected.Expected.{Expected}
 use Rattle.input_validate.specs.declared.findings.expected.Expected.TheVariants as expected
@@ -16,6 +17,7 @@ may_be_absent expected.FlagOrAbsent = true
 may_be_absent expected.Key = true
 may_be_absent expected.ObjectOrAbsent = true
 may_be_absent expected.OnFailure = true
+may_be_absent expected.SecondsOrAbsent = true
 may_be_absent expected.Severity = true
 may_be_absent expected.TextOrAbsent = true
 may_be_absent expected.WholeOrAbsent = true
@@ -45,6 +47,10 @@ is_text_with_a_byte d = option_map_or (λ text. not (is_empty text)) (as_str d) 
 abbrev pub is_whole : Data → Bool
 is_whole d = is_some (option_and_then as_u64 (as_number d))
 
+-- a whole number of seconds, a day at most
+abbrev pub is_within_a_day : Data → Bool
+is_within_a_day d = option_map_or (λ seconds. nat_le seconds max_seconds) (option_and_then as_u64 (as_number d)) false
+
 -- a value is what it has to be, as far as its top level shows
 abbrev pub suits : Expected → Data → Bool
 suits expected.Array d = is_some (as_array d)
@@ -64,9 +70,11 @@ suits expected.ObjectOrAbsent d = is_some (as_object d)
 suits expected.OnFailure d = is_on_failure d
 suits expected.Output d = is_some (as_str d) || is_some (as_object d)
 suits expected.Plan d = is_some (as_object d)
+suits expected.Planned d = is_some (as_object d)
 suits expected.PlanOutput d = is_some (as_object d)
 suits expected.Provisioner d = is_some (as_object d)
 suits expected.Seconds d = is_whole d
+suits expected.SecondsOrAbsent d = is_within_a_day d
 suits expected.Severity d = is_severity d
 suits expected.Step d = is_some (as_object d)
 suits expected.Text d = is_some (as_str d)

@@ -10,6 +10,7 @@ pub mod NearestAddresses
 pub mod NearestNames
 pub mod ObjectNames
 pub mod PlanFindings
+pub mod Planning
 pub mod ScriptFindings
 pub mod Skipped
 pub mod Rules

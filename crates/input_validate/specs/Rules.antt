@@ -1,10 +1,10 @@
 -- Findings of values of any shape. All paths start at the value.
-use Rattle.std.specs.Prelude.{ℕ, suc, List, [], ◌∷◌, ◌++◌, length, map, Bool, if◌then◌else◌, Option, Some, None}
+use Rattle.std.specs.Prelude.{ℕ, suc, List, [], ◌∷◌, ◌++◌, length, map, Bool, false, if◌then◌else◌, Option, Some, None, option_and_then}
 use Rattle.std.specs.List.{flat_map, list_any}
 use Rattle.std.specs.Option.{option_map_or}
 use Rattle.std.specs.Str.{bytes_eq}
 use Rattle.serde_json.specs.Data.{Data, Members, no_members, member}
-use Rattle.serde_json.specs.Find.{get}
+use Rattle.serde_json.specs.Find.{as_bool, get}
 use Rattle.apply_json.specs.ShallowView.{items_in, members_in}
 use Rattle.apply_json.specs.Tree.{list_of, member_of}
 use Rattle.input_validate.specs.declared.findings.finding.Finding.{Finding}
@@ -26,6 +26,10 @@ member_at name d = member_of (name_text name) d
 -- the items of a member; none if it is no array
 abbrev pub items_at : Name → Data → List Data
 items_at name d = option_map_or (λ value. list_of (items_in value)) (member_at name d) []
+
+-- a member is `true`
+abbrev pub is_set : Name → Data → Bool
+is_set name d = option_map_or (λ flag. flag) (option_and_then as_bool (member_at name d)) false
 
 -- the rule for one member
 abbrev pub rule : Name → Expected → MemberRule

@@ -222,7 +222,7 @@ in_entry changes first left d = where_suits expected.Entry d
 abbrev pub in_entry_after : Option (List ResourceChange) → List Data → Data → List Finding
 in_entry_after changes before d = in_entry changes (named_first before d) (waits_left (sum_by waits_in_all before)) d
 
--- `planning` is known, and its value is not looked at
+-- only a run in Terraform's form looks at `outputs`, `diagnostics` and `planning`
 abbrev pub script_names : List Name
 script_names = name.Changes ∷ name.Outputs ∷ name.Diagnostics ∷ name.Planning ∷ name.Schema ∷ []
 

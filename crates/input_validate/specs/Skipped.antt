@@ -1,11 +1,9 @@
--- Skipped steps.
-use Rattle.std.specs.Prelude.{Bool, false, option_and_then}
-use Rattle.std.specs.Option.{option_map_or}
+-- Skipped steps and objects.
+use Rattle.std.specs.Prelude.{Bool}
 use Rattle.serde_json.specs.Data.{Data}
-use Rattle.serde_json.specs.Find.{as_bool}
 use Rattle.input_validate.specs.declared.findings.name.Name.TheVariants as name
-use Rattle.input_validate.specs.Rules.{member_at}
+use Rattle.input_validate.specs.Rules.{is_set}
 
 -- `skipped` is `true`
 abbrev pub is_skipped : Data → Bool
-is_skipped d = option_map_or (λ flag. flag) (option_and_then as_bool (member_at name.Skipped d)) false
+is_skipped d = is_set name.Skipped d

@@ -10,6 +10,7 @@ mod form;
 mod input_findings;
 mod nearest_names;
 mod plan;
+mod planning;
 mod rules;
 mod script;
 
@@ -23,4 +24,5 @@ pub use findings::problem::Problem;
 pub use form::Form;
 pub use input_findings::{InputFindings, findings_of, findings_of_plan, findings_of_script};
 pub use nearest_names::nearest;
+pub use planning::top_level::MAX_PLANNED;
 pub use script::known_names::known_names;

@@ -10,7 +10,6 @@ use Rattle.input_validate.specs.InForm.{findings_in, is_refused}
 use Rattle.input_validate.specs.Whole.{plan_findings}
 use Rattle.input_validate.specs.declared.findings.finding.Finding.{Finding}
 use Rattle.input_validate.specs.declared.form.Form.{Form}
-use Rattle.input_validate.specs.declared.form.Form.TheVariants.{Applystream, Terraform}
 use Rattle.stream_tool.specs.declared.writing.WriteFault.{WriteFault}
 use Rattle.stream_tool.specs.declared.writing.WriteFault.TheVariants as write
 use Rattle.input_validate_cli.specs.Causes.{as_validate_fault}
@@ -24,8 +23,7 @@ none_either false = refl
 
 -- without a script there are no findings
 none_without : (form : Form) (lanes : Bool) (plan : List ℕ) (script : Option (List ℕ)) → is_some script ≡ false → findings_in form lanes plan script ≡ []
-none_without Applystream lanes plan None absent = none_either (is_refused Applystream lanes plan None)
-none_without Terraform lanes plan None absent = none_either (is_refused Terraform lanes plan None)
+none_without form lanes plan None absent = none_either (is_refused form lanes plan None)
 none_without form lanes plan (Some bytes) absent = absurd cc
 
 -- the text for stored findings is a report on a plan and a script with these findings

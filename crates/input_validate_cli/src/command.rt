@@ -1,6 +1,7 @@
 //! The tool `validate`: its arguments, what it reads, and what it writes.
 
 pub mod arguments;
+pub mod conflicts;
 pub mod inputs;
 pub mod refusals;
 pub mod report_text;

@@ -154,6 +154,36 @@ warning: plan .output_changes[\"o p\"]: is unknown, and the script tells no valu
     );
 }
 
+/// A script with errors in `planning` alone.
+const PLANNING: &str = r#"{"changes":[],
+"planning":[{"address":"a","gone":1},{"address":"data.a.b","gone":true,"other":1}]}"#;
+
+/// Fails if the report on this script for a run in that form is another text.
+fn planning_is(rt: &impl Abort, alloc: Global, form: Form, wanted: &str) {
+    let (plan, script) = (PLAN.as_bytes(), Some(PLANNING.as_bytes()));
+    let findings = findings_of(alloc, plan, script, false, form).expect(rt, "memory");
+    let sizes = InputSizes::of(plan, script);
+    let text = report_text(alloc, &findings, plan, script, sizes).expect(rt, "memory");
+    assert_eq!(rt; text.as_str(), wanted);
+}
+
+#[test]
+fn planning_is_reported(rt: HostRuntime) {
+    let alloc = rt.alloc();
+    let wanted = "script .planning[0].gone: is 1, and has to be true or false, or absent\n\
+script .planning[0].address: is \"a\", which the plan does not know and no resource can have\n\
+script .planning[1].gone: stands at a data source, and only an object that is refreshed may have it\n\
+warning: script .planning[1].other: is not read\n";
+    planning_is(&rt, alloc, Form::TerraformPlan, wanted);
+    planning_is(&rt, alloc, Form::TerraformApply, wanted);
+    planning_is(
+        &rt,
+        alloc,
+        Form::Terraform,
+        "plan and script are accepted\n",
+    );
+}
+
 /// Fails if the validation ends with another status, or prints an error.
 fn ends_with(rt: &impl Abort, alloc: Global, plan: &str, script: Option<&str>, status: u8) {
     let script = match script {

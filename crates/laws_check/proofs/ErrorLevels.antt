@@ -75,7 +75,7 @@ none_of_planned : (start : ℕ) (details : List ChangeDetails) (ps : List (ℕ �
 none_of_planned start details [] = refl
 none_of_planned start details (p ∷ ps) = ap₂ (λ (a b : Bool). a || b) (planned_is_fine start p.1 (slice_get details p.0)) (none_of_planned start details ps)
 
-none_of_head : (plan : SavedPlan) (details : List ChangeDetails) (start : ℕ) → list_any is_error_line (terraform_head_chunks plan details start) ≡ false
+pub none_of_head : (plan : SavedPlan) (details : List ChangeDetails) (start : ℕ) → list_any is_error_line (terraform_head_chunks plan details start) ≡ false
 none_of_head plan details start = ap₂ (λ (a b : Bool). a || b) (version_is_fine plan start) (none_of_planned start details (enumerate_from 0 plan.changes))
 
 -- ---- diagnostics of no step

@@ -69,10 +69,10 @@ opened : {A : Type 0} (o : Option A) (p : Option A) → option_map (λ (x : A). 
 opened None p e = absurd cc
 opened (Some x) p e = (x, refl, sym (some_is (Some x) p e))
 
-unfoldable warns_of : Option Failure → Bool
+unfoldable pub warns_of : Option Failure → Bool
 warns_of failed = option_map_or (λ f. f.only_warns) failed false
 
-failed_read : (o : Option Data) (failed : Option Failure) → failure_or_none o ≡ Some failed
+pub failed_read : (o : Option Data) (failed : Option Failure) → failure_or_none o ≡ Some failed
     → warns_of failed ≡ option_map_or (λ d. option_map_or (is_word (codes "warning")) (member_at name.Severity d) false) o false
 unfolding warns_of
 failed_read None failed e = ap (λ (f : Option Failure). option_map_or (λ x. x.only_warns) f false) (sym (some_is None failed e))

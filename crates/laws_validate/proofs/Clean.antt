@@ -69,7 +69,7 @@ clean-ignored names d = clean-ignored_from names 0 (texts_in (members_in d))
 
 -- ---- members
 
-mismatch_refuses : (wanted : Expected) (o : Option Data) → is_refusal_of (mismatch wanted o) ≡ true
+pub mismatch_refuses : (wanted : Expected) (o : Option Data) → is_refusal_of (mismatch wanted o) ≡ true
 mismatch_refuses wanted None = refl
 mismatch_refuses wanted (Some d) = refl
 

@@ -17,7 +17,7 @@ use Rattle.input_validate.specs.declared.findings.path.Segment.{Segment}
 use Rattle.input_validate.specs.declared.findings.path.Segment.TheVariants.{Item, Member}
 use Rattle.input_validate.specs.declared.findings.problem.Problem.TheVariants.{ValuelessOutput}
 use Rattle.input_validate.specs.declared.form.Form.{Form}
-use Rattle.input_validate.specs.declared.form.Form.TheVariants.{Applystream, Terraform}
+use Rattle.input_validate.specs.declared.form.Form.TheVariants.{Applystream, Terraform, TerraformPlan, TerraformApply}
 use Rattle.input_validate.specs.AgainstPlan.{change_at, only_warns}
 use Rattle.input_validate.specs.Doubts.{doubts, doubts_for, doubts_of, failed_in_script, failure_of_step, failure_violation, first_valueless, is_update, named_in_script, needless_skips, output_changes, output_doubts, script_doubts, skip_of_step, skip_violation, skips_in_entry, tree_within, unheeded_failures, unheeded_in_entry, valueless_output}
 use Rattle.input_validate.specs.Findings.{finding_here}
@@ -110,6 +110,8 @@ tree_right R d (Some tree) = valueless_by R d (first_valueless d 0 (output_chang
 output_right : (R : List Segment → List Name → Type 0) (form : Form) (plan : List ℕ) (d : Data) → AreRight R d (output_doubts form plan d)
 output_right R Applystream plan d = tt
 output_right R Terraform plan d = tree_right R d (tree_within plan)
+output_right R TerraformPlan plan d = tt
+output_right R TerraformApply plan d = tree_right R d (tree_within plan)
 
 doubts_of_right : (R : List Segment → List Name → Type 0) (form : Form) (lanes : Bool) (plan : List ℕ) (d : Data) → AreRight R d (doubts_of form lanes plan d)
 doubts_of_right R form lanes plan d =

@@ -11,7 +11,7 @@ use Rattle.apply_plan.specs.declared.plan.plan_error.PlanError.{PlanError}
 use Rattle.input_validate.specs.declared.findings.name.Name.TheVariants as name
 use Rattle.input_validate.specs.declared.findings.problem.Problem.TheVariants.{ValuelessOutput}
 use Rattle.input_validate.specs.declared.form.Form.{Form}
-use Rattle.input_validate.specs.declared.form.Form.TheVariants.{Applystream, Terraform}
+use Rattle.input_validate.specs.declared.form.Form.TheVariants.{Applystream, Terraform, TerraformPlan, TerraformApply}
 use Rattle.input_validate.specs.AgainstPlan.{change_at}
 use Rattle.input_validate.specs.Doubts.{doubts, doubts_for, doubts_of, failed_in_script, failure_of_step, failure_violation, failures_of_entry, first_valueless, is_update, named_in_script, needless_skips, output_changes, output_doubts, script_doubts, skip_of_step, skip_violation, skips_in_entry, tree_within, unheeded_failures, unheeded_in_entry, valueless_output}
 use Rattle.input_validate.specs.Findings.{finding_here, is_refusal}
@@ -68,6 +68,8 @@ tree_warns d (Some tree) = valueless_by (first_valueless d 0 (output_changes tre
 output_warns : (form : Form) (plan : List ℕ) (d : Data) → AreAll false (output_doubts form plan d)
 output_warns Applystream plan d = tt
 output_warns Terraform plan d = tree_warns d (tree_within plan)
+output_warns TerraformPlan plan d = tt
+output_warns TerraformApply plan d = tree_warns d (tree_within plan)
 
 of_warns : (form : Form) (lanes : Bool) (plan : List ℕ) (o : Option Data) → AreAll false (option_map_or (doubts_of form lanes plan) o [])
 of_warns form lanes plan None = tt

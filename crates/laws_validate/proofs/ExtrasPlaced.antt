@@ -66,7 +66,7 @@ extras_right R outputs notes plan d =
     (inside_right R (in_items (λ number. in_note)) name.Diagnostics d (λ all.
     items_right (below (Member name.Diagnostics) R) (λ number. in_note) all (λ n e. note_right (below (Item n) (below (Member name.Diagnostics) R)) (notes n) e))))
 
-extras_by : (R : List Segment → List Name → Type 0) (findings : Data → List Finding) (large : Bool) (o : Option Data) → ((d : Data) → AreRight R d (findings d))
+pub extras_by : (R : List Segment → List Name → Type 0) (findings : Data → List Finding) (large : Bool) (o : Option Data) → ((d : Data) → AreRight R d (findings d))
     → AreReported R o (if large then [] else option_map_or findings o [])
 extras_by R findings true None h = tt
 extras_by R findings true (Some d) h = tt

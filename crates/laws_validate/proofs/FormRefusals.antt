@@ -39,11 +39,13 @@ use Rattle.input_validate.specs.declared.findings.path.Segment.{Segment}
 use Rattle.input_validate.specs.declared.findings.path.Segment.TheVariants.{Item, Member, Other}
 use Rattle.input_validate.specs.declared.findings.expected.Expected.{Expected}
 use Rattle.input_validate.specs.declared.findings.expected.Expected.TheVariants as expected
-use Rattle.input_validate.specs.declared.form.Form.TheVariants.{Terraform}
+use Rattle.input_validate.specs.declared.form.Form.{Form}
+use Rattle.input_validate.specs.declared.form.Form.TheVariants.{Applystream, Terraform, TerraformPlan, TerraformApply}
 use Rattle.input_validate.specs.Extras.{extras_findings, in_extras, in_note, in_plan_output, in_plan_outputs, members_from, outputs_unless}
 use Rattle.input_validate.specs.Findings.{finding_at, is_refusal, under}
-use Rattle.input_validate.specs.InForm.{doubts_unless, findings_before_doubts, findings_in, is_refused}
-use Rattle.laws_validate.specs.Laws.{goes_to, has_refusal, has_refusal_to}
+use Rattle.input_validate.specs.InForm.{doubts_unless, extras_for, findings_before_doubts, findings_in, is_refused}
+use Rattle.input_validate.specs.Planning.{objects_unless, planning_findings}
+use Rattle.laws_validate.specs.Laws.{goes_to, has_refusal, has_refusal_to, reads_extras}
 use Rattle.input_validate.specs.Rules.{in_items, items_from, mismatch}
 use Rattle.input_validate.specs.Expectations.{is_met}
 use Rattle.input_validate.specs.Whole.{given_findings, plan_findings}
@@ -59,10 +61,10 @@ use Rattle.laws_validate.proofs.Spelt.{IsOf, mapped, null_text, read_back}
 abbrev is_to : ScriptError → Finding → Bool
 is_to refusal finding = is_refusal finding && goes_to refusal finding.path
 
-same_number : (n : ℕ) → nat_eq n n ≡ true
+pub same_number : (n : ℕ) → nat_eq n n ≡ true
 same_number n = grind (arith, nat_tests)
 
-and_one : (a b : Bool) → b ≡ true → (a && b) ≡ a
+pub and_one : (a b : Bool) → b ≡ true → (a && b) ≡ a
 and_one true b e = e
 and_one false b e = refl
 
@@ -76,7 +78,7 @@ any_left p xs ys e = list_any-append p xs ys ∙ ap (λ (b : Bool). b || list_an
 any_right : (p : Finding → Bool) (xs ys : List Finding) → list_any p ys ≡ true → list_any p (xs ++ ys) ≡ true
 any_right p xs ys e = list_any-append p xs ys ∙ or_true (list_any p xs) (list_any p ys) e
 
-not_clean : (xs : List Finding) → clean xs ≡ false → list_any is_refusal xs ≡ true
+pub not_clean : (xs : List Finding) → clean xs ≡ false → list_any is_refusal xs ≡ true
 not_clean xs e = sym (not_not (list_any is_refusal xs)) ∙ ap not e
 
 -- the findings of an item or a member with this number, in a member at the top
@@ -270,12 +272,23 @@ in_bytes saved plan bytes refusal accepted e =
     ∙ ap (λ (o : Option Data). has_refusal_to refusal (option_map_or (in_extras (Some plan)) o [])) of.tree_is
     ∙ (reported_extras plan refusal of.value of.tree of.is_of (ap (extras_of_json plan) (sym of.value_is) ∙ e))
 
-pub refusal_in_form : (lanes : Bool) (plan bytes : List ℕ) (saved : SavedPlan) (script : OutcomeMap) (details : DetailsOfPlan) (refusal : ScriptError) → plan_of plan ≡ Ok saved → script_of saved bytes ≡ Ok script
-    → details_of plan ≡ Some details → extras_of_bytes details.outputs bytes ≡ Err refusal → has_refusal_to refusal (findings_in Terraform lanes plan (Some bytes)) ≡ true
-refusal_in_form lanes plan bytes saved script details refusal planned accepted reported e =
-    let fine : has_refusal (plan_findings plan) ≡ false = refusals_of_plan plan ∙ ap (λ (r : Result SavedPlan PlanError). is_err r) planned in
-    any_left (is_to refusal) (findings_before_doubts Terraform lanes plan (Some bytes)) (doubts_unless (is_refused Terraform lanes plan (Some bytes)) Terraform lanes plan (Some bytes))
-    (any_right (is_to refusal) (given_findings lanes (plan_of plan) (Some bytes)) (extras_findings (outputs_unless (has_refusal (plan_findings plan)) plan) bytes)
+-- what is found in these members is among all findings
+in_extras_for : (p : Finding → Bool) (form : Form) → reads_extras form ≡ true → (refused : Bool) (plan bytes : List ℕ) → list_any p (extras_findings (outputs_unless refused plan) bytes) ≡ true
+    → list_any p (extras_for form refused plan (Some bytes)) ≡ true
+in_extras_for p Applystream e refused plan bytes h = absurd cc
+in_extras_for p Terraform e refused plan bytes h = h
+in_extras_for p TerraformPlan e refused plan bytes h = any_left p (extras_findings (outputs_unless refused plan) bytes) (planning_findings (objects_unless refused plan) bytes) h
+in_extras_for p TerraformApply e refused plan bytes h = any_left p (extras_findings (outputs_unless refused plan) bytes) (planning_findings (objects_unless refused plan) bytes) h
+
+pub refusal_in_form : (form : Form) (lanes : Bool) (plan bytes : List ℕ) (saved : SavedPlan) (script : OutcomeMap) (details : DetailsOfPlan) (refusal : ScriptError) → reads_extras form ≡ true
+    → plan_of plan ≡ Ok saved → script_of saved bytes ≡ Ok script → details_of plan ≡ Some details → extras_of_bytes details.outputs bytes ≡ Err refusal
+    → has_refusal_to refusal (findings_in form lanes plan (Some bytes)) ≡ true
+refusal_in_form form lanes plan bytes saved script details refusal reads planned accepted reported e =
+    let refused : Bool = has_refusal (plan_findings plan) in
+    let fine : refused ≡ false = refusals_of_plan plan ∙ ap (λ (r : Result SavedPlan PlanError). is_err r) planned in
+    any_left (is_to refusal) (findings_before_doubts form lanes plan (Some bytes)) (doubts_unless (is_refused form lanes plan (Some bytes)) form lanes plan (Some bytes))
+    (any_right (is_to refusal) (given_findings lanes (plan_of plan) (Some bytes)) (extras_for form refused plan (Some bytes))
+    (in_extras_for (is_to refusal) form reads refused plan bytes
     (ap (λ (b : Bool). has_refusal_to refusal (extras_findings (outputs_unless b plan) bytes)) fine
     ∙ ap (λ (o : Option DetailsOfPlan). has_refusal_to refusal (extras_findings (option_map (λ it. it.outputs) o) bytes)) reported
-    ∙ (in_bytes saved details.outputs bytes refusal (ap (λ (r : Result OutcomeMap ScriptError). is_ok r) accepted) e)))
+    ∙ (in_bytes saved details.outputs bytes refusal (ap (λ (r : Result OutcomeMap ScriptError). is_ok r) accepted) e))))

@@ -1,5 +1,5 @@
 -- In Terraform's form too, there is an error if and only if a run refuses.
-use Rattle.std.proofs.Common.{◌≡◌, ◌≤◌, ℕ, List, [], ◌++◌, length, Bool, true, false, cond, not, ◌||◌, if◌then◌else◌, is_err, is_ok, is_some, Option, Some, None, Result, Ok, Err, refl, sym, ap, subst, ◌∙◌}
+use Rattle.std.proofs.Common.{◌≡◌, ◌≤◌, ℕ, List, [], ◌++◌, length, map, Bool, true, false, cond, not, ◌||◌, if◌then◌else◌, is_err, is_ok, is_some, Option, Some, None, Result, Ok, Err, refl, sym, ap, subst, ◌∙◌}
 use Rattle.std.specs.Prelude.{nat_lt, option_map}
 use Rattle.std.specs.Option.{option_map_or}
 use Rattle.std.specs.Str.{is_utf8}
@@ -13,7 +13,8 @@ use Rattle.json.proofs.Nesting.{value-depth}
 use Rattle.serde_json.specs.Data.{Data}
 use Rattle.serde_json.specs.Read.{max_depth, of_json, read}
 use Rattle.apply_json.specs.Verbatim.{mixed_tree_of}
-use Rattle.apply_json.specs.Tree.{tree_of}
+use Rattle.apply_json.specs.Tree.{◌>>=◌, tree_of}
+use Rattle.apply_model.specs.Plan.ResourceChange.{ResourceChange}
 use Rattle.apply_model.specs.Plan.SavedPlan.{SavedPlan}
 use Rattle.apply_model.specs.Script.OutcomeMap.{OutcomeMap}
 use Rattle.apply_plan.specs.Bytes.{max_bytes}
@@ -28,20 +29,27 @@ use Rattle.apply_plan_terraform.specs.Extras.{extras_of_bytes, extras_of_json}
 use Rattle.apply_plan_terraform.specs.Outputs.{OutputsOfPlan}
 use Rattle.apply_plan_terraform.specs.Texts.{json_of, json_of_text}
 use Rattle.apply_plan_terraform.specs.ReadDetails.{DetailsOfPlan, details_of}
+use Rattle.apply_prior.specs.Objects.{ObjectOfPlan}
+use Rattle.apply_prior.specs.Prior.{PriorOfPlan, object_view, prior_in, prior_of}
+use Rattle.apply_planning_script.specs.Planning.{said_of}
+use Rattle.apply_planning_script.specs.Told.{told_of}
 use Rattle.input_validate.specs.declared.findings.finding.Finding.{Finding}
 use Rattle.input_validate.specs.declared.form.Form.{Form}
-use Rattle.input_validate.specs.declared.form.Form.TheVariants.{Applystream, Terraform}
+use Rattle.input_validate.specs.declared.form.Form.TheVariants.{Applystream, Terraform, TerraformPlan, TerraformApply}
 use Rattle.input_validate.specs.Doubts.{doubts}
 use Rattle.input_validate.specs.Extras.{extras_findings, in_extras, outputs_unless}
 use Rattle.input_validate.specs.Findings.{is_refusal}
-use Rattle.input_validate.specs.InForm.{doubts_unless, extras_for, findings_before_doubts, findings_in, is_refused}
-use Rattle.laws_validate.specs.Laws.{has_refusal, refuses_extras, refuses_given, refuses_read, run_refuses, run_refuses_in}
+use Rattle.input_validate.specs.InForm.{doubts_unless, extras_for, findings_before_doubts, findings_in, is_refused, planned_extras, terraform_extras}
+use Rattle.input_validate.specs.Planning.{objects_unless, planning_findings}
+use Rattle.laws_validate.specs.Laws.{HasObjectsOf, IsPlannerOf, Planner, has_refusal, refuses_extras, refuses_given, refuses_planning, refuses_read, run_refuses, run_refuses_in}
 use Rattle.input_validate.specs.Whole.{given_findings, plan_findings}
 use Rattle.laws_validate.proofs.Alike.{both_trees, has_numbers, last_is}
 use Rattle.laws_validate.proofs.DoubtsWarn.{doubts_refuse_nothing}
 use Rattle.laws_validate.proofs.ExtrasRead.{clean_extras}
 use Rattle.laws_validate.proofs.VerbatimTrees.{behind}
 use Rattle.input_validate.proofs.Options.{not_not}
+use Rattle.input_validate.proofs.PriorNames.{objects_in, views_in}
+use Rattle.laws_validate.proofs.PlanningRuns.{planning_refused}
 use Rattle.laws_validate.proofs.Plans.{refusals_of_plan}
 use Rattle.laws_validate.proofs.Refused.{script_ok}
 use Rattle.laws_validate.proofs.Runs.{refusals_of_run}
@@ -160,11 +168,49 @@ with_extras lanes plan bytes takes =
     ∙ of_accepted both.0 it.0.outputs bytes both.2
     ∙ ap (λ (o : Option DetailsOfPlan). refuses_extras o bytes) (sym it.1)
 
-in_form : (form : Form) (lanes : Bool) (plan : List ℕ) (script : Option (List ℕ))
-    → (run_refuses lanes plan script || has_refusal (extras_for form (has_refusal (plan_findings plan)) plan script)) ≡ run_refuses_in form lanes plan script
-in_form Applystream lanes plan script = refl
-in_form Terraform lanes plan None = refl
-in_form Terraform lanes plan (Some bytes) = either (run_refuses lanes plan (Some bytes)) _ _ (with_extras lanes plan bytes)
+told_refused : {A B : Type 0} (r : Result A ScriptError) (f : A → B) → is_err (results.◌>>=◌ r (λ x. Ok (f x))) ≡ is_err r
+told_refused (Ok x) f = refl
+told_refused (Err refusal) f = refl
+
+-- the objects by which `planning` is validated are those of the planner
+pub known_objects : (plan : List ℕ) (saved : SavedPlan) (planner : Planner) → HasObjectsOf plan planner → plan_of plan ≡ Ok saved
+    → objects_unless (has_refusal (plan_findings plan)) plan ≡ Some (objects_in planner.objects)
+known_objects plan saved planner has planned =
+    let tree = is_there (tree_of plan) (tree_there plan saved planned) in
+    let fine : has_refusal (plan_findings plan) ≡ false = refusals_of_plan plan ∙ ap (λ (r : Result SavedPlan PlanError). is_err r) planned in
+    let prior : prior_of plan ≡ Some (prior_in tree.0) = ap (λ (o : Option Data). o >>= λ it. Some (prior_in it)) tree.1 in
+    let objects : map object_view planner.objects ≡ (prior_in tree.0).objects = has ∙ ap (λ (o : Option PriorOfPlan). option_map_or (λ it. it.objects) o []) prior in
+    ap (λ (b : Bool). objects_unless b plan) fine
+    ∙ ap (option_map (λ (it : PriorOfPlan). map (λ object. object.object) it.objects)) prior
+    ∙ ap (λ (all : List ObjectOfPlan). Some (map (λ (it : ObjectOfPlan). it.object) all)) (sym objects)
+    ∙ ap (λ (all : List ResourceChange). Some all) (views_in planner.objects)
+
+with_planning : (planner : Planner) (lanes : Bool) (plan bytes : List ℕ) → HasObjectsOf plan planner → run_refuses lanes plan (Some bytes) ≡ false
+    → has_refusal (planning_findings (objects_unless (has_refusal (plan_findings plan)) plan) bytes) ≡ refuses_planning planner bytes
+with_planning planner lanes plan bytes has takes =
+    let both = accepted_both lanes bytes (plan_of plan) takes in
+    let of = of_accepted_tree both.0 bytes both.2 in
+    let there : is_some (tree_of bytes) ≡ true = ap (λ (o : Option Data). is_some o) of.tree_is in
+    ap (λ (o : Option (List ResourceChange)). has_refusal (planning_findings o bytes)) (known_objects plan both.0 planner has both.1)
+    ∙ planning_refused planner.objects bytes of.small there
+    ∙ sym (told_refused (said_of planner.objects (Some bytes)) (told_of planner.rules planner.planned planner.objects))
+
+with_both : (planner : Planner) (lanes : Bool) (plan bytes : List ℕ) → HasObjectsOf plan planner → run_refuses lanes plan (Some bytes) ≡ false
+    → has_refusal (planned_extras (has_refusal (plan_findings plan)) plan bytes) ≡ (refuses_extras (details_of plan) bytes || refuses_planning planner bytes)
+with_both planner lanes plan bytes has takes =
+    let refused : Bool = has_refusal (plan_findings plan) in
+    let planning : List Finding = planning_findings (objects_unless refused plan) bytes in
+    list_any-append is_refusal (terraform_extras refused plan bytes) planning
+    ∙ ap (λ (b : Bool). b || has_refusal planning) (with_extras lanes plan bytes takes)
+    ∙ ap (λ (b : Bool). refuses_extras (details_of plan) bytes || b) (with_planning planner lanes plan bytes has takes)
+
+in_form : (form : Form) (planner : Planner) (lanes : Bool) (plan : List ℕ) (script : Option (List ℕ)) → IsPlannerOf form plan planner
+    → (run_refuses lanes plan script || has_refusal (extras_for form (has_refusal (plan_findings plan)) plan script)) ≡ run_refuses_in form planner lanes plan script
+in_form form planner lanes plan None fits = refl
+in_form Applystream planner lanes plan (Some bytes) fits = refl
+in_form Terraform planner lanes plan (Some bytes) fits = either (run_refuses lanes plan (Some bytes)) _ _ (with_extras lanes plan bytes)
+in_form TerraformPlan planner lanes plan (Some bytes) fits = either (run_refuses lanes plan (Some bytes)) _ _ (with_both planner lanes plan bytes (fits refl))
+in_form TerraformApply planner lanes plan (Some bytes) fits = either (run_refuses lanes plan (Some bytes)) _ _ (with_both planner lanes plan bytes (fits refl))
 
 or_false : (b : Bool) → (b || false) ≡ b
 or_false true = refl
@@ -179,28 +225,29 @@ before_doubts form lanes plan script =
     ∙ or_false (has_refusal before)
 
 -- a run refuses for one of the findings before the doubts
-refused_by_run : (form : Form) (lanes : Bool) (plan : List ℕ) (script : Option (List ℕ)) → is_refused form lanes plan script ≡ run_refuses_in form lanes plan script
-refused_by_run form lanes plan script =
+refused_by_run : (form : Form) (planner : Planner) (lanes : Bool) (plan : List ℕ) (script : Option (List ℕ)) → IsPlannerOf form plan planner
+    → is_refused form lanes plan script ≡ run_refuses_in form planner lanes plan script
+refused_by_run form planner lanes plan script fits =
     let extras : List Finding = extras_for form (has_refusal (plan_findings plan)) plan script in
     ap (λ (b : Bool). has_refusal (plan_findings plan) || b) (list_any-append is_refusal (given_findings lanes (plan_of plan) script) extras)
     ∙ or_assoc (has_refusal (plan_findings plan)) (has_refusal (given_findings lanes (plan_of plan) script)) (has_refusal extras)
     ∙ ap (λ (b : Bool). b || has_refusal extras) (refusals_of_run lanes plan script)
-    ∙ in_form form lanes plan script
+    ∙ in_form form planner lanes plan script fits
 
-pub refusals_in_form : (form : Form) (lanes : Bool) (plan : List ℕ) (script : Option (List ℕ))
-    → (has_refusal (plan_findings plan) || has_refusal (findings_in form lanes plan script)) ≡ run_refuses_in form lanes plan script
-refusals_in_form form lanes plan script =
-    ap (λ (b : Bool). has_refusal (plan_findings plan) || b) (before_doubts form lanes plan script) ∙ refused_by_run form lanes plan script
+pub refusals_in_form : (form : Form) (planner : Planner) (lanes : Bool) (plan : List ℕ) (script : Option (List ℕ)) → IsPlannerOf form plan planner
+    → (has_refusal (plan_findings plan) || has_refusal (findings_in form lanes plan script)) ≡ run_refuses_in form planner lanes plan script
+refusals_in_form form planner lanes plan script fits =
+    ap (λ (b : Bool). has_refusal (plan_findings plan) || b) (before_doubts form lanes plan script) ∙ refused_by_run form planner lanes plan script fits
 
 -- where a run refuses, there are no doubts
-pub none_where_refused : (form : Form) (lanes : Bool) (plan : List ℕ) (script : Option (List ℕ)) → run_refuses_in form lanes plan script ≡ true
+pub none_where_refused : (form : Form) (planner : Planner) (lanes : Bool) (plan : List ℕ) (script : Option (List ℕ)) → IsPlannerOf form plan planner → run_refuses_in form planner lanes plan script ≡ true
     → findings_in form lanes plan script ≡ findings_before_doubts form lanes plan script
-none_where_refused form lanes plan script refuses =
+none_where_refused form planner lanes plan script fits refuses =
     let before : List Finding = findings_before_doubts form lanes plan script in
-    ap (λ (refused : Bool). before ++ doubts_unless refused form lanes plan script) (refused_by_run form lanes plan script ∙ refuses) ∙ append-nil before
+    ap (λ (refused : Bool). before ++ doubts_unless refused form lanes plan script) (refused_by_run form planner lanes plan script fits ∙ refuses) ∙ append-nil before
 
-pub all_where_accepted : (form : Form) (lanes : Bool) (plan : List ℕ) (script : Option (List ℕ)) → run_refuses_in form lanes plan script ≡ false
+pub all_where_accepted : (form : Form) (planner : Planner) (lanes : Bool) (plan : List ℕ) (script : Option (List ℕ)) → IsPlannerOf form plan planner → run_refuses_in form planner lanes plan script ≡ false
     → findings_in form lanes plan script ≡ findings_before_doubts form lanes plan script ++ doubts form lanes plan script
-all_where_accepted form lanes plan script accepts =
+all_where_accepted form planner lanes plan script fits accepts =
     let before : List Finding = findings_before_doubts form lanes plan script in
-    ap (λ (refused : Bool). before ++ doubts_unless refused form lanes plan script) (refused_by_run form lanes plan script ∙ accepts)
+    ap (λ (refused : Bool). before ++ doubts_unless refused form lanes plan script) (refused_by_run form planner lanes plan script fits ∙ accepts)

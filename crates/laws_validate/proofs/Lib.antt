@@ -28,6 +28,12 @@ pub mod NoneLeft
 pub mod Outputs
 pub mod Placing
 pub mod PlanRefusals
+pub mod PlannedEntries
+pub mod PlannedReads
+pub mod PlanningPlaced
+pub mod PlanningRefusals
+pub mod PlanningRuns
+pub mod PlanningWarns
 pub mod Plans
 pub mod PlansPlaced
 pub mod PlansRefuse

@@ -37,7 +37,7 @@ diagnostic_right : (R : List Segment → List Name → Type 0) → R [] diagnost
 unfolding in_diagnostic
 diagnostic_right R r d = where_right R expected.Diagnostic d (λ o. o) (of_table R diagnostic_table d) (of_unread R diagnostic_names d r ∷ [])
 
-failure_right : (R : List Segment → List Name → Type 0) → R [] failure_names → (d : Data) → AreRight R d (in_failure d)
+pub failure_right : (R : List Segment → List Name → Type 0) → R [] failure_names → (d : Data) → AreRight R d (in_failure d)
 unfolding in_failure
 failure_right R r d = where_right R expected.Diagnostic d (λ o. o) (of_table R failure_table d) (of_unread R failure_names d r ∷ [])
 

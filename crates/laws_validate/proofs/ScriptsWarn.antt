@@ -49,7 +49,7 @@ unfolding in_diagnostic
 diagnostic_warns d =
     warns_in [] diagnostic_names expected.Diagnostic d (faults_of diagnostic_table d) (ignored diagnostic_names d ∷ []) 0 (ignored diagnostic_names d) refl (λ o. o) refl (unread_warns diagnostic_names d)
 
-failure_warns : (d : Data) → Warns [] failure_names d (in_failure d)
+pub failure_warns : (d : Data) → Warns [] failure_names d (in_failure d)
 unfolding in_failure
 failure_warns d =
     warns_in [] failure_names expected.Diagnostic d (faults_of failure_table d) (ignored failure_names d ∷ []) 0 (ignored failure_names d) refl (λ o. o) refl (unread_warns failure_names d)

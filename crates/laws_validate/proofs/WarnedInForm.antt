@@ -1,6 +1,6 @@
 -- In either form, findings stand at their places, and `validate` warns of exactly the members that
 -- no such run reads.
-use Rattle.std.proofs.Common.{◌≡◌, ◌↔◌, ℕ, List, [], ◌∷◌, ◌++◌, length, Bool, false, Contains, slice_get, Option, Some, None, if◌then◌else◌, refl, sym, subst}
+use Rattle.std.proofs.Common.{◌≡◌, ◌↔◌, ℕ, List, [], ◌∷◌, ◌++◌, length, Bool, true, false, Contains, slice_get, Option, Some, None, if◌then◌else◌, refl, sym, subst}
 use Rattle.std.specs.Prelude.{nat_lt}
 use Rattle.std.specs.List.{list_any}
 use Rattle.std.specs.Option.{option_map_or}
@@ -9,6 +9,7 @@ use Rattle.serde_json.specs.Data.{Data}
 use Rattle.apply_plan_terraform.specs.Outputs.{OutputsOfPlan}
 use Rattle.apply_json.specs.ShallowView.{members_in}
 use Rattle.apply_json.specs.Tree.{tree_of}
+use Rattle.apply_model.specs.Plan.ResourceChange.{ResourceChange}
 use Rattle.apply_plan.specs.Bytes.{max_bytes}
 use Rattle.apply_plan.specs.Plan.SavedPlan.{plan_of}
 use Rattle.input_validate.specs.declared.findings.finding.Finding.{Finding}
@@ -19,19 +20,24 @@ use Rattle.input_validate.specs.declared.findings.path.Segment.TheVariants.{Item
 use Rattle.input_validate.specs.declared.findings.problem.Problem.{Problem}
 use Rattle.input_validate.specs.declared.findings.problem.Problem.TheVariants.{IsMissing, NotRead}
 use Rattle.input_validate.specs.declared.form.Form.{Form}
-use Rattle.input_validate.specs.declared.form.Form.TheVariants.{Applystream, Terraform}
+use Rattle.input_validate.specs.declared.form.Form.TheVariants.{Applystream, Terraform, TerraformPlan, TerraformApply}
 use Rattle.input_validate.specs.Extras.{extras_findings, in_extras, note_names, outputs_unless, plan_output_names}
 use Rattle.input_validate.specs.Findings.{is_refusal}
-use Rattle.input_validate.specs.InForm.{doubts_unless, extras_for, findings_before_doubts, findings_in, is_refused}
+use Rattle.input_validate.specs.InForm.{doubts_unless, extras_for, findings_before_doubts, findings_in, is_refused, planned_extras, terraform_extras}
+use Rattle.input_validate.specs.Planning.{in_planning, objects_unless, planned_names, planning_findings}
 use Rattle.input_validate.specs.Rules.{is_known, texts_in}
+use Rattle.input_validate.specs.ScriptFindings.{failure_names}
 use Rattle.input_validate.specs.Whole.{given_findings, plan_findings}
+use Rattle.laws_validate.specs.Laws.{reads_extras, reads_planning}
 use Rattle.laws_validate.specs.Paths.{ArePlaced, value_at}
 use Rattle.laws_validate.specs.IgnoredMembers.{IsRead, IsIgnored, warning_at}
-use Rattle.laws_validate.specs.IgnoredInForm.{IsReadIn, always, note, plan_output}
+use Rattle.laws_validate.specs.IgnoredInForm.{IsReadIn, always, failure, note, plan_output, planned}
 use Rattle.laws_validate.proofs.BytesPlaced.{AreReported, both_reported, none_reported, reported_placed}
 use Rattle.laws_validate.proofs.DoubtsPlaced.{doubts_reported}
 use Rattle.laws_validate.proofs.ExtrasPlaced.{extras_reported}
 use Rattle.laws_validate.proofs.ExtrasWarn.{notes_warn, outputs_warn}
+use Rattle.laws_validate.proofs.PlanningPlaced.{planning_reported}
+use Rattle.laws_validate.proofs.PlanningWarns.{failures_warn, planned_warn}
 use Rattle.laws_validate.proofs.Placing.{AreRight, IsRight, Right}
 use Rattle.laws_validate.proofs.RefusalsPlaced.{given_reported}
 use Rattle.laws_validate.proofs.Warned.{in_given, unique, unknown_in}
@@ -63,9 +69,17 @@ reported_more : (form : Form) (o : Option Data) (all : List Finding) → AreRepo
 reported_more form None all h = h
 reported_more form (Some d) all h = right_more form d all h
 
+planned_reported : (form : Form) → reads_extras form ≡ true → reads_planning form ≡ true → (refused : Bool) (plan script : List ℕ) → AreReported (IsReadIn form) (tree_of script) (planned_extras refused plan script)
+planned_reported form extras planning refused plan script =
+    both_reported (IsReadIn form) (tree_of script) (terraform_extras refused plan script) (planning_findings (objects_unless refused plan) script)
+    (extras_reported (IsReadIn form) (plan_output extras) (note extras) (outputs_unless refused plan) script)
+    (planning_reported (IsReadIn form) (planned planning) (failure planning) (objects_unless refused plan) script)
+
 form_extras_reported : (form : Form) (refused : Bool) (plan script : List ℕ) → AreReported (IsReadIn form) (tree_of script) (extras_for form refused plan (Some script))
 form_extras_reported Applystream refused plan script = none_reported (IsReadIn Applystream) (tree_of script)
-form_extras_reported Terraform refused plan script = extras_reported (IsReadIn Terraform) plan_output note (outputs_unless refused plan) script
+form_extras_reported Terraform refused plan script = extras_reported (IsReadIn Terraform) (plan_output refl) (note refl) (outputs_unless refused plan) script
+form_extras_reported TerraformPlan refused plan script = planned_reported TerraformPlan refl refl refused plan script
+form_extras_reported TerraformApply refused plan script = planned_reported TerraformApply refl refl refused plan script
 
 before_reported : (form : Form) (lanes : Bool) (plan script : List ℕ) → AreReported (IsReadIn form) (tree_of script) (findings_before_doubts form lanes plan (Some script))
 before_reported form lanes plan script =
@@ -94,20 +108,59 @@ in_extras_findings : (front : List Segment) (names : List Name) (plan : Option O
 in_extras_findings front names plan script tree small is h value n text at has unknown =
     extras_in_tree (nat_lt max_bytes (length script)) (tree_of script) tree (in_extras plan) (warning_at (front ++ Other n ∷ [])) small is (h value n text at has unknown)
 
+in_planning_findings : (front : List Segment) (names : List Name) (objects : Option (List ResourceChange)) (script : List ℕ) (tree : Data) → nat_lt max_bytes (length script) ≡ false → tree_of script ≡ Some tree
+    → Warns front names tree (in_planning objects tree) → Warns front names tree (planning_findings objects script)
+in_planning_findings front names objects script tree small is h value n text at has unknown =
+    extras_in_tree (nat_lt max_bytes (length script)) (tree_of script) tree (in_planning objects) (warning_at (front ++ Other n ∷ [])) small is (h value n text at has unknown)
+
+-- the findings of a part are among all of them
+extras_part : (form : Form) → reads_extras form ≡ true → (refused : Bool) (plan script : List ℕ) (x : Finding) → Has x (terraform_extras refused plan script) → Has x (extras_for form refused plan (Some script))
+extras_part Applystream e refused plan script x h = absurd cc
+extras_part Terraform e refused plan script x h = h
+extras_part TerraformPlan e refused plan script x h = has_left x (terraform_extras refused plan script) (planning_findings (objects_unless refused plan) script) h
+extras_part TerraformApply e refused plan script x h = has_left x (terraform_extras refused plan script) (planning_findings (objects_unless refused plan) script) h
+
+planning_part : (form : Form) → reads_planning form ≡ true → (refused : Bool) (plan script : List ℕ) (x : Finding) → Has x (planning_findings (objects_unless refused plan) script)
+    → Has x (extras_for form refused plan (Some script))
+planning_part Applystream e refused plan script x h = absurd cc
+planning_part Terraform e refused plan script x h = absurd cc
+planning_part TerraformPlan e refused plan script x h = has_right x (terraform_extras refused plan script) (planning_findings (objects_unless refused plan) script) h
+planning_part TerraformApply e refused plan script x h = has_right x (terraform_extras refused plan script) (planning_findings (objects_unless refused plan) script) h
+
 before_warn : {form : Form} {front : List Segment} {names : List Name} → IsReadIn form front names → (lanes : Bool) (plan script : List ℕ) (tree : Data)
     → nat_lt max_bytes (length script) ≡ false → tree_of script ≡ Some tree → Warns front names tree (findings_before_doubts form lanes plan (Some script))
 before_warn {form} {front} {names} (always reads) lanes plan script tree small is value n text at has unknown =
     has_left (warning_at (front ++ Other n ∷ [])) (given_findings lanes (plan_of plan) (Some script)) (extras_for form (list_any is_refusal (plan_findings plan)) plan (Some script))
     (in_given lanes (plan_of plan) script tree (front ++ Other n ∷ []) small is
     (record { front = front; number = n; names = names; value = value; text = text; reads = reads; path_is = refl; value_is = at; text_is = has; unknown = unknown }))
-before_warn (plan_output k) lanes plan script tree small is value n text at has unknown =
-    let outputs : Option OutputsOfPlan = outputs_unless (list_any is_refusal (plan_findings plan)) plan in
-    has_right (warning_at (Member name.Outputs ∷ Other k ∷ Other n ∷ [])) (given_findings lanes (plan_of plan) (Some script)) (extras_findings outputs script)
-    (in_extras_findings (Member name.Outputs ∷ Other k ∷ []) plan_output_names outputs script tree small is (outputs_warn outputs tree k) value n text at has unknown)
-before_warn (note k) lanes plan script tree small is value n text at has unknown =
-    let outputs : Option OutputsOfPlan = outputs_unless (list_any is_refusal (plan_findings plan)) plan in
-    has_right (warning_at (Member name.Diagnostics ∷ Item k ∷ Other n ∷ [])) (given_findings lanes (plan_of plan) (Some script)) (extras_findings outputs script)
-    (in_extras_findings (Member name.Diagnostics ∷ Item k ∷ []) note_names outputs script tree small is (notes_warn outputs tree k) value n text at has unknown)
+before_warn {form} (plan_output e k) lanes plan script tree small is value n text at has unknown =
+    let refused : Bool = list_any is_refusal (plan_findings plan) in
+    let outputs : Option OutputsOfPlan = outputs_unless refused plan in
+    let x : Finding = warning_at (Member name.Outputs ∷ Other k ∷ Other n ∷ []) in
+    has_right x (given_findings lanes (plan_of plan) (Some script)) (extras_for form refused plan (Some script))
+    (extras_part form e refused plan script x
+    (in_extras_findings (Member name.Outputs ∷ Other k ∷ []) plan_output_names outputs script tree small is (outputs_warn outputs tree k) value n text at has unknown))
+before_warn {form} (note e k) lanes plan script tree small is value n text at has unknown =
+    let refused : Bool = list_any is_refusal (plan_findings plan) in
+    let outputs : Option OutputsOfPlan = outputs_unless refused plan in
+    let x : Finding = warning_at (Member name.Diagnostics ∷ Item k ∷ Other n ∷ []) in
+    has_right x (given_findings lanes (plan_of plan) (Some script)) (extras_for form refused plan (Some script))
+    (extras_part form e refused plan script x
+    (in_extras_findings (Member name.Diagnostics ∷ Item k ∷ []) note_names outputs script tree small is (notes_warn outputs tree k) value n text at has unknown))
+before_warn {form} (planned e k) lanes plan script tree small is value n text at has unknown =
+    let refused : Bool = list_any is_refusal (plan_findings plan) in
+    let objects : Option (List ResourceChange) = objects_unless refused plan in
+    let x : Finding = warning_at (Member name.Planning ∷ Item k ∷ Other n ∷ []) in
+    has_right x (given_findings lanes (plan_of plan) (Some script)) (extras_for form refused plan (Some script))
+    (planning_part form e refused plan script x
+    (in_planning_findings (Member name.Planning ∷ Item k ∷ []) planned_names objects script tree small is (planned_warn objects tree k) value n text at has unknown))
+before_warn {form} (failure e k) lanes plan script tree small is value n text at has unknown =
+    let refused : Bool = list_any is_refusal (plan_findings plan) in
+    let objects : Option (List ResourceChange) = objects_unless refused plan in
+    let x : Finding = warning_at (Member name.Planning ∷ Item k ∷ Member name.Failed ∷ Other n ∷ []) in
+    has_right x (given_findings lanes (plan_of plan) (Some script)) (extras_for form refused plan (Some script))
+    (planning_part form e refused plan script x
+    (in_planning_findings (Member name.Planning ∷ Item k ∷ Member name.Failed ∷ []) failure_names objects script tree small is (failures_warn objects tree k) value n text at has unknown))
 
 findings_warn : {form : Form} {front : List Segment} {names : List Name} → IsReadIn form front names → (lanes : Bool) (plan script : List ℕ) (tree : Data)
     → nat_lt max_bytes (length script) ≡ false → tree_of script ≡ Some tree → Warns front names tree (findings_in form lanes plan (Some script))
@@ -139,14 +192,26 @@ no_output h = elim h [ ]
 no_note : {n : ℕ} {names : List Name} → IsRead (Member name.Diagnostics ∷ Item n ∷ []) names → ⊥
 no_note h = elim h [ ]
 
+no_planned : {n : ℕ} {names : List Name} → IsRead (Member name.Planning ∷ Item n ∷ []) names → ⊥
+no_planned h = elim h [ ]
+
+no_failure : {n : ℕ} {names : List Name} → IsRead (Member name.Planning ∷ Item n ∷ Member name.Failed ∷ []) names → ⊥
+no_failure h = elim h [ ]
+
 unique_in : {form : Form} {front : List Segment} {names others : List Name} → IsReadIn form front names → IsReadIn form front others → names ≡ others
 unique_in (always r) (always s) = unique r s
-unique_in (always r) (plan_output n) = absurd (no_output r)
-unique_in (always r) (note n) = absurd (no_note r)
-unique_in (plan_output n) (always s) = absurd (no_output s)
-unique_in (plan_output n) (plan_output m) = refl
-unique_in (note n) (always s) = absurd (no_note s)
-unique_in (note n) (note m) = refl
+unique_in (always r) (plan_output e n) = absurd (no_output r)
+unique_in (always r) (note e n) = absurd (no_note r)
+unique_in (always r) (planned e n) = absurd (no_planned r)
+unique_in (always r) (failure e n) = absurd (no_failure r)
+unique_in (plan_output e n) (always s) = absurd (no_output s)
+unique_in (plan_output e n) (plan_output f m) = refl
+unique_in (note e n) (always s) = absurd (no_note s)
+unique_in (note e n) (note f m) = refl
+unique_in (planned e n) (always s) = absurd (no_planned s)
+unique_in (planned e n) (planned f m) = refl
+unique_in (failure e n) (always s) = absurd (no_failure s)
+unique_in (failure e n) (failure f m) = refl
 
 pub warned_of_in_form : (form : Form) (lanes : Bool) (plan script : List ℕ) (tree : Data) (front : List Segment) (names : List Name) (value : Data) (n : ℕ) (text : List ℕ)
     → nat_lt max_bytes (length script) ≡ false → tree_of script ≡ Some tree → IsReadIn form front names → value_at front tree ≡ Some value → slice_get (texts_in (members_in value)) n ≡ Some text

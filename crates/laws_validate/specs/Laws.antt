@@ -1,5 +1,5 @@
 -- What a run refuses, and which finding reports it.
-use Rattle.std.specs.Prelude.{ℕ, List, [], ◌∷◌, length, Bool, true, false, ◌&&◌, ◌||◌, not, is_err, nat_eq, nat_lt, if◌then◌else◌, Option, Some, None, Result, Ok, Err}
+use Rattle.std.specs.Prelude.{◌≡◌, ℕ, List, [], ◌∷◌, length, map, Bool, true, false, ◌&&◌, ◌||◌, not, is_err, nat_eq, nat_lt, if◌then◌else◌, Option, Some, None, Result, Ok, Err}
 use Rattle.std.specs.List.{list_all, list_any}
 use Rattle.std.specs.Option.{option_map_or}
 use Rattle.serde_json.specs.Data.{Data}
@@ -13,6 +13,7 @@ use Rattle.apply_model.specs.Script.Waits.{has_waits}
 use Rattle.apply_plan.specs.Bytes.{max_bytes}
 use Rattle.apply_plan.specs.declared.plan.plan_error.PlanError.{PlanError}
 use Rattle.apply_plan.specs.declared.plan.plan_error.PlanError.TheVariants as plan_error
+use Rattle.apply_plan.specs.declared.script.planning_error.PlanningError.TheVariants as planning
 use Rattle.apply_plan.specs.declared.script.script_error.ScriptError.{ScriptError}
 use Rattle.apply_plan.specs.declared.script.script_error.ScriptError.TheVariants as error
 use Rattle.apply_plan.specs.Plan.SavedPlan.{plan_of}
@@ -20,6 +21,11 @@ use Rattle.apply_plan.specs.Script.Entry.{EntryStep, entry_of, is_verbatim_name}
 use Rattle.apply_plan.specs.Script.OutcomeMap.{elements_of, script_of}
 use Rattle.apply_plan_terraform.specs.Extras.{extras_of_bytes}
 use Rattle.apply_plan_terraform.specs.ReadDetails.{DetailsOfPlan, details_of}
+use Rattle.apply_prior.specs.declared.prior_object.PriorObject.{PriorObject}
+use Rattle.apply_prior.specs.Prior.{object_view, prior_of}
+use Rattle.apply_planning_script.specs.declared.rules.PlanningRules.{PlanningRules}
+use Rattle.apply_planning_script.specs.Rules.{PlannedObjects}
+use Rattle.apply_planning_script.specs.Told.{told_by_script}
 use Rattle.input_validate.specs.declared.findings.finding.Finding.{Finding}
 use Rattle.input_validate.specs.declared.findings.name.Name.TheVariants as name
 use Rattle.input_validate.specs.declared.findings.path.Segment.{Segment}
@@ -28,7 +34,7 @@ use Rattle.input_validate.specs.declared.findings.expected.Expected.TheVariants 
 use Rattle.input_validate.specs.declared.findings.problem.Problem.{Problem}
 use Rattle.input_validate.specs.declared.findings.problem.Problem.TheVariants as problem
 use Rattle.input_validate.specs.declared.form.Form.{Form}
-use Rattle.input_validate.specs.declared.form.Form.TheVariants.{Applystream, Terraform}
+use Rattle.input_validate.specs.declared.form.Form.TheVariants.{Applystream, Terraform, TerraformPlan, TerraformApply}
 use Rattle.input_validate.specs.Findings.{is_refusal}
 use Rattle.input_validate.specs.Whole.{entry_of_refusal}
 
@@ -86,15 +92,55 @@ run_refuses lanes plan script = refuses_given lanes (plan_of plan) script
 abbrev pub refuses_extras : Option DetailsOfPlan → List ℕ → Bool
 refuses_extras details bytes = option_map_or (λ it. is_err (extras_of_bytes it.outputs bytes)) details true
 
--- the same for a run in this form, if a script is given
-abbrev pub refuses_extras_in : Form → List ℕ → Option (List ℕ) → Bool
-refuses_extras_in Applystream plan script = false
-refuses_extras_in Terraform plan None = false
-refuses_extras_in Terraform plan (Some bytes) = refuses_extras (details_of plan) bytes
+-- how a command that makes its plan takes what a script says of the planning: its rules, what the
+-- plan says of objects, and the objects that the plan knows before it is made
+pub record Planner : Type 0 where
+  pub rules : PlanningRules
+  pub planned : PlannedObjects
+  pub objects : List PriorObject
+
+-- the objects are those that the bytes of a plan have
+abbrev pub HasObjectsOf : List ℕ → Planner → Type 0
+HasObjectsOf plan planner = map object_view planner.objects ≡ option_map_or (λ prior. prior.objects) (prior_of plan) []
+
+-- a command that makes its plan refuses what a script says of the planning
+abbrev pub refuses_planning : Planner → List ℕ → Bool
+refuses_planning planner bytes = is_err (told_by_script planner.rules planner.planned planner.objects (Some bytes))
+
+-- a run in this form refuses the members of a script that only such a run reads; `planner` counts
+-- only for a command that makes its plan
+abbrev pub refuses_extras_of : Form → Planner → List ℕ → List ℕ → Bool
+refuses_extras_of Applystream planner plan bytes = false
+refuses_extras_of Terraform planner plan bytes = refuses_extras (details_of plan) bytes
+refuses_extras_of TerraformPlan planner plan bytes = refuses_extras (details_of plan) bytes || refuses_planning planner bytes
+refuses_extras_of TerraformApply planner plan bytes = refuses_extras (details_of plan) bytes || refuses_planning planner bytes
+
+-- the same if a script is given
+abbrev pub refuses_extras_in : Form → Planner → List ℕ → Option (List ℕ) → Bool
+refuses_extras_in form planner plan None = false
+refuses_extras_in form planner plan (Some bytes) = refuses_extras_of form planner plan bytes
+
+-- the form is that of a command that makes its plan
+abbrev pub reads_planning : Form → Bool
+reads_planning Applystream = false
+reads_planning Terraform = false
+reads_planning TerraformPlan = true
+reads_planning TerraformApply = true
+
+-- the form is Terraform's
+abbrev pub reads_extras : Form → Bool
+reads_extras Applystream = false
+reads_extras Terraform = true
+reads_extras TerraformPlan = true
+reads_extras TerraformApply = true
+
+-- the planner is one of a run of this form of the plan
+abbrev pub IsPlannerOf : Form → List ℕ → Planner → Type 0
+IsPlannerOf form plan planner = reads_planning form ≡ true → HasObjectsOf plan planner
 
 -- a run in this form refuses the bytes, unless memory is refused first
-abbrev pub run_refuses_in : Form → (lanes : Bool) → List ℕ → Option (List ℕ) → Bool
-run_refuses_in form lanes plan script = run_refuses lanes plan script || refuses_extras_in form plan script
+abbrev pub run_refuses_in : Form → Planner → (lanes : Bool) → List ℕ → Option (List ℕ) → Bool
+run_refuses_in form planner lanes plan script = run_refuses lanes plan script || refuses_extras_in form planner plan script
 
 -- a path goes to what this refusal names, among the members that only Terraform's form reads
 abbrev pub goes_to : ScriptError → List Segment → Bool
@@ -108,6 +154,20 @@ goes_to _ _ = false
 -- one of the findings is an error there
 abbrev pub has_refusal_to : ScriptError → List Finding → Bool
 has_refusal_to refusal all = list_any (λ finding. is_refusal finding && goes_to refusal finding.path) all
+
+-- a path goes to what this refusal of `planning` names
+abbrev pub goes_to_planned : ScriptError → List Segment → Bool
+goes_to_planned (error.BadShape None) (Member name.Planning ∷ []) = true
+goes_to_planned (error.Planning planning.TooMany) (Member name.Planning ∷ []) = true
+goes_to_planned (error.Planning (planning.Malformed n)) (Member name.Planning ∷ Item m ∷ parts) = nat_eq m n
+goes_to_planned (error.Planning (planning.NoObject n)) (Member name.Planning ∷ Item m ∷ parts) = nat_eq m n
+goes_to_planned (error.Planning (planning.Misfits n)) (Member name.Planning ∷ Item m ∷ parts) = nat_eq m n
+goes_to_planned (error.Planning (planning.Repeated n)) (Member name.Planning ∷ Item m ∷ parts) = nat_eq m n
+goes_to_planned _ _ = false
+
+-- one of the findings is an error there
+abbrev pub has_refusal_to_planned : ScriptError → List Finding → Bool
+has_refusal_to_planned refusal all = list_any (λ finding. is_refusal finding && goes_to_planned refusal finding.path) all
 
 -- ---- what a run refuses a plan for
 

@@ -10,11 +10,11 @@ ghost use Rattle.apply_plan.specs.Script.OutcomeMap.{script_of};
 ghost use Rattle.apply_plan.specs.declared.script.script_error.ScriptError.{ScriptError};
 ghost use Rattle.apply_plan_terraform.specs.Extras.{extras_of_bytes};
 ghost use Rattle.apply_plan_terraform.specs.ReadDetails.{DetailsOfPlan, details_of};
+ghost use Rattle.apply_planning_script.specs.Told.{told_by_script};
 ghost use Rattle.input_validate.specs.declared.form.Form.{Form};
-ghost use Rattle.input_validate.specs.declared.form.Form.TheVariants.{Terraform};
 ghost use Rattle.input_validate.specs.Doubts.{doubts};
 ghost use Rattle.input_validate.specs.InForm.{findings_before_doubts, findings_in};
-ghost use Rattle.laws_validate.specs.Laws.{are_script, has_refusal, has_refusal_in, has_refusal_of, has_refusal_to, has_script_refusal, run_refuses, run_refuses_in};
+ghost use Rattle.laws_validate.specs.Laws.{HasObjectsOf, IsPlannerOf, Planner, are_script, has_refusal, has_refusal_in, has_refusal_of, has_refusal_to, has_refusal_to_planned, has_script_refusal, reads_extras, reads_planning, run_refuses, run_refuses_in};
 ghost use Rattle.input_validate.specs.Whole.{after_first, entry_of_refusal, given_findings, plan_findings, refused_for, script_findings, stuck_entries, waits_without_lanes};
 
 /// A plan has an error if and only if a run refuses the plan.
@@ -36,20 +36,21 @@ pub fn findings_are_refusals_of_a_run()
         → (has_refusal (plan_findings plan) || has_refusal (given_findings lanes (plan_of plan) script)) ≡ run_refuses lanes plan script }
 {}
 
-/// The same holds in either form. A run in Terraform's form also refuses wrong `outputs` and
-/// `diagnostics` at the top of the script.
+/// The same holds in each form. A run in Terraform's form also refuses wrong `outputs` and
+/// `diagnostics` at the top of the script. A command that makes its plan also refuses a wrong
+/// `planning`, by the objects that the plan has before it is made.
 pub fn findings_are_refusals_of_a_run_in_its_form()
-    ensures { (form : Form) (lanes : Bool) (plan : List ℕ) (script : Option (List ℕ))
-        → (has_refusal (plan_findings plan) || has_refusal (findings_in form lanes plan script)) ≡ run_refuses_in form lanes plan script }
+    ensures { (form : Form) (planner : Planner) (lanes : Bool) (plan : List ℕ) (script : Option (List ℕ)) → IsPlannerOf form plan planner
+        → (has_refusal (plan_findings plan) || has_refusal (findings_in form lanes plan script)) ≡ run_refuses_in form planner lanes plan script }
 {}
 
 /// Doubts follow all other findings of a script. There are none if a run in this form refuses the
 /// plan or the script.
 pub fn doubts_are_of_accepted_scripts()
-    ensures refused { (form : Form) (lanes : Bool) (plan : List ℕ) (script : Option (List ℕ))
-        → run_refuses_in form lanes plan script ≡ true → findings_in form lanes plan script ≡ findings_before_doubts form lanes plan script }
-    ensures accepted { (form : Form) (lanes : Bool) (plan : List ℕ) (script : Option (List ℕ))
-        → run_refuses_in form lanes plan script ≡ false → findings_in form lanes plan script
+    ensures refused { (form : Form) (planner : Planner) (lanes : Bool) (plan : List ℕ) (script : Option (List ℕ)) → IsPlannerOf form plan planner
+        → run_refuses_in form planner lanes plan script ≡ true → findings_in form lanes plan script ≡ findings_before_doubts form lanes plan script }
+    ensures accepted { (form : Form) (planner : Planner) (lanes : Bool) (plan : List ℕ) (script : Option (List ℕ)) → IsPlannerOf form plan planner
+        → run_refuses_in form planner lanes plan script ≡ false → findings_in form lanes plan script
         ≡ findings_before_doubts form lanes plan script ++ doubts form lanes plan script }
 {}
 
@@ -80,9 +81,18 @@ pub fn each_entry_that_never_begins_is_reported()
 /// If a run in Terraform's form refuses `outputs` or `diagnostics`, an error is reported where the
 /// refusal points. That is the output or the diagnostic with its number, or the member itself.
 pub fn the_refusal_of_a_run_in_terraforms_form_is_reported()
-    ensures { (lanes : Bool) (plan bytes : List ℕ) (saved : SavedPlan) (script : OutcomeMap) (details : DetailsOfPlan) (refusal : ScriptError)
-        → plan_of plan ≡ Ok saved → script_of saved bytes ≡ Ok script → details_of plan ≡ Some details
-        → extras_of_bytes details.outputs bytes ≡ Err refusal → has_refusal_to refusal (findings_in Terraform lanes plan (Some bytes)) ≡ true }
+    ensures { (form : Form) (lanes : Bool) (plan bytes : List ℕ) (saved : SavedPlan) (script : OutcomeMap) (details : DetailsOfPlan) (refusal : ScriptError)
+        → reads_extras form ≡ true → plan_of plan ≡ Ok saved → script_of saved bytes ≡ Ok script → details_of plan ≡ Some details
+        → extras_of_bytes details.outputs bytes ≡ Err refusal → has_refusal_to refusal (findings_in form lanes plan (Some bytes)) ≡ true }
+{}
+
+/// If a command that makes its plan refuses `planning` of a script, an error is reported where the
+/// refusal points. That is the entry with its number, or the member itself.
+pub fn the_refusal_of_planning_is_reported()
+    ensures { (form : Form) (planner : Planner) (lanes : Bool) (plan bytes : List ℕ) (saved : SavedPlan) (script : OutcomeMap) (refusal : ScriptError)
+        → reads_planning form ≡ true → HasObjectsOf plan planner → plan_of plan ≡ Ok saved → script_of saved bytes ≡ Ok script
+        → told_by_script planner.rules planner.planned planner.objects (Some bytes) ≡ Err refusal
+        → has_refusal_to_planned refusal (findings_in form lanes plan (Some bytes)) ≡ true }
 {}
 
 /// If a run refuses a plan, the same error is reported where the refusal points, whatever other

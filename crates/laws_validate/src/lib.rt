@@ -38,7 +38,7 @@ pub use against_runs::{
     findings_of_plans_are_refusals, findings_of_scripts_are_refusals,
     the_refusal_of_a_plan_is_reported, the_refusal_of_a_run_in_terraforms_form_is_reported,
     the_refusal_of_a_run_is_reported, the_refusal_of_a_run_is_reported_in_its_entry,
-    the_refusal_of_a_script_is_reported,
+    the_refusal_of_a_script_is_reported, the_refusal_of_planning_is_reported,
 };
 
 /// The path of each finding of a plan leads to a value of its tree. If a member is missing, the
@@ -69,14 +69,15 @@ pub fn warnings_report_what_no_run_reads()
         → Contains (given_findings lanes plan (Some script)) (warning_at (front ++ Other n ∷ [])) ↔ (is_known names text ≡ false) }
 {}
 
-/// The path of each finding of a script leads to its place, in either form.
+/// The path of each finding of a script leads to its place, in each form.
 pub fn findings_in_scripts_are_placed_in_each_form()
     ensures { (form : Form) (lanes : Bool) (plan script : List ℕ)
         → ArePlaced (tree_of script) (findings_in form lanes plan (Some script)) }
 {}
 
-/// The law of these warnings holds in either form. A run in Terraform's form also reads the members
-/// of `outputs` and of `diagnostics` at the top of a script.
+/// The law of these warnings holds in each form. A run in Terraform's form also reads the members of
+/// `outputs` and of `diagnostics` at the top of a script. A command that makes its plan also reads
+/// those of `planning`, with their failures.
 pub fn warnings_report_what_no_run_in_a_form_reads()
     ensures exactly { (form : Form) (lanes : Bool) (plan script : List ℕ) (tree : Data) (path : List Segment)
         → nat_lt max_bytes (length script) ≡ false → tree_of script ≡ Some tree

@@ -74,7 +74,7 @@ impl<'a> Planned<'a> {
 }
 
 /// Names the object that a change is of.
-fn object_of(change: &Change) -> ObjectName<'_>
+pub fn object_of(change: &Change) -> ObjectName<'_>
     ensures { name_view result ≡ (change.now.address, change.now.deposed) }
 {
     ObjectName {

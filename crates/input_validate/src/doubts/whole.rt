@@ -6,7 +6,7 @@ ghost use Rattle.std.specs.Prelude.{◌≡◌, [], IfOk, if◌then◌else◌, op
 ghost use Rattle.std.specs.Option.{option_copied};
 ghost use Rattle.serde_json.specs.View.{view};
 ghost use Rattle.apply_plan.specs.Plan.SavedPlan.{plan_of};
-ghost use Rattle.input_validate.specs.Doubts.{doubts, doubts_for, doubts_of, needless_skips, output_doubts, script_doubts, tree_within, unheeded_failures};
+ghost use Rattle.input_validate.specs.Doubts.{doubts, doubts_for, doubts_of, needless_skips, output_doubts, script_doubts, tree_within, unheeded_failures, valueless_in};
 ghost use Rattle.input_validate.specs.Findings.{reported};
 ghost use Rattle.input_validate.specs.InForm.{doubts_unless};
 
@@ -136,7 +136,7 @@ fn first_needless<'a>(
     Ok(needless_skips(alloc, planned, script)?.first())
 }
 
-/// Reports an output without a value. Only a run in Terraform's form reads outputs.
+/// Reports an output without a value. Only an apply in Terraform's form prints values of outputs.
 fn output_doubts(
     alloc: Global,
     form: Form,
@@ -146,11 +146,18 @@ fn output_doubts(
     ensures { IfOk result (λ f. f ≡ reported (output_doubts form plan.now (view script.now))) }
 {
     match form {
-        Form::Applystream => Ok(Findings::none(alloc)),
-        Form::Terraform => match tree_within(alloc, plan)? {
-            Some(plan) => valueless_output(alloc, &plan, script),
-            None => Ok(Findings::none(alloc)),
-        },
+        Form::Applystream | Form::TerraformPlan => Ok(Findings::none(alloc)),
+        Form::Terraform | Form::TerraformApply => valueless_in(alloc, plan, script),
+    }
+}
+
+/// Reports an output without a value, by the bytes of the plan.
+fn valueless_in(alloc: Global, plan: &[u8], script: &Value) -> Result<Findings, AllocError>
+    ensures { IfOk result (λ f. f ≡ reported (valueless_in plan.now (view script.now))) }
+{
+    match tree_within(alloc, plan)? {
+        Some(plan) => valueless_output(alloc, &plan, script),
+        None => Ok(Findings::none(alloc)),
     }
 }
 

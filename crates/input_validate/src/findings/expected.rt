@@ -3,9 +3,10 @@
 ghost use Rattle.std.specs.Prelude.{◌≡◌, is_some, option_map, Some};
 ghost use Rattle.serde_json.specs.View.{view};
 ghost use Rattle.apply_plan.specs.Plan.Element.{key_of};
-ghost use Rattle.input_validate.specs.Expectations.{is_format_version, is_met, is_mode, is_on_failure, is_severity, is_text_with_a_byte, may_be_absent, suits};
+ghost use Rattle.input_validate.specs.Expectations.{is_format_version, is_met, is_mode, is_on_failure, is_severity, is_text_with_a_byte, is_within_a_day, may_be_absent, suits};
 
 use apply_json_tree::members::is_text;
+use apply_plan::MAX_SECONDS;
 use serde_json::Value;
 
 /// What a value has to be, as far as its top level shows. "Or nothing" means that the member may be
@@ -46,12 +47,16 @@ pub enum Expected {
     Output,
     /// A plan.
     Plan,
+    /// An object with an `address`: what a script says of an object that is refreshed or read.
+    Planned,
     /// An object with a `type`: an output.
     PlanOutput,
     /// An object with a `provisioner` and `seconds`.
     Provisioner,
     /// A whole number of 64 bits. Another rule limits the seconds of a step to a day.
     Seconds,
+    /// A whole number from 0 to 86,400, or nothing.
+    SecondsOrAbsent,
     /// The severity of a failure: `error`, `warning`, or nothing.
     Severity,
     /// An object with `seconds`.
@@ -89,6 +94,7 @@ impl Expected {
                 | Expected::Key
                 | Expected::ObjectOrAbsent
                 | Expected::OnFailure
+                | Expected::SecondsOrAbsent
                 | Expected::Severity
                 | Expected::TextOrAbsent
                 | Expected::WholeOrAbsent
@@ -107,6 +113,7 @@ impl Expected {
             | Expected::Object
             | Expected::ObjectOrAbsent
             | Expected::Plan
+            | Expected::Planned
             | Expected::PlanOutput
             | Expected::Provisioner
             | Expected::Step => value.is_object(),
@@ -118,6 +125,7 @@ impl Expected {
             Expected::NotNull => true,
             Expected::OnFailure => is_on_failure(value),
             Expected::Seconds | Expected::WholeOrAbsent => value.as_u64().is_some(),
+            Expected::SecondsOrAbsent => is_within_a_day(value),
             Expected::NoteSeverity | Expected::Severity => is_severity(value),
             Expected::Text | Expected::TextOrAbsent => value.as_str().is_some(),
             Expected::Output | Expected::Wait => value.as_str().is_some() || value.is_object(),
@@ -160,6 +168,15 @@ fn is_severity(value: &Value) -> bool
     ensures { result ≡ is_severity (view value.now) }
 {
     is_text(value, "warning") || is_text(value, "error")
+}
+
+fn is_within_a_day(value: &Value) -> bool
+    ensures { result ≡ is_within_a_day (view value.now) }
+{
+    match value.as_u64() {
+        Some(seconds) => seconds <= u64::from(MAX_SECONDS),
+        None => false,
+    }
 }
 
 fn is_text_with_a_byte(value: &Value) -> bool

@@ -32,6 +32,10 @@ pub enum Problem {
     WithFailed,
     /// The member may not stand next to `skipped`.
     WithSkipped,
+    /// The member may not stand next to `gone`.
+    WithGone,
+    /// The member of an object that is refreshed or read may not stand next to `skipped`.
+    WithSkippedObject,
     /// The step takes longer than a day, its provisioners included.
     TooLong,
     /// The step has more than 8 provisioners.
@@ -61,6 +65,17 @@ pub enum Problem {
     AfterTheEnd(u64),
     /// The item comes before the item in front of it, which comes after this many seconds.
     OutOfOrder(u64),
+    /// The script has more than 9,999 objects that are refreshed or read.
+    TooManyPlanned,
+    /// The plan does not know the object, and no resource has such an address.
+    NoObject,
+    /// The member stands at a data source, and only an object that is refreshed may have it.
+    OnlyRefreshed,
+    /// A failure with the severity `warning` stands at an object that is refreshed, and only a data
+    /// source may have one.
+    OnlyReadWarns,
+    /// The entry with this number is about the same object.
+    PlannedBefore(usize),
     /// A run refuses the script for this plan.
     ForPlan(ScriptError),
     /// The step waits for others, and the run has no `--parallelism`.

@@ -6,7 +6,7 @@ ghost use Rattle.std.specs.Prelude.{◌≡◌, IfOk, length, option_map};
 ghost use Rattle.serde_json.specs.View.{items_view, view};
 ghost use Rattle.apply_json.specs.Tree.{list_of};
 ghost use Rattle.input_validate.specs.Findings.{reported};
-ghost use Rattle.input_validate.specs.Rules.{fault_of, faults_of, violation_finding, in_items, in_list, inside, items_at, mismatch, violation_findings};
+ghost use Rattle.input_validate.specs.Rules.{fault_of, faults_of, violation_finding, in_items, in_list, inside, is_set, items_at, mismatch, violation_findings};
 
 use crate::findings::expected::Expected;
 use crate::findings::list::{Findings, joined};
@@ -112,6 +112,16 @@ pub fn walk_list<'a, W: Walk<'a>>(
 {
     let itself = fault(alloc, value, rule);
     joined(itself, walk_items_at(alloc, walk, value, rule.name))
+}
+
+/// Returns whether a member is `true`.
+pub fn is_set(value: &Value, name: Name) -> bool
+    ensures { result ≡ is_set name (view value.now) }
+{
+    match member(value, name.text()) {
+        Some(flag) => flag.as_bool().unwrap_or(false),
+        None => false,
+    }
 }
 
 /// Returns the items of a member. There are none if the member is no array.

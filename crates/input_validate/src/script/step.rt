@@ -13,7 +13,7 @@ use crate::findings::name::Name;
 use crate::findings::problem::Problem;
 use crate::rules::ignored_members::walk_ignored;
 use crate::rules::members::{
-    count_at, faults, items_at, walk_inside, walk_items_at, walk_list, walk_violations,
+    count_at, faults, is_set, items_at, walk_inside, walk_items_at, walk_list, walk_violations,
 };
 use crate::rules::rule::MemberRule;
 use crate::rules::violation::Violation;
@@ -81,10 +81,7 @@ pub struct Step<'p, 'a> {
 pub fn is_skipped(value: &Value) -> bool
     ensures { result ≡ is_skipped (view value.now) }
 {
-    match member(value, Name::Skipped.text()) {
-        Some(flag) => flag.as_bool().unwrap_or(false),
-        None => false,
-    }
+    is_set(value, Name::Skipped)
 }
 
 /// Returns the rules for `seconds` and `id`. A skipped step has no `seconds`.

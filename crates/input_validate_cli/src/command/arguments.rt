@@ -6,7 +6,7 @@ ghost use Rattle.clap.specs.Faults.{is_simple_and_free};
 ghost use Rattle.clap.specs.Matches.{found_of};
 ghost use Rattle.clap.specs.Simple.{app_of, is_simple};
 ghost use Rattle.clap.specs.Walk.{first_of, rows_of, rule_of};
-ghost use Rattle.input_validate_cli.specs.CommandLine.{AreStated, IsCommand, TakesForms, form_of_word, form_rule, form_stated, parallelism_rule, script_rule};
+ghost use Rattle.input_validate_cli.specs.CommandLine.{AreStated, IsCommand, IsOneOf, command_rule, command_words, form_of_command, form_of_word, form_rule, form_stated, form_words, named_form, parallelism_rule, planned_form, refresh_rule, refresh_words, script_rule};
 
 use clap::{Arg, ArgMatches, Command, value_parser};
 use input_validate::Form;
@@ -15,6 +15,12 @@ use stream_tool::with_option;
 
 /// The values of `--form`.
 static FORMS: [&str; 2] = ["applystream", "terraform"];
+
+/// The values of `--command`.
+static COMMANDS: [&str; 4] = ["saved", "plan", "apply", "destroy"];
+
+/// The values of `--refresh`.
+static REFRESHES: [&str; 2] = ["true", "false"];
 
 const ABOUT: &str =
     "Lists every error of a plan and a script at once, each with its place in the syntax of jq.
@@ -39,7 +45,8 @@ pub struct Settings {
     pub script: Option<String>,
     /// Whether `--parallelism` is given.
     pub lanes: bool,
-    /// The form of the run's stream. Without `--form` it is this program's own.
+    /// The form of the run's stream. Without `--form` it is this program's own, and with `--command`
+    /// `plan`, `apply` or `destroy` it is Terraform's.
     pub form: Form,
 }
 
@@ -69,7 +76,9 @@ pub fn command<'a>(alloc: Global) -> Result<Command<'a>, AllocError>
     );
     let line = with_option(line, script(alloc));
     let line = with_option(line, parallelism(alloc));
-    with_option(line, form(alloc))
+    let line = with_option(line, form(alloc));
+    let line = with_option(line, command_option(alloc));
+    with_option(line, refresh_option(alloc))
 }
 
 fn script<'a>(alloc: Global) -> Arg<'a>
@@ -94,15 +103,38 @@ fn parallelism<'a>(alloc: Global) -> Arg<'a>
 }
 
 fn form<'a>(alloc: Global) -> Arg<'a>
-    ensures { (forms : _) × TakesForms forms × (rule_of result ≡ form_rule forms) × (result.global ≡ false) }
+    ensures { (forms : _) × IsOneOf form_words forms × (rule_of result ≡ form_rule forms) × (result.global ≡ false) }
 {
     Arg::new(alloc, "form")
         .long("form")
         .value_name("FORM")
         .value_parser(FORMS.as_slice())
-        .default_value("applystream")
         .help(
-            "Validate for a run with this form: terraform also reads `outputs` and `diagnostics` at the top of the script",
+            "Validate for a run with this form: terraform also reads `outputs` and `diagnostics` at the top of the script. Without it the form is applystream",
+        )
+}
+
+fn command_option<'a>(alloc: Global) -> Arg<'a>
+    ensures { (commands : _) × IsOneOf command_words commands × (rule_of result ≡ command_rule commands) × (result.global ≡ false) }
+{
+    Arg::new(alloc, "command")
+        .long("command")
+        .value_name("COMMAND")
+        .value_parser(COMMANDS.as_slice())
+        .help(
+            "Validate for a run with this command: plan, apply and destroy also read `planning` at the top of the script, and imply --form terraform. Without it the command is saved",
+        )
+}
+
+fn refresh_option<'a>(alloc: Global) -> Arg<'a>
+    ensures { (refreshes : _) × IsOneOf refresh_words refreshes × (rule_of result ≡ refresh_rule refreshes) × (result.global ≡ false) }
+{
+    Arg::new(alloc, "refresh")
+        .long("refresh")
+        .value_name("WHETHER")
+        .value_parser(REFRESHES.as_slice())
+        .help(
+            "Validate for a run with this option, which changes no finding. Only with --command plan, apply or destroy",
         )
 }
 
@@ -138,13 +170,45 @@ fn has_parallelism(matches: &ArgMatches<'_>) -> bool
     }
 }
 
-/// Returns the form. Without `--form` it is this program's own.
+/// Returns the form: that of the command, else the one that `--form` names.
 fn form_of(matches: &ArgMatches<'_>) -> Form
     ensures { result ≡ form_stated (rows_of (found_of matches.now)) }
+{
+    match planned_form(matches) {
+        Some(form) => form,
+        None => named_form(matches),
+    }
+}
+
+/// Returns the form that `--form` names. Without it, the form is this program's own.
+fn named_form(matches: &ArgMatches<'_>) -> Form
+    ensures { result ≡ named_form (rows_of (found_of matches.now)) }
 {
     match matches.get_str("form") {
         Some(word) => form_named(word),
         None => Form::Applystream,
+    }
+}
+
+/// Returns the form of a command that makes its plan. `None` for an apply of a saved plan.
+pub(crate) fn planned_form(matches: &ArgMatches<'_>) -> Option<Form>
+    ensures { result ≡ planned_form (rows_of (found_of matches.now)) }
+{
+    match matches.get_str("command") {
+        Some(word) => form_of_command(word),
+        None => None,
+    }
+}
+
+/// Returns the form of the command with this name. The parser accepts only four names.
+fn form_of_command(word: &str) -> Option<Form>
+    ensures { result ≡ form_of_command word.now }
+{
+    match word {
+        "plan" => Some(Form::TerraformPlan),
+        "apply" => Some(Form::TerraformApply),
+        "destroy" => Some(Form::TerraformApply),
+        _ => None,
     }
 }
 

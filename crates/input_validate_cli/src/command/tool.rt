@@ -5,6 +5,7 @@ ghost use Rattle.input_validate_cli.specs.CommandLine.{arguments};
 ghost use Rattle.input_validate_cli.specs.Validated.{HasValidated, IsQuiet};
 
 use crate::command::arguments::{Settings, command, settings_of};
+use crate::command::conflicts::conflict;
 use crate::command::inputs::read_inputs;
 use crate::command::refusals::refuse_input;
 use crate::command::validate_fault::ValidateFault;
@@ -45,8 +46,8 @@ impl Tool for Validate {
         command(alloc)
     }
 
-    fn conflict(_alloc: Global, _words: &[String], _matches: &ArgMatches<'_>) -> Option<Usage> {
-        None
+    fn conflict(alloc: Global, _words: &[String], matches: &ArgMatches<'_>) -> Option<Usage> {
+        conflict(alloc, matches)
     }
 
     fn settings_of(alloc: Global, matches: &ArgMatches<'_>) -> Result<Settings, AllocError> {

@@ -18,7 +18,7 @@ use crate::texts::value::{shortened_json, value_text};
 use apply_plan::{
     MAX_BYTES, MAX_CHANGES, MAX_OUTPUTS, MAX_PROVISIONERS, MAX_SECONDS, MAX_WAITS, ScriptError,
 };
-use input_validate::{Finding, Name, Problem};
+use input_validate::{Finding, MAX_PLANNED, Name, Problem};
 use serde_json::Value;
 use std::alloc::{AllocError, Global};
 
@@ -193,6 +193,18 @@ fn what_text(
                 "stands beside `skipped`, and a step that is skipped has none",
             )
         }
+        Problem::WithGone => {
+            String::from_str(
+                alloc,
+                "stands beside `gone`, and an object that is gone has none",
+            )
+        }
+        Problem::WithSkippedObject => {
+            String::from_str(
+                alloc,
+                "stands beside `skipped`, and an object that is skipped has none",
+            )
+        }
         Problem::TooLong => too_long_text(alloc, stated),
         Problem::TooManyProvisioners => {
             let (count, most) = (Count(count_of(stated)), Count(MAX_PROVISIONERS as u64));
@@ -211,6 +223,30 @@ fn what_text(
         Problem::OutOfOrder(before) => {
             let shown = shown_or_empty(alloc, stated)?;
             format!(in alloc; "is {shown}, and has to be {before} at least, as the item before it")
+        }
+        Problem::TooManyPlanned => {
+            let (count, most) = (Count(count_of(stated)), Count(MAX_PLANNED as u64));
+            format!(in alloc; "has {count} objects, {most} at most")
+        }
+        Problem::NoObject => {
+            let shown = json_or_empty(alloc, stated)?;
+            format!(in alloc; "is {shown}, which the plan does not know and no resource can have")
+        }
+        Problem::OnlyRefreshed => {
+            String::from_str(
+                alloc,
+                "stands at a data source, and only an object that is refreshed may have it",
+            )
+        }
+        Problem::OnlyReadWarns => {
+            String::from_str(
+                alloc,
+                "only warns at an object that is refreshed, and only that of a data source may",
+            )
+        }
+        Problem::PlannedBefore(number) => {
+            let address = address_text(alloc, stated)?;
+            format!(in alloc; "is about the object of .planning[{number}] again: {address}")
         }
         Problem::NotRead => not_read_text(alloc, tree, finding),
         Problem::ForPlan(refusal) => String::from_str(alloc, for_plan_text(refusal)),

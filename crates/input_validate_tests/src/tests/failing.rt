@@ -103,3 +103,15 @@ fn inputs_that_cannot_be_read(rt: HostRuntime) {
     let unknown = refused(&rt, &rt, rt.alloc(), &["--scripts"], "error: ");
     assert!(rt; unknown.answer.is_none());
 }
+
+#[test]
+fn options_that_do_not_go_together(rt: HostRuntime) {
+    let words = ["--command", "plan", "--form", "applystream"];
+    let stated = "applystream: --command takes --form terraform\n";
+    let form = refused(&rt, &rt, rt.alloc(), &words, stated);
+    assert!(rt; form.answer.is_none());
+    let words = ["--refresh", "true", "--command", "saved"];
+    let stated = "applystream: --refresh takes --command plan, apply or destroy\n";
+    let refresh = refused(&rt, &rt, rt.alloc(), &words, stated);
+    assert!(rt; refresh.answer.is_none());
+}

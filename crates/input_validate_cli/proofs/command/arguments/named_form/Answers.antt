@@ -4,7 +4,7 @@ use Rattle.clap.specs.Matches.{found_of}
 use Rattle.clap.proofs.WalkLemmas.{first_value-rows}
 use Rattle.input_validate.specs.declared.form.Form.TheVariants.{Applystream}
 use Rattle.input_validate_cli.specs.CommandLine.{form_of_word}
-use Rattle.input_validate_cli.proofs.command.arguments.form_of.Goals as goal
+use Rattle.input_validate_cli.proofs.command.arguments.named_form.Goals as goal
 
 pub returns-in-Some : goal.returns-in-Some
 returns-in-Some c =

@@ -1,0 +1,4 @@
+pub mod Alike
+pub mod Endings
+pub mod Plannings
+pub mod Streams
