@@ -1,5 +1,5 @@
--- The events of a planning, object by object: each object that is told starts once, and ends once or
--- fails.
+-- The events of a planning, object by object: each object that is told starts once, and ends once
+-- or fails.
 use Rattle.std.proofs.Common.{◌≡◌, ℕ, ◌+◌, ◌<◌, ◌≤◌, ◌^◌, ◌==◌, List, [], ◌∷◌, ◌++◌, append-nil, length, map, filter, Bool, true, false, cond, Option, Some, None, refl, sym, ap, ◌∙◌, subst, ⊎_elim, ◌⊎◌, inl, inr, is_some, arith, nat_lt, nat_le, slice_get, eq-eqb}
 use Rattle.std.specs.Prelude.{◌&&◌, option_map}
 use Rattle.std.specs.List.{AllByRecursion}

@@ -1,4 +1,5 @@
--- The end of a stream of a plan, or of an apply whose planning failed: diagnostics, and nothing else.
+-- The end of a stream of a plan, or of an apply whose planning failed: diagnostics, and nothing
+-- else.
 use Rattle.std.proofs.Common.{◌≡◌, ℕ, ◌+◌, List, [], ◌∷◌, length, Bool, true, false, cond, Option, Some, None, Result, Ok, refl, sym, ap, ◌∙◌, subst, ⊎_elim, ◌⊎◌, is_some, count_by, arith, nat_lt, lt-ltb}
 use Rattle.std.specs.Prelude.{◌&&◌, not}
 use Rattle.std.specs.List.{list_any}

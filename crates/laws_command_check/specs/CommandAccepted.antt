@@ -22,16 +22,16 @@ use Rattle.laws_check.specs.ReadBackInForm.{diagnostic_read_back, end_read_back,
 use Rattle.laws_check.specs.Unstarted.{EachStarts, NeverStarts}
 use Rattle.laws_command_check.specs.HeadReadBack.{head_read_back, totals_of_plan}
 
--- all messages of the stream: those before the apply, those of events and of diagnostics of no step,
--- and those of the end, where the plan is applied
+-- all messages of the stream: those before the apply, those of events and of diagnostics of no
+-- step, and those of the end, where the plan is applied
 abbrev pub command_stream_read_back : HeadInputs → List HeadLine → (applies : Bool) → SavedPlan → OutcomeMap → StreamExtras → Operation → (taken : List Event) → List Message
 command_stream_read_back inputs lines applies plan script extras operation taken =
     head_read_back inputs lines
     ++ (flat_map (event_read_back_in_form plan script) (as_written taken)
     ++ (map diagnostic_read_back extras.notes ++ (if applies then end_read_back extras operation (totals_of plan taken) else [])))
 
--- the answer about a whole stream. Of a plan it has the totals of the plan, of an apply those of its
--- steps.
+-- the answer about a whole stream. Of a plan it has the totals of the plan, of an apply those of
+-- its steps.
 abbrev pub whole_of_command : (is_plan : Bool) → (planned counted : Totals) → (errors : Bool) → (lines : ℕ) → Whole
 whole_of_command is_plan planned counted errors lines = record {
   totals = if is_plan then planned else counted;
@@ -41,8 +41,8 @@ whole_of_command is_plan planned counted errors lines = record {
   passed = None;
 }
 
--- The stream of a plan, or of an apply whose planning failed, is whole: with `--plan` it is a plan's
--- where the plan is told. Without it, it needs an error.
+-- The stream of a plan, or of an apply whose planning failed, is whole: with `--plan` it is a
+-- plan's where the plan is told. Without it, it needs an error.
 abbrev pub IsPlanAnswered : (plans told errors : Bool) → Totals → (lines : ℕ) → (E : Type 0) → Result Whole E → Type 0
 IsPlanAnswered plans told errors planned lines E answer =
     (plans ≡ true) ⊎ (errors ≡ true) → answer ≡ Ok (whole_of_command (plans && told) planned no_totals errors lines)
@@ -59,7 +59,8 @@ abbrev pub IsCommandAnswered : (applies : Bool) → SavedPlan → List Event →
 IsCommandAnswered true plan events plans told errors planned counted lines E left_out answer = IsApplyAnswered plan events plans errors planned counted lines E left_out answer
 IsCommandAnswered false plan events plans told errors planned counted lines E left_out answer = IsPlanAnswered plans told errors planned lines E answer
 
--- The messages of the stream are accepted up to its end, with that answer. `told`: the plan is told.
+-- The messages of the stream are accepted up to its end, with that answer. `told`: the plan is
+-- told.
 pub record IsCommandTaken (plans told : Bool) (inputs : HeadInputs) (lines : List HeadLine) (applies : Bool) (plan : SavedPlan) (script : OutcomeMap) (extras : StreamExtras) (operation : Operation) (events : List Event) : Type 0 where
   -- the messages, the latest first
   pub messages : List Message

@@ -118,9 +118,9 @@ pub fn every_message_of_a_command_is_accepted()
 /// create of the plan never starts, the verdict is the fault `planned` of the last line.
 ///
 /// The verdict has the totals of the plan, or of the apply, an error if and only if the report has
-/// one, and the number of lines. The stream of a plan without an error is whole with `--plan`. There
-/// are at most as many hooks as a registry holds, and no line is longer than 64 MiB. The plan only
-/// deletes deposed objects, and few objects that are told while it is made share an address.
+/// one, and the number of lines. The stream of a plan without an error is whole with `--plan`.
+/// There are at most as many hooks as a registry holds, and no line is longer than 64 MiB. The plan
+/// only deletes deposed objects, and few objects that are told while it is made share an address.
 /// `bytes`: the sink knows its bytes and had none before; `check` accepts these bytes.
 pub fn every_stream_of_a_command_is_accepted()
     ensures stream { (plans : Bool) (schedule : Schedule) (command : Command) (refresh : Bool) (lanes : ℕ) (given : Inputs)
